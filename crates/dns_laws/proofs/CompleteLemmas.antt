@@ -7,14 +7,15 @@ use Rattle.std.proofs.Math.Logic.{⊎_elim}
 use Rattle.std.proofs.Math.Nat.{min-le_right}
 use Rattle.std.proofs.lemmas.Bool.{and_parts, or_cases, or_from, or_parts, not-true, not_from_false, true≢false}
 use Rattle.std.proofs.lemmas.Option.{same_Some, slice_get_within}
+use Rattle.dns_model.specs.declared.proof.Proof.TheVariants.{Secure}
 use Rattle.dns_model.specs.declared.section.Section.TheVariants.{Answer}
 use Rattle.dns_model.specs.declared.trail.AskRef.{AskRef}
 use Rattle.dns_model.specs.Names.{name_eq}
 use Rattle.dns_model.specs.Types.{class_in, type_soa, type_ds, type_opt, type_rrsig, type_nsec, type_dnskey, type_nsec3}
 use Rattle.dns_model.specs.Records.{Rr, RrSet, Question, question_eq}
 use Rattle.dns_model.specs.Chains.{Judge}
-use Rattle.dns_model.specs.SoundAnswers.{Told}
-use Rattle.dns_model.specs.Trails.{AskedValue}
+use Rattle.dns_model.specs.SoundAnswers.{Told, in_section}
+use Rattle.dns_model.specs.Trails.{AskedValue, JudgedSetValue}
 use Rattle.dns_model.proofs.SetLemmas.{number_same, number_back}
 use Rattle.dns_model.proofs.QuestionLemmas.{same_parts, question_refl}
 use Rattle.dns_rules.specs.Asking.{Limits, effective, is_judged_at}
@@ -24,11 +25,12 @@ use Rattle.dns_rules.specs.Outcome.{foreign_record}
 use Rattle.dns_rules.specs.Marking.{marked_section}
 use Rattle.dns_rules.specs.Marks.{key_question}
 use Rattle.dns_rules.specs.Delegations.{ds_question}
-use Rattle.dns_rules.specs.Derivation.{judged_sets, finished_answer, if_answered, top_step, in_send_order, derivation}
+use Rattle.dns_rules.specs.CacheEntries.{EntryValue}
+use Rattle.dns_rules.specs.Derivation.{is_by_rules, judged_sets, finished_answer, if_answered, top_step, in_send_order, derivation}
 use Rattle.dns_rules.specs.DerivationParts.{step_context_of, steps_at}
 use Rattle.dns_rules.proofs.DerivedLemmas.{derivation_parts}
 use Rattle.dns_rules.proofs.SentLemmas.{numbered}
-use Rattle.dns_laws.specs.Complete.{Upstream, HeardAlong, AreAsked, shows_secure, ProvesQuery}
+use Rattle.dns_laws.specs.Complete.{Upstream, HeardAlong, AreAsked, are_secure, shows_secure, ProvesQuery}
 use Rattle.dns_laws.specs.Valid.{is_plain_query, straight_set, is_anchored_set, is_proved_by_keys, is_proved_by_ds, is_proved_by, leads_to_anchor, IsValidSession}
 use Rattle.dns_laws.proofs.TestLemmas.{passing}
 use Rattle.dns_laws.proofs.StraightLemmas.{is_other, IsOneSet, answered, IsSigned, IsUnsigned, signed_or_anchored}
@@ -38,7 +40,7 @@ use Rattle.dns_laws.proofs.KeyEntryLemmas.{IsOneOrNone, anchored_entry, ds_proof
 use Rattle.dns_laws.proofs.OrderPathLemmas.{none_met, none_ends}
 use Rattle.dns_laws.proofs.RankLemmas.{rank, name_lengths, same_rank, keys_lower, ds_lower}
 use Rattle.dns_laws.proofs.SecureRecordLemmas.{secure_records}
-use Rattle.dns_laws.proofs.PathLemmas.{Walk, IsAt, IsHere, here, rules, IsShown, shown_by, IsAsked, IsLower, asked_next}
+use Rattle.dns_laws.proofs.PathLemmas.{Walk, IsAt, IsHere, here, HasEntry, ByRules, Served, rules, IsShown, shown_by, IsAsked, IsLower, asked_next}
 
 -- ---- one set
 
@@ -90,16 +92,21 @@ ds_is_lower q next question ds same lower =
 
 -- ---- the end of the list
 
+-- the entry of the step's one set is by the rules
+abbrev IsByRules : {R : Type 0} → Walk R → ℕ → AskedValue → JudgedSetValue → RrSet → Type 0
+IsByRules w n step entry set = is_by_rules (step_context_of w.judge w.limits w.cached (take n w.trail) step) (in_section Answer set) entry ≡ true
+
 shown_last : {R : Type 0} (w : Walk R) (q : Question) (r : R) (n : ℕ) (step : AskedValue) (met more : List ℕ) (set : RrSet)
-    → IsAt w q [] r n step met more → straight_set w.judge w.tells q ≡ Some set → IsHere w q r n step met more set
+    → IsAt w q [] r n step met more → straight_set w.judge w.tells q ≡ Some set
+    → (h : IsHere w q r n step met more set) → IsByRules w n step h.straight.entry set
     → (set.rtype == type_dnskey) ≡ true → is_anchored_set w.judge set ≡ true → IsShown w q [] n step more
-shown_last w q r n step met more set at is h keys anchored =
-    let g = step_context_of w.judge w.limits [] (take n w.trail) step in
+shown_last w q r n step met more set at is h by_rules keys anchored =
+    let g = step_context_of w.judge w.limits w.cached (take n w.trail) step in
     let one = one_or_none w.judge q set (signed_or_anchored w.judge q h.told set h.one) in
-    let entry = anchored_entry g set h.straight.entry one keys anchored (rules w q r n step met more set h) in
+    let entry = anchored_entry g set h.straight.entry one keys anchored by_rules in
     let none = h.asks ∙ entry.none in
     let more_none = none_met w.trail n step met w.order h.on none in
-    shown_by w q [] r n step met more set at is h entry.mark (none_ends w.trail n (n + 1) step h.ends none)
+    shown_by w q [] [] [] r n step met more set at is h entry.mark refl (none_ends w.trail n (n + 1) step h.ends none)
     (subst (λ ns. AreAsked [] (numbered w.trail ns)) (sym more_none) tt)
 
 -- ---- the list goes on
@@ -135,10 +142,10 @@ next_set w next rest r n step met more ask above asked shown found =
 
 shown_signed : {R : Type 0} (w : Walk R) (q next : Question) (rest : List Question) (r : R) (n : ℕ) (step : AskedValue) (met more : List ℕ) (set above : RrSet)
     → (at : IsAt w q (next ∷ rest) r n step met more) → straight_set w.judge w.tells q ≡ Some set → straight_set w.judge w.tells next ≡ Some above
-    → (h : IsHere w q r n step met more set) → (set.rtype == type_dnskey) ≡ false
+    → (h : IsHere w q r n step met more set) → IsByRules w n step h.straight.entry set → (set.rtype == type_dnskey) ≡ false
     → list_any (is_proved_by_keys w.judge set next above) set.signatures ≡ true → ShowsNext w next rest → IsShown w q (next ∷ rest) n step more
-shown_signed w q next rest r n step met more set above at is found h other proved later =
-    let g = step_context_of w.judge w.limits [] (take n w.trail) step in
+shown_signed w q next rest r n step met more set above at is found h by_rules other proved later =
+    let g = step_context_of w.judge w.limits w.cached (take n w.trail) step in
     let entry = h.straight.entry in
     let signed = has_signature w.judge q set (signed_or_anchored w.judge q h.told set h.one) other in
     let ask = keys_ask w.judge set next above signed.signature (only_one (is_proved_by_keys w.judge set next above) set.signatures signed.signature signed.alone proved) in
@@ -146,7 +153,7 @@ shown_signed w q next rest r n step met more set above at is found h other prove
     let question = key_question set.class signer in
     let rtype : set.rtype ≡ step.query.rtype = h.one.rtype ∙ (same_parts q step.query at.same).rtype in
     let itself = number_back type_dnskey step.query.rtype ∙ ap (λ t. t == type_dnskey) (sym rtype) ∙ other in
-    let by = one_ask g q next set above entry signed ask other itself (rules w q r n step met more set h) in
+    let by = one_ask g q next set above entry signed ask other itself by_rules in
     let lower = keys_lower set.rtype set.class set.owner signer q ask.fits other (sym h.one.rtype) (name_lengths q.owner set.owner h.one.owner) in
     let asked = asked_next w q question next rest r n step met more set by.ask at h by.alone by.asks ask.next_is (keys_are_lower q next question refl ask.next_is lower) in
     let shown = later (w.up.left r step.query) asked.m asked.asked (met ++ n ∷ []) h.on.more asked.at in
@@ -154,21 +161,21 @@ shown_signed w q next rest r n step met more set above at is found h other prove
     let plain : needs_no_denial set.rtype ≡ true = ap needs_no_denial h.one.rtype ∙ at.plain in
     let mark = signed_mark g next set above signed.signature question entry keys.judged by ask keys.owner keys.rtype keys.class
     plain keys.answer keys.secure in
-    shown_by w q (next ∷ rest) r n step met more set at is h mark (omega (arith, asked.before, shown.number)) shown.asked
+    shown_by w q (next ∷ rest) (next ∷ shown.front) shown.unused r n step met more set at is h mark (ap (λ t. next ∷ t) shown.whole) (omega (arith, asked.before, shown.number)) shown.asked
 
 shown_keys : {R : Type 0} (w : Walk R) (q next : Question) (rest : List Question) (r : R) (n : ℕ) (step : AskedValue) (met more : List ℕ) (set above : RrSet)
     → (at : IsAt w q (next ∷ rest) r n step met more) → straight_set w.judge w.tells q ≡ Some set → straight_set w.judge w.tells next ≡ Some above
-    → (h : IsHere w q r n step met more set) → (set.rtype == type_dnskey) ≡ true
+    → (h : IsHere w q r n step met more set) → IsByRules w n step h.straight.entry set → (set.rtype == type_dnskey) ≡ true
     → (not (is_anchored_set w.judge set) && is_proved_by_ds w.judge set next above) ≡ true → ShowsNext w next rest → IsShown w q (next ∷ rest) n step more
-shown_keys w q next rest r n step met more set above at is found h keys proved later =
-    let g = step_context_of w.judge w.limits [] (take n w.trail) step in
+shown_keys w q next rest r n step met more set above at is found h by_rules keys proved later =
+    let g = step_context_of w.judge w.limits w.cached (take n w.trail) step in
     let entry = h.straight.entry in
     let one = one_or_none w.judge q set (signed_or_anchored w.judge q h.told set h.one) in
     let parts = and_parts (not (is_anchored_set w.judge set)) (is_proved_by_ds w.judge set next above) proved in
     let anchored = not-true (is_anchored_set w.judge set) parts.0 in
     let proof = ds_proof w.judge set next above parts.1 in
     let question = ds_question set.class set.owner in
-    let by = ds_asked g set entry one keys anchored proof.root (rules w q r n step met more set h) in
+    let by = ds_asked g set entry one keys anchored proof.root by_rules in
     let rtype : set.rtype ≡ type_dnskey = number_same set.rtype type_dnskey keys in
     let q_rtype : q.rtype ≡ type_dnskey = sym h.one.rtype ∙ rtype in
     let lower = ds_lower set.class set.owner q (ap (λ t. t == type_dnskey) q_rtype) (ap (λ t. t == type_ds) q_rtype) (name_lengths q.owner set.owner h.one.owner) in
@@ -176,18 +183,48 @@ shown_keys w q next rest r n step met more set above at is found h keys proved l
     let shown = later (w.up.left r step.query) asked.m asked.asked (met ++ n ∷ []) h.on.more asked.at in
     let ds = next_set w next rest r n step met h.on.more by.ask above asked shown found in
     let mark = ds_mark g next set above entry ds.judged one by anchored proof ds.owner ds.rtype ds.class ds.answer ds.secure in
-    shown_by w q (next ∷ rest) r n step met more set at is h mark (omega (arith, asked.before, shown.number)) shown.asked
+    shown_by w q (next ∷ rest) (next ∷ shown.front) shown.unused r n step met more set at is h mark (ap (λ t. next ∷ t) shown.whole) (omega (arith, asked.before, shown.number)) shown.asked
 
 shown_next : {R : Type 0} (w : Walk R) (q next : Question) (rest : List Question) (r : R) (n : ℕ) (step : AskedValue) (met more : List ℕ) (set above : RrSet) (b : Bool)
     → (at : IsAt w q (next ∷ rest) r n step met more) → straight_set w.judge w.tells q ≡ Some set → straight_set w.judge w.tells next ≡ Some above
-    → (h : IsHere w q r n step met more set) → (set.rtype == type_dnskey) ≡ b
+    → (h : IsHere w q r n step met more set) → IsByRules w n step h.straight.entry set → (set.rtype == type_dnskey) ≡ b
     → (if b then not (is_anchored_set w.judge set) && is_proved_by_ds w.judge set next above
     else list_any (is_proved_by_keys w.judge set next above) set.signatures) ≡ true
     → ShowsNext w next rest → IsShown w q (next ∷ rest) n step more
-shown_next w q next rest r n step met more set above true at is found h keys proved later =
-    shown_keys w q next rest r n step met more set above at is found h keys proved later
-shown_next w q next rest r n step met more set above false at is found h keys proved later =
-    shown_signed w q next rest r n step met more set above at is found h keys proved later
+shown_next w q next rest r n step met more set above true at is found h by_rules keys proved later =
+    shown_keys w q next rest r n step met more set above at is found h by_rules keys proved later
+shown_next w q next rest r n step met more set above false at is found h by_rules keys proved later =
+    shown_signed w q next rest r n step met more set above at is found h by_rules keys proved later
+
+-- ---- the entry was kept, and ends the list
+
+shown_served : {R : Type 0} (w : Walk R) (q : Question) (rest : List Question) (r : R) (n : ℕ) (step : AskedValue) (met more : List ℕ) (set : RrSet)
+    → IsAt w q rest r n step met more → straight_set w.judge w.tells q ≡ Some set → (h : IsHere w q r n step met more set)
+    → h.straight.entry.asked ≡ [] → h.straight.entry.mark ≡ Secure → IsShown w q rest n step more
+shown_served w q rest r n step met more set at is h asked mark =
+    let none = h.asks ∙ asked in
+    let more_none = none_met w.trail n step met w.order h.on none in
+    shown_by w q rest [] rest r n step met more set at is h mark refl (none_ends w.trail n (n + 1) step h.ends none)
+    (subst (λ ns. AreAsked [] (numbered w.trail ns)) (sym more_none) tt)
+
+last_by : {R : Type 0} (w : Walk R) (q : Question) (r : R) (n : ℕ) (step : AskedValue) (met more : List ℕ) (set : RrSet)
+    → IsAt w q [] r n step met more → straight_set w.judge w.tells q ≡ Some set → (h : IsHere w q r n step met more set)
+    → HasEntry (step_context_of w.judge w.limits w.cached (take n w.trail) step) (in_section Answer set) h.straight.entry
+    → (set.rtype == type_dnskey) ≡ true → is_anchored_set w.judge set ≡ true → IsShown w q [] n step more
+last_by w q r n step met more set at is h (ByRules by_rules) keys anchored = shown_last w q r n step met more set at is h by_rules keys anchored
+last_by w q r n step met more set at is h (Served asked mark) keys anchored = shown_served w q [] r n step met more set at is h asked mark
+
+next_by : {R : Type 0} (w : Walk R) (q next : Question) (rest : List Question) (r : R) (n : ℕ) (step : AskedValue) (met more : List ℕ) (set above : RrSet)
+    → (at : IsAt w q (next ∷ rest) r n step met more) → straight_set w.judge w.tells q ≡ Some set → straight_set w.judge w.tells next ≡ Some above
+    → (h : IsHere w q r n step met more set)
+    → HasEntry (step_context_of w.judge w.limits w.cached (take n w.trail) step) (in_section Answer set) h.straight.entry
+    → (if set.rtype == type_dnskey then not (is_anchored_set w.judge set) && is_proved_by_ds w.judge set next above
+    else list_any (is_proved_by_keys w.judge set next above) set.signatures) ≡ true
+    → ShowsNext w next rest → IsShown w q (next ∷ rest) n step more
+next_by w q next rest r n step met more set above at is found h (ByRules by_rules) proved later =
+    shown_next w q next rest r n step met more set above (set.rtype == type_dnskey) at is found h by_rules refl proved later
+next_by w q next rest r n step met more set above at is found h (Served asked mark) proved later =
+    shown_served w q (next ∷ rest) r n step met more set at is h asked mark
 
 pub shown : {R : Type 0} (w : Walk R) (q : Question) (rest : List Question) (r : R) (n : ℕ) (step : AskedValue) (met more : List ℕ)
     → leads_to_anchor w.judge w.tells q rest ≡ true → IsAt w q rest r n step met more → IsShown w q rest n step more
@@ -195,14 +232,15 @@ unfolding leads_to_anchor
 shown w q [] r n step met more leads at =
     let set = passing (λ s. (s.rtype == type_dnskey) && is_anchored_set w.judge s) (straight_set w.judge w.tells q) leads in
     let parts = and_parts (set.value.rtype == type_dnskey) (is_anchored_set w.judge set.value) set.passes in
-    shown_last w q r n step met more set.value at set.found (here w q [] r n step met more set.value at set.found) parts.0 parts.1
+    let h = here w q [] r n step met more set.value at set.found in
+    last_by w q r n step met more set.value at set.found h (rules w q r n step met more set.value h) parts.0 parts.1
 shown w q (next ∷ rest) r n step met more leads at =
     let test = λ (s : RrSet). option_map_or (is_proved_by w.judge s next) (straight_set w.judge w.tells next) false in
     let parts = and_parts (option_map_or test (straight_set w.judge w.tells q) false) (leads_to_anchor w.judge w.tells next rest) leads in
     let set = passing test (straight_set w.judge w.tells q) parts.0 in
     let above = passing (is_proved_by w.judge set.value next) (straight_set w.judge w.tells next) set.passes in
-    shown_next w q next rest r n step met more set.value above.value (set.value.rtype == type_dnskey) at set.found above.found
-    (here w q (next ∷ rest) r n step met more set.value at set.found) refl above.passes
+    let h = here w q (next ∷ rest) r n step met more set.value at set.found in
+    next_by w q next rest r n step met more set.value above.value at set.found above.found h (rules w q r n step met more set.value h) above.passes
     (λ r2 n2 step2 met2 more2 at2. shown w next rest r2 n2 step2 met2 more2 parts.1 at2)
 
 -- ---- the law
@@ -235,11 +273,11 @@ records_by w q rest n step more other is now =
     ∙ secure_records w.judge q is.told is.set is.judged now other is.one is.secure
 
 -- a derivation whose last step asks a query, and whose steps heard a session that is valid for it, proves it
-pub valid_session_is_proved : {R : Type 0} (up : Upstream R) (r : R) (j : Judge) (limits : Limits) (q : Question) (trail : List AskedValue) (top : AskedValue)
-    → derivation j limits [] trail ≡ true → top_step trail ≡ Some top → question_eq q top.query ≡ true → HeardAlong up r (in_send_order trail)
+pub valid_session_is_proved : {R : Type 0} (up : Upstream R) (r : R) (j : Judge) (limits : Limits) (cached : List EntryValue) (q : Question) (trail : List AskedValue) (top : AskedValue)
+    → derivation j limits cached trail ≡ true → are_secure cached ≡ true → top_step trail ≡ Some top → question_eq q top.query ≡ true → HeardAlong up r (in_send_order trail)
     → (valid : IsValidSession j (up.tells r) limits.depth q) → ProvesQuery j (up.tells r) q valid.queries trail
-valid_session_is_proved {R = R} up r j limits q trail top derived last same heard valid =
-    let g = derivation_parts j limits [] trail derived in
+valid_session_is_proved {R = R} up r j limits cached q trail top derived secure last same heard valid =
+    let g = derivation_parts j limits cached trail derived in
     let top_is = same_top trail g.top.step top g.top.found last in
     let depth_is : top.depth ≡ 0 = ap (λ s. s.depth) (sym top_is) ∙ g.top.top in
     let within = slice_get_within trail (length trail - 1) top last in
@@ -250,10 +288,12 @@ valid_session_is_proved {R = R} up r j limits q trail top derived last same hear
       up = up;
       judge = j;
       limits = effective limits;
+      cached = cached;
       trail = trail;
       order = g.sent.order;
       tells = up.tells r;
       hold = g.hold;
+      secure = secure;
     } in
     let sent : in_send_order trail ≡ numbered trail g.sent.order = ap (steps_at trail) g.sent.found in
     let at : IsAt w q valid.queries r (length trail - 1) top [] g.sent.order = record {
@@ -288,7 +328,10 @@ valid_session_is_proved {R = R} up r j limits q trail top derived last same hear
       secure = is.secure.mark;
       ending = is.ending;
       records = records_by w q valid.queries (length trail - 1) top g.sent.order types.other is;
-      asked = subst (AreAsked (q ∷ valid.queries)) (sym sent) is.asked;
+      front = is.front;
+      unused = is.unused;
+      whole = is.whole;
+      asked = subst (AreAsked (q ∷ is.front)) (sym sent) is.asked;
     }
 
 -- ---- the reply to the query

@@ -2,12 +2,13 @@
 use Rattle.std.proofs.Common.{◌≡◌, ℕ, ◌+◌, ◌≤◌, ◌<◌, Bool, true, false, ◌==◌, List, [], ◌∷◌, ◌++◌, length, take, drop, Option, None, Some, slice_get, nat_le, append-nil, refl, sym, ap, ◌∙◌, subst, arith}
 use Rattle.std.specs.Prelude.{◌&&◌}
 use Rattle.std.specs.Option.{option_map_or}
-use Rattle.std.specs.List.{flat_map, cons_option}
+use Rattle.std.specs.List.{flat_map, cons_option, list_any}
 use Rattle.std.proofs.lemmas.Bool.{and_parts}
 use Rattle.std.proofs.lemmas.Bool.Decides.{nat_tests}
 use Rattle.std.proofs.lemmas.List.{length_push, take-append-drop}
 use Rattle.dns_model.specs.declared.denial.Denial.TheVariants as denial
-use Rattle.dns_model.specs.declared.proof.Proof.TheVariants.{Secure}
+use Rattle.dns_model.specs.declared.proof.Proof.{Proof}
+use Rattle.dns_model.specs.declared.proof.Proof.TheVariants.{Secure, Insecure, Bogus, Indeterminate}
 use Rattle.dns_model.specs.declared.section.Section.TheVariants.{Answer}
 use Rattle.dns_model.specs.declared.trail.AskRef.{AskRef}
 use Rattle.dns_model.specs.declared.trail.AskRef.TheVariants.{Step, TooDeep, TooMany}
@@ -15,7 +16,7 @@ use Rattle.dns_model.specs.declared.trail.MarkOrigin.{MarkOrigin}
 use Rattle.dns_model.specs.declared.trail.MarkOrigin.TheVariants.{Table, Repeat, Cache}
 use Rattle.dns_model.specs.Records.{RrSet, Question, question_eq}
 use Rattle.dns_model.specs.Chains.{Judge}
-use Rattle.dns_model.specs.SoundAnswers.{Told, in_section}
+use Rattle.dns_model.specs.SoundAnswers.{Told, PlacedSet, in_section, is_secure}
 use Rattle.dns_model.specs.Trails.{AskedValue, JudgedSetValue, Answered}
 use Rattle.dns_model.proofs.SetLemmas.{number_same}
 use Rattle.dns_model.proofs.QuestionLemmas.{question_back, question_trans}
@@ -23,12 +24,17 @@ use Rattle.dns_model.proofs.Lists.{empty_is}
 use Rattle.dns_rules.specs.Asking.{Limits, most_sends, is_judged_at, judged_part}
 use Rattle.dns_rules.specs.MarkedSets.{MarkedSet}
 use Rattle.dns_rules.specs.Unsigned.{is_empty}
-use Rattle.dns_rules.specs.Derivation.{told_in, with_entries, judged_sets, finished_answer, is_ask, is_by_rules, is_by_origin, steps_hold, asks_of, order_step, end_step}
-use Rattle.dns_rules.specs.DerivationParts.{with_entry, answer_of, is_judged_ask, step_context_of, repeats_step}
+use Rattle.dns_rules.specs.CacheEntries.{EntryValue, mark_of, sig_of}
+use Rattle.dns_rules.specs.Serving.{judged_as, may_serve}
+use Rattle.dns_rules.specs.Derivation.{StepContext, proof_eq, has_mark_of, is_served_by, told_in, with_entries, judged_sets, finished_answer, is_ask, is_by_rules, is_by_origin, steps_hold, asks_of, order_step, end_step}
+use Rattle.dns_rules.specs.DerivationParts.{with_entry, place_eq, answer_of, is_judged_ask, step_context_of, repeats_step}
+use Rattle.dns_rules.proofs.Members.{picked_known}
+use Rattle.dns_rules.proofs.FindLemmas.{each_all}
+use Rattle.dns_rules.proofs.ExtendLemmas.{proof_same}
 use Rattle.dns_rules.proofs.DerivedLemmas.{steps_hold_at}
 use Rattle.dns_rules.proofs.SentLemmas.{numbered}
 use Rattle.dns_rules.proofs.StayLemmas.{slice_get-stays}
-use Rattle.dns_laws.specs.Complete.{Upstream, HeardAlong, AreAsked}
+use Rattle.dns_laws.specs.Complete.{Upstream, HeardAlong, AreAsked, are_secure}
 use Rattle.dns_laws.specs.Valid.{straight_set}
 use Rattle.dns_laws.proofs.StraightLemmas.{is_other, IsOneSet, answered}
 use Rattle.dns_laws.proofs.StraightStepLemmas.{needs_no_denial, IsStraightStep, straight_step, one_judged}
@@ -38,15 +44,18 @@ use Rattle.dns_laws.proofs.RankLemmas.{rank, same_rank}
 
 -- ---- where a walk stands
 
--- a trail whose steps hold, with nothing kept before them, the numbers of its steps in the order of the sends, and what its upstream told at the start
+-- a trail whose steps hold, with the entries that were kept before it, all Secure, the numbers of its steps in the order of the sends, and
+-- what its upstream told at the start
 pub record Walk (R : Type 0) : Type 0 where
   pub up : Upstream R
   pub judge : Judge
   pub limits : Limits
+  pub cached : List EntryValue
   pub trail : List AskedValue
   pub order : List ℕ
   pub tells : Question → Option Told
-  pub hold : steps_hold judge limits [] [] trail ≡ true
+  pub hold : steps_hold judge limits cached [] trail ≡ true
+  pub secure : are_secure cached ≡ true
 
 -- the step with this number asks the first of these queries, after those that were met, and more follow
 pub record IsAt {R : Type 0} (w : Walk R) (q : Question) (rest : List Question) (r : R) (n : ℕ) (step : AskedValue) (met more : List ℕ) : Type 0 where
@@ -76,7 +85,7 @@ pub record IsHere {R : Type 0} (w : Walk R) (q : Question) (r : R) (n : ℕ) (st
   pub on : GoesOn w.trail n step met w.order
   pub next : more ≡ n ∷ on.more
   pub later : HeardAlong w.up (w.up.left r step.query) (numbered w.trail on.more)
-  pub straight : IsStraightStep (step_context_of w.judge w.limits [] (take n w.trail) step) set step
+  pub straight : IsStraightStep (step_context_of w.judge w.limits w.cached (take n w.trail) step) set step
   pub asks : asks_of step ≡ straight.entry.asked
   pub ends : EndsAs w.trail n (n + 1) step
 
@@ -99,7 +108,7 @@ here w q rest r n step met more set at is =
     let reply = answered w.judge w.tells q set at.other is in
     let told : told_in step.reply ≡ Some reply.told = heard.0 ∙ sym (w.up.alike r q step.query at.same) ∙ at.agree q (omega arith) ∙ reply.heard in
     let straight =
-    straight_step w.judge w.limits [] (take n w.trail) step q reply.told set (steps_hold_at w.judge w.limits [] [] w.trail n step w.hold at.found) at.judged told at.same reply.is
+    straight_step w.judge w.limits w.cached (take n w.trail) step q reply.told set (steps_hold_at w.judge w.limits w.cached [] w.trail n step w.hold at.found) at.judged told at.same reply.is
     (ap (is_judged_at step.depth) reply.is.rtype ∙ at.kept) (ap needs_no_denial reply.is.rtype ∙ at.plain) in
     record {
       told = reply.told;
@@ -113,35 +122,60 @@ here w q rest r n step met more set at is =
       ends = ends_as at.over w.trail n (n + 1) step at.found at.ended;
     }
 
--- ---- its entry is by the rules
+-- ---- its entry is by the rules, or was kept
 
 -- an entry that repeats another asks nothing; then its step is the first, and there is no other
 first_repeats : {R : Type 0} (w : Walk R) (q : Question) (r : R) (n k : ℕ) (step : AskedValue) (met more : List ℕ) (set : RrSet)
-    (h : IsHere w q r n step met more set) → is_by_origin (step_context_of w.judge w.limits [] (take n w.trail) step) (in_section Answer set) h.straight.entry (Repeat k) ≡ true → ⊥
+    (h : IsHere w q r n step met more set) → is_by_origin (step_context_of w.judge w.limits w.cached (take n w.trail) step) (in_section Answer set) h.straight.entry (Repeat k) ≡ true → ⊥
 first_repeats w q r n k step met more set h is =
-    let g = step_context_of w.judge w.limits [] (take n w.trail) step in
+    let g = step_context_of w.judge w.limits w.cached (take n w.trail) step in
     let placed = in_section Answer set in
     let parts = and_parts (is_empty h.straight.entry.asked) (repeats_step g placed h.straight.entry (slice_get g.earlier k)) is in
     let first = none_ends w.trail n (n + 1) step h.ends (h.asks ∙ empty_is h.straight.entry.asked parts.0) in
     let none : slice_get (take n w.trail) k ≡ None = ap (λ i. slice_get (take i w.trail) k) first in
     cc (ap (repeats_step g placed h.straight.entry) (sym none) ∙ parts.1)
 
+-- by the rules, or served from what was kept, Secure and without asks
+pub data HasEntry (g : StepContext) (placed : PlacedSet) (entry : JudgedSetValue) : Type 0 where
+  ByRules : is_by_rules g placed entry ≡ true → HasEntry g placed entry
+  Served : entry.asked ≡ [] → entry.mark ≡ Secure → HasEntry g placed entry
+
+secure_mark : (p : Proof) → is_secure p ≡ true → p ≡ Secure
+secure_mark Secure h = refl
+secure_mark Insecure h = cc
+secure_mark Bogus h = cc
+secure_mark Indeterminate h = cc
+
+-- what was kept is Secure, and so is what it serves
+served_entry : (g : StepContext) (placed : PlacedSet) (entry : JudgedSetValue) → are_secure g.cached ≡ true
+    → (is_empty entry.asked && list_any (is_served_by g.judge g.query placed entry) g.cached) ≡ true → HasEntry g placed entry
+served_entry g placed entry secure is =
+    let test = is_served_by g.judge g.query placed entry in
+    let parts = and_parts (is_empty entry.asked) (list_any test g.cached) is in
+    let each = each_all (λ e. is_secure (mark_of e.found)) (λ (e : EntryValue). is_secure (mark_of e.found) ≡ true) (λ e h. h) g.cached secure in
+    let p = picked_known test (λ e. is_secure (mark_of e.found) ≡ true) g.cached each parts.1 in
+    let marked = (and_parts (may_serve g.judge g.query placed p.it) (has_mark_of (judged_as placed p.it.found) entry) p.passes).1 in
+    let same = proof_same (mark_of p.it.found) entry.mark
+    ((and_parts (proof_eq (mark_of p.it.found) entry.mark) (place_eq (sig_of p.it.found) entry.sig) marked).0) in
+    Served (empty_is entry.asked parts.0) (sym same ∙ secure_mark (mark_of p.it.found) p.known)
+
 origin_rules : {R : Type 0} (w : Walk R) (q : Question) (r : R) (n : ℕ) (step : AskedValue) (met more : List ℕ) (set : RrSet)
     (h : IsHere w q r n step met more set) (origin : MarkOrigin)
-    → is_by_origin (step_context_of w.judge w.limits [] (take n w.trail) step) (in_section Answer set) h.straight.entry origin ≡ true
-    → is_by_rules (step_context_of w.judge w.limits [] (take n w.trail) step) (in_section Answer set) h.straight.entry ≡ true
-origin_rules w q r n step met more set h Table is = is
+    → is_by_origin (step_context_of w.judge w.limits w.cached (take n w.trail) step) (in_section Answer set) h.straight.entry origin ≡ true
+    → HasEntry (step_context_of w.judge w.limits w.cached (take n w.trail) step) (in_section Answer set) h.straight.entry
+origin_rules w q r n step met more set h Table is = ByRules is
 origin_rules w q r n step met more set h (Repeat k) is = absurd (first_repeats w q r n k step met more set h is)
-origin_rules w q r n step met more set h Cache is = cc ((and_parts (is_empty h.straight.entry.asked) false is).1)
+origin_rules w q r n step met more set h Cache is =
+    served_entry (step_context_of w.judge w.limits w.cached (take n w.trail) step) (in_section Answer set) h.straight.entry w.secure is
 
 pub rules : {R : Type 0} (w : Walk R) (q : Question) (r : R) (n : ℕ) (step : AskedValue) (met more : List ℕ) (set : RrSet)
     (h : IsHere w q r n step met more set)
-    → is_by_rules (step_context_of w.judge w.limits [] (take n w.trail) step) (in_section Answer set) h.straight.entry ≡ true
+    → HasEntry (step_context_of w.judge w.limits w.cached (take n w.trail) step) (in_section Answer set) h.straight.entry
 rules w q r n step met more set h = origin_rules w q r n step met more set h h.straight.entry.origin h.straight.origin
 
 -- ---- what a step comes to
 
--- the set of the query is Secure, the step ends with an answer, and it and the steps after it are those of the list
+-- the set of the query is Secure, the step ends with an answer, and it and the steps after it are the first of the list
 pub record IsShown {R : Type 0} (w : Walk R) (q : Question) (rest : List Question) (n : ℕ) (step : AskedValue) (more : List ℕ) : Type 0 where
   pub set : RrSet
   pub straight : straight_set w.judge w.tells q ≡ Some set
@@ -152,13 +186,17 @@ pub record IsShown {R : Type 0} (w : Walk R) (q : Question) (rest : List Questio
   pub secure : IsSecureSet set judged
   pub sets : judged_sets step ≡ judged ∷ []
   pub ending : step.ending ≡ Answered denial.None
-  pub number : n ≡ length rest
-  pub asked : AreAsked (q ∷ rest) (numbered w.trail more)
+  pub front : List Question
+  pub unused : List Question
+  pub whole : front ++ unused ≡ rest
+  pub number : n ≡ length front
+  pub asked : AreAsked (q ∷ front) (numbered w.trail more)
 
-pub shown_by : {R : Type 0} (w : Walk R) (q : Question) (rest : List Question) (r : R) (n : ℕ) (step : AskedValue) (met more : List ℕ) (set : RrSet)
+pub shown_by : {R : Type 0} (w : Walk R) (q : Question) (rest front unused : List Question) (r : R) (n : ℕ) (step : AskedValue) (met more : List ℕ) (set : RrSet)
     → IsAt w q rest r n step met more → straight_set w.judge w.tells q ≡ Some set → (h : IsHere w q r n step met more set)
-    → h.straight.entry.mark ≡ Secure → n ≡ length rest → AreAsked rest (numbered w.trail h.on.more) → IsShown w q rest n step more
-shown_by w q rest r n step met more set at is h mark number asked =
+    → h.straight.entry.mark ≡ Secure → front ++ unused ≡ rest → n ≡ length front → AreAsked front (numbered w.trail h.on.more)
+    → IsShown w q rest n step more
+shown_by w q rest front unused r n step met more set at is h mark whole number asked =
     let placed = in_section Answer set in
     let alone = one_judged w.judge q h.told set step.depth h.one (ap (is_judged_at step.depth) h.one.rtype ∙ at.kept) in
     record {
@@ -172,8 +210,11 @@ shown_by w q rest r n step met more set at is h mark number asked =
       sets = ap (λ o. option_map_or (λ told. with_entries (judged_part step.depth told) step.sets) o []) h.heard_it
           ∙ ap (λ ps. with_entries ps step.sets) alone ∙ ap (with_entries (placed ∷ [])) h.straight.sets;
       ending = h.straight.ending;
+      front = front;
+      unused = unused;
+      whole = whole;
       number = number;
-      asked = subst (AreAsked (q ∷ rest)) (sym (ap (numbered w.trail) h.next ∙ ap (λ o. cons_option o (numbered w.trail h.on.more)) at.found)) (at.same, asked);
+      asked = subst (AreAsked (q ∷ front)) (sym (ap (numbered w.trail) h.next ∙ ap (λ o. cons_option o (numbered w.trail h.on.more)) at.found)) (at.same, asked);
     }
 
 -- ---- the step that is asked

@@ -1,6 +1,6 @@
 -- What follows for a valid session: the set that was queried is Secure, and no other queries are asked than those that lead from it to
 -- an anchor (RFC 4035, 4.3 and 5).
-use Rattle.std.specs.Prelude.{◌≡◌, ℕ, Bool, true, false, not, ◌&&◌, ◌||◌, List, [], ◌∷◌, Option, Some}
+use Rattle.std.specs.Prelude.{◌≡◌, ℕ, Bool, true, false, not, ◌&&◌, ◌||◌, List, [], ◌∷◌, ◌++◌, Option, Some}
 use Rattle.std.specs.List.{list_any, list_all}
 use Rattle.dns_model.specs.declared.denial.Denial.TheVariants as denial
 use Rattle.dns_model.specs.declared.proof.Proof.TheVariants.{Secure}
@@ -10,6 +10,7 @@ use Rattle.dns_model.specs.Chains.{Judge}
 use Rattle.dns_model.specs.SoundAnswers.{Told, is_secure}
 use Rattle.dns_model.specs.Trails.{AskedValue, Answered}
 use Rattle.dns_rules.specs.MarkedSets.{MarkedSet}
+use Rattle.dns_rules.specs.CacheEntries.{EntryValue, mark_of}
 use Rattle.dns_rules.specs.Marking.{marked_section}
 use Rattle.dns_rules.specs.Derivation.{told_in, judged_sets, top_step, in_send_order}
 use Rattle.dns_laws.specs.Straight.{is_queried}
@@ -31,6 +32,12 @@ abbrev pub HeardAlong : {R : Type 0} → Upstream R → R → List AskedValue �
 HeardAlong up r [] = Unit {0}
 HeardAlong up r (step ∷ steps) = (told_in step.reply ≡ up.tells r step.query) × HeardAlong up (up.left r step.query) steps
 
+-- ---- what was kept before
+
+-- each entry says Secure
+abbrev pub are_secure : List EntryValue → Bool
+are_secure entries = list_all (λ e. is_secure (mark_of e.found)) entries
+
 -- ---- what follows
 
 -- the steps ask these queries
@@ -43,7 +50,8 @@ shows_secure q answers =
     list_any (is_queried q) answers && list_all (λ r. not (is_queried q r) || is_secure r.proof) answers
 
 -- a trail that proves a query by the queries after it: its last step ends with an answer, and the set that it judges, its only one,
--- is that of the straight reply, and Secure, with each record that was queried; its steps are the queries of the list, one for each, in the order of the sends
+-- is that of the straight reply, and Secure, with each record that was queried; its steps are the first queries of the list, one for each, in the
+-- order of the sends, and all of them where nothing was kept
 pub record ProvesQuery (j : Judge) (tells : Question → Option Told) (q : Question) (queries : List Question) (trail : List AskedValue) : Type 0 where
   pub top : AskedValue
   pub last : top_step trail ≡ Some top
@@ -57,5 +65,8 @@ pub record ProvesQuery (j : Judge) (tells : Question → Option Told) (q : Quest
   pub is : judged.set ≡ set
   pub secure : judged.mark ≡ Secure
   pub ending : top.ending ≡ Answered denial.None
-  pub asked : AreAsked (q ∷ queries) (in_send_order trail)
+  pub front : List Question
+  pub unused : List Question
+  pub whole : front ++ unused ≡ queries
+  pub asked : AreAsked (q ∷ front) (in_send_order trail)
   pub records : (now : ℕ) → shows_secure q (marked_section now (judged_sets top) Answer told.answers) ≡ true

@@ -123,7 +123,7 @@ pub replies_prove : (j : Judge) (replies : Replies) (limits : Limits) (q : Quest
     → IsValidSession j (first_told replies) limits.depth q → IsProved j replies q trail ending
 replies_prove j replies limits q trail top ending derived last query ends from valid =
     let asked = ap (question_eq q) query ∙ question_refl q in
-    let proved = valid_session_is_proved replying replies j limits q trail top derived last asked (received_replies replies (in_send_order trail) from) valid in
+    let proved = valid_session_is_proved replying replies j limits [] q trail top derived refl last asked (received_replies replies (in_send_order trail) from) valid in
     let same = same_Some proved.top top (sym proved.last ∙ last) in
     record { queries = valid.queries; proved = proved; ends = sym ends ∙ ap (λ step. step.ending) (sym same) ∙ proved.ending }
 
