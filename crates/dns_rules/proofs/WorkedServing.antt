@@ -9,15 +9,18 @@ use Rattle.dns_model.specs.declared.trail.AskRef.{AskRef}
 use Rattle.dns_model.specs.declared.trail.AskRef.TheVariants.{Step}
 use Rattle.dns_model.specs.declared.trail.MarkOrigin.TheVariants.{Cache}
 use Rattle.dns_model.specs.Chains.{LinkValue, Anchored, KeySet, judge, all_shown, link_holds, links_hold, last_link}
+use Rattle.dns_model.specs.Names.{Labels}
 use Rattle.dns_model.specs.Records.{RrSet, Question}
+use Rattle.dns_model.specs.SoundAnswers.{in_section}
 use Rattle.dns_model.specs.Trails.{AskedValue, Answered}
 use Rattle.dns_model.proofs.Worked.{key, signature, name_a, anchors, chain_by}
 use Rattle.dns_rules.specs.ProofErrors.{RrsigsUnverified}
 use Rattle.dns_rules.specs.CacheKeys.{key_of}
 use Rattle.dns_rules.specs.CacheEntries.{EntryValue, Found, live}
+use Rattle.dns_rules.specs.Serving.{may_serve}
 use Rattle.dns_rules.specs.Derivation.{derivation}
 use Rattle.dns_rules.proofs.WorkedTrails.{computed}
-use Rattle.dns_rules.proofs.WorkedTrailValues.{verifier, root_judge, keys_question, ns_question, ns_records, record_of, reply_of, answer_entry, ns_step, keys_found, within}
+use Rattle.dns_rules.proofs.WorkedTrailValues.{verifier, root_judge, keys_question, ns_question, ns_records, record_of, reply_of, answer_entry, ns_step, keys_judged, keys_found, within}
 
 -- ---- what was kept
 
@@ -109,6 +112,58 @@ pub by_another_place :
 unfolding computed links_hold link_holds all_shown last_link
 by_another_place = refl
 
+-- ---- a key set that no signature decided
+
+abbrev pub keys_set : RrSet
+keys_set = record { owner = []; rtype = 48; class = 1; records = record_of [] 48 key ∷ []; signatures = [] }
+
+-- found Secure by this place
+abbrev pub kept_keys : Option ℕ → EntryValue
+kept_keys place = record {
+  key = key_of keys_question keys_set;
+  expires = 2000;
+  found = secure_by place;
+  chain = Some (record { section = Answer; links = key_links });
+}
+
+abbrev pub served_keys : Option ℕ → AskedValue
+served_keys place = record (keys_judged (record (answer_entry 48 Secure place []) { origin = Cache } ∷ [])) { depth = 0 }
+
+pub by_an_anchored_key : derivation root_judge (within 26) (kept_keys None ∷ []) (served_keys None ∷ []) ≡ true
+unfolding computed links_hold link_holds all_shown last_link
+by_an_anchored_key = refl
+
+-- it has no signature at the place that is named
+pub by_a_place_without_a_signature : derivation root_judge (within 26) (kept_keys (Some 7) ∷ []) (served_keys (Some 7) ∷ []) ≡ false
+unfolding computed links_hold link_holds all_shown last_link
+by_a_place_without_a_signature = refl
+
+-- ---- the case of letters: that of the question tells nothing apart, that of an owner does
+
+abbrev pub address_question : Labels → Question
+address_question owner = record { owner = owner; rtype = 1; class = 1 }
+
+abbrev pub address_set : Labels → RrSet
+address_set owner =
+    record { owner = owner; rtype = 1; class = 1; records = record_of owner 1 (192 ∷ 0 ∷ 2 ∷ 1 ∷ []) ∷ []; signatures = [] }
+
+-- the address of `a.` was kept, which `a.` was asked for
+abbrev pub kept_address : EntryValue
+kept_address = record {
+  key = key_of (address_question ((97 ∷ []) ∷ [])) (address_set ((97 ∷ []) ∷ []));
+  expires = 2000;
+  found = Err (record { proof = Bogus; kind = RrsigsUnverified ((97 ∷ []) ∷ []) 1 });
+  chain = None;
+}
+
+pub asked_in_another_case :
+    may_serve root_judge (address_question ((65 ∷ []) ∷ [])) (in_section Answer (address_set ((97 ∷ []) ∷ []))) kept_address ≡ true
+asked_in_another_case = refl
+
+pub owned_in_another_case :
+    may_serve root_judge (address_question ((97 ∷ []) ∷ [])) (in_section Answer (address_set ((65 ∷ []) ∷ []))) kept_address ≡ false
+owned_in_another_case = refl
+
 -- ---- another mark is served as it was kept
 
 pub as_it_was_found : derivation (judge verifier [] 2001) (within 26) (kept_bogus ∷ []) (served Bogus None [] ∷ []) ≡ true
@@ -118,6 +173,19 @@ as_it_was_found = refl
 pub another_mark : derivation root_judge (within 26) (kept_bogus ∷ []) (served Insecure None [] ∷ []) ≡ false
 unfolding computed links_hold link_holds all_shown last_link
 another_mark = refl
+
+-- Insecure by its first signature, without a chain
+abbrev pub kept_insecure : EntryValue
+kept_insecure = record {
+  key = key_of ns_question ns_set;
+  expires = 2000;
+  found = Ok (record { proof = Insecure; adjusted_ttl = None; rrsig_index = Some 0 });
+  chain = None;
+}
+
+pub insecure_by_a_signature : derivation root_judge (within 26) (kept_insecure ∷ []) (served Insecure (Some 0) [] ∷ []) ≡ true
+unfolding computed links_hold link_holds all_shown last_link
+insecure_by_a_signature = refl
 
 -- ---- until it expires
 

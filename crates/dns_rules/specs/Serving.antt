@@ -1,8 +1,8 @@
 -- When what was kept of a set may serve it again (RFC 4035, 4.5, 4.7, 5.3.1 and 5.3.3).
-use Rattle.std.specs.Prelude.{Bool, true, false, ◌&&◌, List, [], Option, None, Some, if◌then◌else◌}
+use Rattle.std.specs.Prelude.{ℕ, Bool, true, false, ◌&&◌, List, [], Option, None, Some, is_some, slice_get, if◌then◌else◌}
 use Rattle.std.specs.Option.{option_map_or}
 use Rattle.dns_model.specs.Keys.{bytes_eq}
-use Rattle.dns_model.specs.Records.{Rr, Question}
+use Rattle.dns_model.specs.Records.{Rr, RrSet, Question}
 use Rattle.dns_model.specs.Chains.{LinkValue, Judge, KeySet, Signed, justified, ends_at, last_link}
 use Rattle.dns_model.specs.SoundAnswers.{ChainValue, PlacedSet, is_secure}
 use Rattle.dns_rules.specs.MarkedSets.{MarkedSet, decider}
@@ -26,10 +26,17 @@ judged_as placed found = record { section = placed.section; set = placed.set; ma
 abbrev pub links_of : Option ChainValue → List LinkValue
 links_of chain = option_map_or (λ c. c.links) chain []
 
--- what an entry says holds of the set: where it says Secure, its chain proves that by this judge, its moment included
+-- the place of a signature that decided, where one did, is that of a signature of the set
+abbrev pub has_place : RrSet → Option ℕ → Bool
+has_place set place = option_map_or (λ n. is_some (slice_get set.signatures n)) place true
+
+-- what an entry says holds of the set: where it says Secure, a signature that it names is one of the set's, and its chain proves the set
+-- by this judge, its moment included
 abbrev pub still_holds : Judge → PlacedSet → EntryValue → Bool
 still_holds j placed kept =
-    if is_secure (mark_of kept.found) then proves_set j (judged_as placed kept.found) (links_of kept.chain) else true
+    if is_secure (mark_of kept.found)
+    then has_place placed.set (sig_of kept.found) && proves_set j (judged_as placed kept.found) (links_of kept.chain)
+    else true
 
 -- an entry may serve a set in the answer to a question: it was kept of the same set in such an answer, and holds of it
 abbrev pub may_serve : Judge → Question → PlacedSet → EntryValue → Bool

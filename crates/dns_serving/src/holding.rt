@@ -4,7 +4,7 @@ ghost use Rattle.std.specs.Prelude.{◌≡◌, ◌&&◌, IfOk, slice_get};
 ghost use Rattle.std.specs.Option.{option_and_then, option_copied};
 ghost use Rattle.dns_rules.specs.CacheEntries.{mark_of as mark_in, sig_of as sig_in};
 ghost use Rattle.dns_model.specs.Chains.{ends_at, justified, last_link};
-ghost use Rattle.dns_rules.specs.Serving.{names_decider, still_holds as holds_in};
+ghost use Rattle.dns_rules.specs.Serving.{has_place as has_place_in, names_decider, still_holds as holds_in};
 ghost use Rattle.dns_trust.specs.Judge.{judge_of};
 
 use crate::chain_end::ends_by;
@@ -18,9 +18,10 @@ use dns_record::{Record, RecordSet};
 use dns_trust::Judge;
 use std::alloc::Global;
 
-/// Whether what an entry says of its set holds of this one, by a judge: where it says Secure, its chain is justified by the judge's
-/// anchors, verifier and moment, ends at the set, and names the signature that decided; any other mark holds as it was found
-/// (RFC 4035, 4.5, 5.3.1 and 5.3.3). The only error is want of memory.
+/// Whether what an entry says of its set holds of this one, by a judge: where it says Secure, a signature at whose place it says that one
+/// decided is there, and its chain is justified by the judge's anchors, verifier and moment, ends at the set, and names that signature,
+/// or is a key set where none decided; any other mark holds as it was found (RFC 4035, 4.5, 5.3.1 and 5.3.3). The only error is want
+/// of memory.
 pub fn still_holds<V: Verifier>(
     alloc: Global,
     judge: &Judge<'_, V>,
@@ -32,10 +33,14 @@ pub fn still_holds<V: Verifier>(
     if mark_of(&kept.result) != Proof::Secure {
         return Ok(true);
     }
+    let place = sig_of(&kept.result);
+    if !has_place(&placed.set, place) {
+        return Ok(false);
+    }
     let Some(chain) = &kept.chain else {
         return Ok(false);
     };
-    let decider = signature_at(&placed.set, sig_of(&kept.result));
+    let decider = signature_at(&placed.set, place);
     proves(alloc, judge, &placed.set, decider, chain)
 }
 
@@ -74,6 +79,16 @@ pub fn sig_of(found: &Result<RrsetProof, ProofError>) -> Option<u32>
     match found {
         Ok(proof) => proof.rrsig_index,
         Err(_) => None,
+    }
+}
+
+// A place, where there is one, is that of a signature of the set.
+fn has_place(set: &RecordSet, place: Option<u32>) -> bool
+    ensures { result ≡ has_place_in set.now place }
+{
+    match place {
+        Some(place) => set.rrsigs.get(place as usize).is_some(),
+        None => true,
     }
 }
 
