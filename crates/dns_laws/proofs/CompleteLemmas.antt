@@ -40,7 +40,7 @@ use Rattle.dns_laws.proofs.KeyEntryLemmas.{IsOneOrNone, anchored_entry, ds_proof
 use Rattle.dns_laws.proofs.OrderPathLemmas.{none_met, none_ends}
 use Rattle.dns_laws.proofs.RankLemmas.{rank, name_lengths, same_rank, keys_lower, ds_lower}
 use Rattle.dns_laws.proofs.SecureRecordLemmas.{secure_records}
-use Rattle.dns_laws.proofs.PathLemmas.{Walk, IsAt, IsHere, here, HasEntry, ByRules, Served, rules, IsShown, shown_by, IsAsked, IsLower, asked_next}
+use Rattle.dns_laws.proofs.PathLemmas.{Walk, IsAt, IsHere, here, HasEntry, ByRules, Served, rules, AreFirst, one_more, IsShown, shown_by, IsAsked, IsLower, asked_next}
 
 -- ---- one set
 
@@ -106,7 +106,9 @@ shown_last w q r n step met more set at is h by_rules keys anchored =
     let entry = anchored_entry g set h.straight.entry one keys anchored by_rules in
     let none = h.asks ∙ entry.none in
     let more_none = none_met w.trail n step met w.order h.on none in
-    shown_by w q [] [] [] r n step met more set at is h entry.mark refl (none_ends w.trail n (n + 1) step h.ends none)
+    let first : AreFirst w [] n =
+    record { front = []; unused = []; whole = refl; all = λ nothing. refl; number = none_ends w.trail n (n + 1) step h.ends none } in
+    shown_by w q [] r n step met more set at is h entry.mark first
     (subst (λ ns. AreAsked [] (numbered w.trail ns)) (sym more_none) tt)
 
 -- ---- the list goes on
@@ -161,7 +163,7 @@ shown_signed w q next rest r n step met more set above at is found h by_rules ot
     let plain : needs_no_denial set.rtype ≡ true = ap needs_no_denial h.one.rtype ∙ at.plain in
     let mark = signed_mark g next set above signed.signature question entry keys.judged by ask keys.owner keys.rtype keys.class
     plain keys.answer keys.secure in
-    shown_by w q (next ∷ rest) (next ∷ shown.front) shown.unused r n step met more set at is h mark (ap (λ t. next ∷ t) shown.whole) (omega (arith, asked.before, shown.number)) shown.asked
+    shown_by w q (next ∷ rest) r n step met more set at is h mark (one_more w next rest n asked.m asked.before shown.first) shown.asked
 
 shown_keys : {R : Type 0} (w : Walk R) (q next : Question) (rest : List Question) (r : R) (n : ℕ) (step : AskedValue) (met more : List ℕ) (set above : RrSet)
     → (at : IsAt w q (next ∷ rest) r n step met more) → straight_set w.judge w.tells q ≡ Some set → straight_set w.judge w.tells next ≡ Some above
@@ -183,7 +185,7 @@ shown_keys w q next rest r n step met more set above at is found h by_rules keys
     let shown = later (w.up.left r step.query) asked.m asked.asked (met ++ n ∷ []) h.on.more asked.at in
     let ds = next_set w next rest r n step met h.on.more by.ask above asked shown found in
     let mark = ds_mark g next set above entry ds.judged one by anchored proof ds.owner ds.rtype ds.class ds.answer ds.secure in
-    shown_by w q (next ∷ rest) (next ∷ shown.front) shown.unused r n step met more set at is h mark (ap (λ t. next ∷ t) shown.whole) (omega (arith, asked.before, shown.number)) shown.asked
+    shown_by w q (next ∷ rest) r n step met more set at is h mark (one_more w next rest n asked.m asked.before shown.first) shown.asked
 
 shown_next : {R : Type 0} (w : Walk R) (q next : Question) (rest : List Question) (r : R) (n : ℕ) (step : AskedValue) (met more : List ℕ) (set above : RrSet) (b : Bool)
     → (at : IsAt w q (next ∷ rest) r n step met more) → straight_set w.judge w.tells q ≡ Some set → straight_set w.judge w.tells next ≡ Some above
@@ -200,11 +202,13 @@ shown_next w q next rest r n step met more set above false at is found h by_rule
 
 shown_served : {R : Type 0} (w : Walk R) (q : Question) (rest : List Question) (r : R) (n : ℕ) (step : AskedValue) (met more : List ℕ) (set : RrSet)
     → IsAt w q rest r n step met more → straight_set w.judge w.tells q ≡ Some set → (h : IsHere w q r n step met more set)
-    → h.straight.entry.asked ≡ [] → h.straight.entry.mark ≡ Secure → IsShown w q rest n step more
-shown_served w q rest r n step met more set at is h asked mark =
+    → h.straight.entry.asked ≡ [] → h.straight.entry.mark ≡ Secure → (w.cached ≡ [] → ⊥) → IsShown w q rest n step more
+shown_served w q rest r n step met more set at is h asked mark some =
     let none = h.asks ∙ asked in
     let more_none = none_met w.trail n step met w.order h.on none in
-    shown_by w q rest [] rest r n step met more set at is h mark refl (none_ends w.trail n (n + 1) step h.ends none)
+    let first : AreFirst w rest n =
+    record { front = []; unused = rest; whole = refl; all = λ nothing. absurd (some nothing); number = none_ends w.trail n (n + 1) step h.ends none } in
+    shown_by w q rest r n step met more set at is h mark first
     (subst (λ ns. AreAsked [] (numbered w.trail ns)) (sym more_none) tt)
 
 last_by : {R : Type 0} (w : Walk R) (q : Question) (r : R) (n : ℕ) (step : AskedValue) (met more : List ℕ) (set : RrSet)
@@ -212,7 +216,7 @@ last_by : {R : Type 0} (w : Walk R) (q : Question) (r : R) (n : ℕ) (step : Ask
     → HasEntry (step_context_of w.judge w.limits w.cached (take n w.trail) step) (in_section Answer set) h.straight.entry
     → (set.rtype == type_dnskey) ≡ true → is_anchored_set w.judge set ≡ true → IsShown w q [] n step more
 last_by w q r n step met more set at is h (ByRules by_rules) keys anchored = shown_last w q r n step met more set at is h by_rules keys anchored
-last_by w q r n step met more set at is h (Served asked mark) keys anchored = shown_served w q [] r n step met more set at is h asked mark
+last_by w q r n step met more set at is h (Served asked mark some) keys anchored = shown_served w q [] r n step met more set at is h asked mark some
 
 next_by : {R : Type 0} (w : Walk R) (q next : Question) (rest : List Question) (r : R) (n : ℕ) (step : AskedValue) (met more : List ℕ) (set above : RrSet)
     → (at : IsAt w q (next ∷ rest) r n step met more) → straight_set w.judge w.tells q ≡ Some set → straight_set w.judge w.tells next ≡ Some above
@@ -223,8 +227,8 @@ next_by : {R : Type 0} (w : Walk R) (q next : Question) (rest : List Question) (
     → ShowsNext w next rest → IsShown w q (next ∷ rest) n step more
 next_by w q next rest r n step met more set above at is found h (ByRules by_rules) proved later =
     shown_next w q next rest r n step met more set above (set.rtype == type_dnskey) at is found h by_rules refl proved later
-next_by w q next rest r n step met more set above at is found h (Served asked mark) proved later =
-    shown_served w q (next ∷ rest) r n step met more set at is h asked mark
+next_by w q next rest r n step met more set above at is found h (Served asked mark some) proved later =
+    shown_served w q (next ∷ rest) r n step met more set at is h asked mark some
 
 pub shown : {R : Type 0} (w : Walk R) (q : Question) (rest : List Question) (r : R) (n : ℕ) (step : AskedValue) (met more : List ℕ)
     → leads_to_anchor w.judge w.tells q rest ≡ true → IsAt w q rest r n step met more → IsShown w q rest n step more
@@ -275,7 +279,7 @@ records_by w q rest n step more other is now =
 -- a derivation whose last step asks a query, and whose steps heard a session that is valid for it, proves it
 pub valid_session_is_proved : {R : Type 0} (up : Upstream R) (r : R) (j : Judge) (limits : Limits) (cached : List EntryValue) (q : Question) (trail : List AskedValue) (top : AskedValue)
     → derivation j limits cached trail ≡ true → are_secure cached ≡ true → top_step trail ≡ Some top → question_eq q top.query ≡ true → HeardAlong up r (in_send_order trail)
-    → (valid : IsValidSession j (up.tells r) limits.depth q) → ProvesQuery j (up.tells r) q valid.queries trail
+    → (valid : IsValidSession j (up.tells r) limits.depth q) → ProvesQuery j cached (up.tells r) q valid.queries trail
 valid_session_is_proved {R = R} up r j limits cached q trail top derived secure last same heard valid =
     let g = derivation_parts j limits cached trail derived in
     let top_is = same_top trail g.top.step top g.top.found last in
@@ -328,10 +332,11 @@ valid_session_is_proved {R = R} up r j limits cached q trail top derived secure 
       secure = is.secure.mark;
       ending = is.ending;
       records = records_by w q valid.queries (length trail - 1) top g.sent.order types.other is;
-      front = is.front;
-      unused = is.unused;
-      whole = is.whole;
-      asked = subst (AreAsked (q ∷ is.front)) (sym sent) is.asked;
+      front = is.first.front;
+      unused = is.first.unused;
+      whole = is.first.whole;
+      all = is.first.all;
+      asked = subst (AreAsked (q ∷ is.first.front)) (sym sent) is.asked;
     }
 
 -- ---- the reply to the query

@@ -135,10 +135,15 @@ first_repeats w q r n k step met more set h is =
     let none : slice_get (take n w.trail) k ≡ None = ap (λ i. slice_get (take i w.trail) k) first in
     cc (ap (repeats_step g placed h.straight.entry) (sym none) ∙ parts.1)
 
--- by the rules, or served from what was kept, Secure and without asks
+-- by the rules, or served from what was kept, which there is, Secure and without asks
 pub data HasEntry (g : StepContext) (placed : PlacedSet) (entry : JudgedSetValue) : Type 0 where
   ByRules : is_by_rules g placed entry ≡ true → HasEntry g placed entry
-  Served : entry.asked ≡ [] → entry.mark ≡ Secure → HasEntry g placed entry
+  Served : entry.asked ≡ [] → entry.mark ≡ Secure → (g.cached ≡ [] → ⊥) → HasEntry g placed entry
+
+-- where there is nothing, nothing passes a test
+none_passes : (test : EntryValue → Bool) (entries : List EntryValue) → list_any test entries ≡ true → entries ≡ [] → ⊥
+none_passes test [] passes h = cc
+none_passes test (e ∷ entries) passes h = cc
 
 secure_mark : (p : Proof) → is_secure p ≡ true → p ≡ Secure
 secure_mark Secure h = refl
@@ -157,7 +162,7 @@ served_entry g placed entry secure is =
     let marked = (and_parts (may_serve g.judge g.query placed p.it) (has_mark_of (judged_as placed p.it.found) entry) p.passes).1 in
     let same = proof_same (mark_of p.it.found) entry.mark
     ((and_parts (proof_eq (mark_of p.it.found) entry.mark) (place_eq (sig_of p.it.found) entry.sig) marked).0) in
-    Served (empty_is entry.asked parts.0) (sym same ∙ secure_mark (mark_of p.it.found) p.known)
+    Served (empty_is entry.asked parts.0) (sym same ∙ secure_mark (mark_of p.it.found) p.known) (none_passes test g.cached parts.1)
 
 origin_rules : {R : Type 0} (w : Walk R) (q : Question) (r : R) (n : ℕ) (step : AskedValue) (met more : List ℕ) (set : RrSet)
     (h : IsHere w q r n step met more set) (origin : MarkOrigin)
@@ -175,6 +180,24 @@ rules w q r n step met more set h = origin_rules w q r n step met more set h h.s
 
 -- ---- what a step comes to
 
+-- the first queries of a list, as many as steps before one: all of them where nothing was kept
+pub record AreFirst {R : Type 0} (w : Walk R) (rest : List Question) (n : ℕ) : Type 0 where
+  pub front : List Question
+  pub unused : List Question
+  pub whole : front ++ unused ≡ rest
+  pub all : w.cached ≡ [] → unused ≡ []
+  pub number : n ≡ length front
+
+-- and those of a list with one more query, which one more step asks
+pub one_more : {R : Type 0} (w : Walk R) (next : Question) (rest : List Question) (n m : ℕ) → n ≡ m + 1 → AreFirst w rest m → AreFirst w (next ∷ rest) n
+one_more w next rest n m before first = record {
+  front = next ∷ first.front;
+  unused = first.unused;
+  whole = ap (λ t. next ∷ t) first.whole;
+  all = first.all;
+  number = omega (arith, before, first.number);
+}
+
 -- the set of the query is Secure, the step ends with an answer, and it and the steps after it are the first of the list
 pub record IsShown {R : Type 0} (w : Walk R) (q : Question) (rest : List Question) (n : ℕ) (step : AskedValue) (more : List ℕ) : Type 0 where
   pub set : RrSet
@@ -186,17 +209,14 @@ pub record IsShown {R : Type 0} (w : Walk R) (q : Question) (rest : List Questio
   pub secure : IsSecureSet set judged
   pub sets : judged_sets step ≡ judged ∷ []
   pub ending : step.ending ≡ Answered denial.None
-  pub front : List Question
-  pub unused : List Question
-  pub whole : front ++ unused ≡ rest
-  pub number : n ≡ length front
-  pub asked : AreAsked (q ∷ front) (numbered w.trail more)
+  pub first : AreFirst w rest n
+  pub asked : AreAsked (q ∷ first.front) (numbered w.trail more)
 
-pub shown_by : {R : Type 0} (w : Walk R) (q : Question) (rest front unused : List Question) (r : R) (n : ℕ) (step : AskedValue) (met more : List ℕ) (set : RrSet)
+pub shown_by : {R : Type 0} (w : Walk R) (q : Question) (rest : List Question) (r : R) (n : ℕ) (step : AskedValue) (met more : List ℕ) (set : RrSet)
     → IsAt w q rest r n step met more → straight_set w.judge w.tells q ≡ Some set → (h : IsHere w q r n step met more set)
-    → h.straight.entry.mark ≡ Secure → front ++ unused ≡ rest → n ≡ length front → AreAsked front (numbered w.trail h.on.more)
+    → h.straight.entry.mark ≡ Secure → (first : AreFirst w rest n) → AreAsked first.front (numbered w.trail h.on.more)
     → IsShown w q rest n step more
-shown_by w q rest front unused r n step met more set at is h mark whole number asked =
+shown_by w q rest r n step met more set at is h mark first asked =
     let placed = in_section Answer set in
     let alone = one_judged w.judge q h.told set step.depth h.one (ap (is_judged_at step.depth) h.one.rtype ∙ at.kept) in
     record {
@@ -210,11 +230,8 @@ shown_by w q rest front unused r n step met more set at is h mark whole number a
       sets = ap (λ o. option_map_or (λ told. with_entries (judged_part step.depth told) step.sets) o []) h.heard_it
           ∙ ap (λ ps. with_entries ps step.sets) alone ∙ ap (with_entries (placed ∷ [])) h.straight.sets;
       ending = h.straight.ending;
-      front = front;
-      unused = unused;
-      whole = whole;
-      number = number;
-      asked = subst (AreAsked (q ∷ front)) (sym (ap (numbered w.trail) h.next ∙ ap (λ o. cons_option o (numbered w.trail h.on.more)) at.found)) (at.same, asked);
+      first = first;
+      asked = subst (AreAsked (q ∷ first.front)) (sym (ap (numbered w.trail) h.next ∙ ap (λ o. cons_option o (numbered w.trail h.on.more)) at.found)) (at.same, asked);
     }
 
 -- ---- the step that is asked

@@ -51,8 +51,8 @@ shows_secure q answers =
 
 -- a trail that proves a query by the queries after it: its last step ends with an answer, and the set that it judges, its only one,
 -- is that of the straight reply, and Secure, with each record that was queried; its steps are the first queries of the list, one for each, in the
--- order of the sends, and all of them where nothing was kept
-pub record ProvesQuery (j : Judge) (tells : Question → Option Told) (q : Question) (queries : List Question) (trail : List AskedValue) : Type 0 where
+-- order of the sends, and all of them where nothing was kept before
+pub record ProvesQuery (j : Judge) (cached : List EntryValue) (tells : Question → Option Told) (q : Question) (queries : List Question) (trail : List AskedValue) : Type 0 where
   pub top : AskedValue
   pub last : top_step trail ≡ Some top
   pub told : Told
@@ -68,5 +68,6 @@ pub record ProvesQuery (j : Judge) (tells : Question → Option Told) (q : Quest
   pub front : List Question
   pub unused : List Question
   pub whole : front ++ unused ≡ queries
+  pub all : cached ≡ [] → unused ≡ []
   pub asked : AreAsked (q ∷ front) (in_send_order trail)
   pub records : (now : ℕ) → shows_secure q (marked_section now (judged_sets top) Answer told.answers) ≡ true

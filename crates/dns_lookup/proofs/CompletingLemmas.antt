@@ -114,7 +114,7 @@ of_some P (Some y) x is h = let same : y ≡ x = cc in subst P same h
 -- a trail proves a query by an upstream's replies, and ends with an answer
 pub record IsProved (j : Judge) (replies : Replies) (q : Question) (trail : List AskedValue) (ending : EndingValue) : Type 0 where
   pub queries : List Question
-  pub proved : ProvesQuery j (first_told replies) q queries trail
+  pub proved : ProvesQuery j [] (first_told replies) q queries trail
   pub ends : ending ≡ Answered denial.None
 
 -- a derivation with the query and this ending, whose steps heard the replies of a valid session
