@@ -11,6 +11,10 @@ use dns_rdata::Rrsig;
 use dns_record::RecordSet;
 use std::marker::Model;
 
+/// For how many seconds at the most it is kept why a set isn't Secure, that of a Bogus one too, unless a range says otherwise
+/// (RFC 4035, 4.7).
+pub const BOGUS_CACHE_TTL: u64 = 60;
+
 /// For how many seconds at least and at most something is kept.
 #[derive(Clone, Copy)]
 pub struct TtlRange {
@@ -59,7 +63,7 @@ impl TtlRange {
 }
 
 impl TtlRanges {
-    /// Errors for 1 to 60 seconds, all else for as long as its ttl says.
+    /// Errors for 1 to `BOGUS_CACHE_TTL` seconds, all else for as long as its ttl says.
     pub fn new() -> TtlRanges
         ensures { result ≡ record {
           positive = record { least = 0; most = 2 ^ 64 - 1 };
@@ -71,7 +75,10 @@ impl TtlRanges {
                 least: 0,
                 most: u64::MAX,
             },
-            negative: TtlRange { least: 1, most: 60 },
+            negative: TtlRange {
+                least: 1,
+                most: BOGUS_CACHE_TTL,
+            },
         }
     }
 

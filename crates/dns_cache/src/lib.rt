@@ -19,7 +19,7 @@ pub use acceptance::{Acceptance, AcceptedBy};
 pub use cache_key::CacheKey;
 pub use dns_proof::{ProofError, ProofErrorKind, RrsetProof};
 pub use entry::Entry;
-pub use expiry::{TtlRange, TtlRanges};
+pub use expiry::{BOGUS_CACHE_TTL, TtlRange, TtlRanges};
 pub use key_laws::{equal_keys_are_one, equal_keys_hash_alike};
 pub use list_cache::ListCache;
 pub use lru_validation_cache::{DefaultCache, LruValidationCache};

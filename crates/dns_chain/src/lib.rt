@@ -2,7 +2,7 @@
 //! and trails, and what finds a key's, a signature's or a set's mark by itself (RFC 4035, 5); and what a caller needs to name beside them.
 #![tactic(auto)]
 
-pub use dns_cache::{CacheKey, Entry};
+pub use dns_cache::{BOGUS_CACHE_TTL, CacheKey, Entry};
 pub use dns_chain_check::{accepted_chain, check_chain, is_trusted};
 pub use dns_evidence::{
     Chain, IterationLimits, Limits, Link, LinkSignature, Listed, Steps, Trail, Verifier,
