@@ -53,7 +53,8 @@ timed of = judge of.answers of.anchors of.now
 abbrev untimed : Trust → Judge
 untimed of = judge_alone of.answers
 
-good_apart : (of : Trust) (owner : Labels) (class rtype : ℕ) (rdatas : List (List ℕ)) (sig : RrsigValue) (rdata : List ℕ)
+good_apart : (of : Trust) (owner : Labels) (class rtype : ℕ) (rdatas : List (List ℕ)) (sig : RrsigValue)
+    (rdata : List ℕ)
     (key : Option DnskeyValue)
     → is_good (timed of) owner class rtype rdatas sig rdata key
     ≡ (is_good (untimed of) owner class rtype rdatas sig rdata key && timely sig of.now)

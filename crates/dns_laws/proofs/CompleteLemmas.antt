@@ -15,7 +15,7 @@ use Rattle.dns_model.specs.Types.{class_in, type_soa, type_ds, type_opt, type_rr
 use Rattle.dns_model.specs.Records.{Rr, RrSet, Question, question_eq}
 use Rattle.dns_model.specs.Chains.{Judge}
 use Rattle.dns_model.specs.SoundAnswers.{Told, in_section}
-use Rattle.dns_model.specs.Trails.{AskedValue, JudgedSetValue}
+use Rattle.dns_model.specs.Trails.{AskedValue}
 use Rattle.dns_model.proofs.SetLemmas.{number_same, number_back}
 use Rattle.dns_model.proofs.QuestionLemmas.{same_parts, question_refl}
 use Rattle.dns_rules.specs.Asking.{Limits, effective, is_judged_at}
@@ -27,7 +27,7 @@ use Rattle.dns_rules.specs.Marks.{key_question}
 use Rattle.dns_rules.specs.Delegations.{ds_question}
 use Rattle.dns_rules.specs.CacheEntries.{EntryValue}
 use Rattle.dns_rules.specs.Derivation.{is_by_rules, judged_sets, finished_answer, if_answered, top_step, in_send_order, derivation}
-use Rattle.dns_rules.specs.DerivationParts.{step_context_of, steps_at}
+use Rattle.dns_rules.specs.DerivationParts.{steps_at}
 use Rattle.dns_rules.proofs.DerivedLemmas.{derivation_parts}
 use Rattle.dns_rules.proofs.SentLemmas.{numbered}
 use Rattle.dns_laws.specs.Complete.{Upstream, HeardAlong, AreAsked, are_secure, shows_secure, ProvesQuery}
@@ -40,7 +40,7 @@ use Rattle.dns_laws.proofs.KeyEntryLemmas.{IsOneOrNone, anchored_entry, ds_proof
 use Rattle.dns_laws.proofs.OrderPathLemmas.{none_met, none_ends}
 use Rattle.dns_laws.proofs.RankLemmas.{rank, name_lengths, same_rank, keys_lower, ds_lower}
 use Rattle.dns_laws.proofs.SecureRecordLemmas.{secure_records}
-use Rattle.dns_laws.proofs.PathLemmas.{Walk, IsAt, IsHere, here, HasEntry, ByRules, Served, rules, AreFirst, one_more, IsShown, shown_by, IsAsked, IsLower, asked_next}
+use Rattle.dns_laws.proofs.PathLemmas.{Walk, IsAt, here, HasEntry, ByRules, Served, rules, AreFirst, one_more, IsShown, Stand, context_at, entry_at, shown_by, IsAsked, IsLower, asked_next}
 
 -- ---- one set
 
@@ -93,23 +93,24 @@ ds_is_lower q next question ds same lower =
 -- ---- the end of the list
 
 -- the entry of the step's one set is by the rules
-abbrev IsByRules : {R : Type 0} → Walk R → ℕ → AskedValue → JudgedSetValue → RrSet → Type 0
-IsByRules w n step entry set = is_by_rules (step_context_of w.judge w.limits w.cached (take n w.trail) step) (in_section Answer set) entry ≡ true
+abbrev IsByRules : {R : Type 0} (w : Walk R) (q : Question) (rest : List Question) → Stand w q rest → Type 0
+IsByRules w q rest s = is_by_rules (context_at w q rest s) (in_section Answer s.set) (entry_at w q rest s) ≡ true
 
-shown_last : {R : Type 0} (w : Walk R) (q : Question) (r : R) (n : ℕ) (step : AskedValue) (met more : List ℕ) (set : RrSet)
-    → IsAt w q [] r n step met more → straight_set w.judge w.tells q ≡ Some set
-    → (h : IsHere w q r n step met more set) → IsByRules w n step h.straight.entry set
-    → (set.rtype == type_dnskey) ≡ true → is_anchored_set w.judge set ≡ true → IsShown w q [] n step more
-shown_last w q r n step met more set at is h by_rules keys anchored =
-    let g = step_context_of w.judge w.limits w.cached (take n w.trail) step in
-    let one = one_or_none w.judge q set (signed_or_anchored w.judge q h.told set h.one) in
-    let entry = anchored_entry g set h.straight.entry one keys anchored by_rules in
-    let none = h.asks ∙ entry.none in
-    let more_none = none_met w.trail n step met w.order h.on none in
-    let first : AreFirst w [] n =
-    record { front = []; unused = []; whole = refl; all = λ nothing. refl; number = none_ends w.trail n (n + 1) step h.ends none } in
-    shown_by w q [] r n step met more set at is h entry.mark first
-    (subst (λ ns. AreAsked [] (numbered w.trail ns)) (sym more_none) tt)
+shown_last : {R : Type 0} (w : Walk R) (q : Question) (s : Stand w q []) → IsByRules w q [] s
+    → (s.set.rtype == type_dnskey) ≡ true → is_anchored_set w.judge s.set ≡ true → IsShown w q [] s.n s.step s.more
+shown_last w q s by_rules keys anchored =
+    let one = one_or_none w.judge q s.set (signed_or_anchored w.judge q s.here.told s.set s.here.one) in
+    let entry = anchored_entry (context_at w q [] s) s.set (entry_at w q [] s) one keys anchored by_rules in
+    let none = s.here.asks ∙ entry.none in
+    let more_none = none_met w.trail s.n s.step s.met w.order s.here.on none in
+    let first : AreFirst w [] s.n = record {
+      front = [];
+      unused = [];
+      whole = refl;
+      all = λ nothing. refl;
+      number = none_ends w.trail s.n (s.n + 1) s.step s.here.ends none;
+    } in
+    shown_by w q [] s entry.mark first (subst (λ ns. AreAsked [] (numbered w.trail ns)) (sym more_none) tt)
 
 -- ---- the list goes on
 
@@ -142,93 +143,115 @@ next_set w next rest r n step met more ask above asked shown found =
       class = one.class;
     }
 
-shown_signed : {R : Type 0} (w : Walk R) (q next : Question) (rest : List Question) (r : R) (n : ℕ) (step : AskedValue) (met more : List ℕ) (set above : RrSet)
-    → (at : IsAt w q (next ∷ rest) r n step met more) → straight_set w.judge w.tells q ≡ Some set → straight_set w.judge w.tells next ≡ Some above
-    → (h : IsHere w q r n step met more set) → IsByRules w n step h.straight.entry set → (set.rtype == type_dnskey) ≡ false
-    → list_any (is_proved_by_keys w.judge set next above) set.signatures ≡ true → ShowsNext w next rest → IsShown w q (next ∷ rest) n step more
-shown_signed w q next rest r n step met more set above at is found h by_rules other proved later =
-    let g = step_context_of w.judge w.limits w.cached (take n w.trail) step in
-    let entry = h.straight.entry in
+shown_signed : {R : Type 0} (w : Walk R) (q next : Question) (rest : List Question) (s : Stand w q (next ∷ rest)) (above : RrSet)
+    → straight_set w.judge w.tells next ≡ Some above → IsByRules w q (next ∷ rest) s → (s.set.rtype == type_dnskey) ≡ false
+    → list_any (is_proved_by_keys w.judge s.set next above) s.set.signatures ≡ true → ShowsNext w next rest
+    → IsShown w q (next ∷ rest) s.n s.step s.more
+shown_signed w q next rest s above found by_rules other proved later =
+    let g = context_at w q (next ∷ rest) s in
+    let set = s.set in
+    let h = s.here in
+    let entry = entry_at w q (next ∷ rest) s in
     let signed = has_signature w.judge q set (signed_or_anchored w.judge q h.told set h.one) other in
-    let ask = keys_ask w.judge set next above signed.signature (only_one (is_proved_by_keys w.judge set next above) set.signatures signed.signature signed.alone proved) in
+    let ask = keys_ask w.judge set next above signed.signature
+    (only_one (is_proved_by_keys w.judge set next above) set.signatures signed.signature signed.alone proved) in
     let signer = ask.sig.signer in
     let question = key_question set.class signer in
-    let rtype : set.rtype ≡ step.query.rtype = h.one.rtype ∙ (same_parts q step.query at.same).rtype in
-    let itself = number_back type_dnskey step.query.rtype ∙ ap (λ t. t == type_dnskey) (sym rtype) ∙ other in
+    let rtype : s.set.rtype ≡ s.step.query.rtype = s.here.one.rtype ∙ (same_parts q s.step.query s.at.same).rtype in
+    let itself = number_back type_dnskey s.step.query.rtype ∙ ap (λ t. t == type_dnskey) (sym rtype) ∙ other in
     let by = one_ask g q next set above entry signed ask other itself by_rules in
     let lower = keys_lower set.rtype set.class set.owner signer q ask.fits other (sym h.one.rtype) (name_lengths q.owner set.owner h.one.owner) in
-    let asked = asked_next w q question next rest r n step met more set by.ask at h by.alone by.asks ask.next_is (keys_are_lower q next question refl ask.next_is lower) in
-    let shown = later (w.up.left r step.query) asked.m asked.asked (met ++ n ∷ []) h.on.more asked.at in
-    let keys = next_set w next rest r n step met h.on.more by.ask above asked shown found in
-    let plain : needs_no_denial set.rtype ≡ true = ap needs_no_denial h.one.rtype ∙ at.plain in
+    let asked = asked_next w q question next rest s.r s.n s.step s.met s.more set by.ask s.at h by.alone by.asks ask.next_is
+    (keys_are_lower q next question refl ask.next_is lower) in
+    let shown = later (w.up.left s.r s.step.query) asked.m asked.asked (s.met ++ s.n ∷ []) h.on.more asked.at in
+    let keys = next_set w next rest s.r s.n s.step s.met h.on.more by.ask above asked shown found in
+    let plain : needs_no_denial s.set.rtype ≡ true = ap needs_no_denial s.here.one.rtype ∙ s.at.plain in
     let mark = signed_mark g next set above signed.signature question entry keys.judged by ask keys.owner keys.rtype keys.class
     plain keys.answer keys.secure in
-    shown_by w q (next ∷ rest) r n step met more set at is h mark (one_more w next rest n asked.m asked.before shown.first) shown.asked
+    shown_by w q (next ∷ rest) s mark (one_more w next rest s.n asked.m asked.before shown.first) shown.asked
 
-shown_keys : {R : Type 0} (w : Walk R) (q next : Question) (rest : List Question) (r : R) (n : ℕ) (step : AskedValue) (met more : List ℕ) (set above : RrSet)
-    → (at : IsAt w q (next ∷ rest) r n step met more) → straight_set w.judge w.tells q ≡ Some set → straight_set w.judge w.tells next ≡ Some above
-    → (h : IsHere w q r n step met more set) → IsByRules w n step h.straight.entry set → (set.rtype == type_dnskey) ≡ true
-    → (not (is_anchored_set w.judge set) && is_proved_by_ds w.judge set next above) ≡ true → ShowsNext w next rest → IsShown w q (next ∷ rest) n step more
-shown_keys w q next rest r n step met more set above at is found h by_rules keys proved later =
-    let g = step_context_of w.judge w.limits w.cached (take n w.trail) step in
-    let entry = h.straight.entry in
+shown_keys : {R : Type 0} (w : Walk R) (q next : Question) (rest : List Question) (s : Stand w q (next ∷ rest)) (above : RrSet)
+    → straight_set w.judge w.tells next ≡ Some above → IsByRules w q (next ∷ rest) s → (s.set.rtype == type_dnskey) ≡ true
+    → (not (is_anchored_set w.judge s.set) && is_proved_by_ds w.judge s.set next above) ≡ true → ShowsNext w next rest
+    → IsShown w q (next ∷ rest) s.n s.step s.more
+shown_keys w q next rest s above found by_rules keys proved later =
+    let g = context_at w q (next ∷ rest) s in
+    let set = s.set in
+    let h = s.here in
+    let entry = entry_at w q (next ∷ rest) s in
     let one = one_or_none w.judge q set (signed_or_anchored w.judge q h.told set h.one) in
     let parts = and_parts (not (is_anchored_set w.judge set)) (is_proved_by_ds w.judge set next above) proved in
     let anchored = not-true (is_anchored_set w.judge set) parts.0 in
     let proof = ds_proof w.judge set next above parts.1 in
     let question = ds_question set.class set.owner in
     let by = ds_asked g set entry one keys anchored proof.root by_rules in
-    let rtype : set.rtype ≡ type_dnskey = number_same set.rtype type_dnskey keys in
-    let q_rtype : q.rtype ≡ type_dnskey = sym h.one.rtype ∙ rtype in
-    let lower = ds_lower set.class set.owner q (ap (λ t. t == type_dnskey) q_rtype) (ap (λ t. t == type_ds) q_rtype) (name_lengths q.owner set.owner h.one.owner) in
-    let asked = asked_next w q question next rest r n step met more set by.ask at h by.alone by.asks proof.next_is (ds_is_lower q next question refl proof.next_is lower) in
-    let shown = later (w.up.left r step.query) asked.m asked.asked (met ++ n ∷ []) h.on.more asked.at in
-    let ds = next_set w next rest r n step met h.on.more by.ask above asked shown found in
+    let rtype : s.set.rtype ≡ type_dnskey = number_same s.set.rtype type_dnskey keys in
+    let q_rtype : q.rtype ≡ type_dnskey = sym s.here.one.rtype ∙ rtype in
+    let lower = ds_lower set.class set.owner q (ap (λ t. t == type_dnskey) q_rtype) (ap (λ t. t == type_ds) q_rtype)
+    (name_lengths q.owner set.owner h.one.owner) in
+    let asked = asked_next w q question next rest s.r s.n s.step s.met s.more set by.ask s.at h by.alone by.asks proof.next_is
+    (ds_is_lower q next question refl proof.next_is lower) in
+    let shown = later (w.up.left s.r s.step.query) asked.m asked.asked (s.met ++ s.n ∷ []) h.on.more asked.at in
+    let ds = next_set w next rest s.r s.n s.step s.met h.on.more by.ask above asked shown found in
     let mark = ds_mark g next set above entry ds.judged one by anchored proof ds.owner ds.rtype ds.class ds.answer ds.secure in
-    shown_by w q (next ∷ rest) r n step met more set at is h mark (one_more w next rest n asked.m asked.before shown.first) shown.asked
+    shown_by w q (next ∷ rest) s mark (one_more w next rest s.n asked.m asked.before shown.first) shown.asked
 
-shown_next : {R : Type 0} (w : Walk R) (q next : Question) (rest : List Question) (r : R) (n : ℕ) (step : AskedValue) (met more : List ℕ) (set above : RrSet) (b : Bool)
-    → (at : IsAt w q (next ∷ rest) r n step met more) → straight_set w.judge w.tells q ≡ Some set → straight_set w.judge w.tells next ≡ Some above
-    → (h : IsHere w q r n step met more set) → IsByRules w n step h.straight.entry set → (set.rtype == type_dnskey) ≡ b
-    → (if b then not (is_anchored_set w.judge set) && is_proved_by_ds w.judge set next above
-    else list_any (is_proved_by_keys w.judge set next above) set.signatures) ≡ true
-    → ShowsNext w next rest → IsShown w q (next ∷ rest) n step more
-shown_next w q next rest r n step met more set above true at is found h by_rules keys proved later =
-    shown_keys w q next rest r n step met more set above at is found h by_rules keys proved later
-shown_next w q next rest r n step met more set above false at is found h by_rules keys proved later =
-    shown_signed w q next rest r n step met more set above at is found h by_rules keys proved later
+shown_next : {R : Type 0} (w : Walk R) (q next : Question) (rest : List Question) (s : Stand w q (next ∷ rest)) (above : RrSet) (b : Bool)
+    → straight_set w.judge w.tells next ≡ Some above → IsByRules w q (next ∷ rest) s → (s.set.rtype == type_dnskey) ≡ b
+    → (if b then not (is_anchored_set w.judge s.set) && is_proved_by_ds w.judge s.set next above
+    else list_any (is_proved_by_keys w.judge s.set next above) s.set.signatures) ≡ true
+    → ShowsNext w next rest → IsShown w q (next ∷ rest) s.n s.step s.more
+shown_next w q next rest s above true found by_rules keys proved later = shown_keys w q next rest s above found by_rules keys proved later
+shown_next w q next rest s above false found by_rules keys proved later = shown_signed w q next rest s above found by_rules keys proved later
 
 -- ---- the entry was kept, and ends the list
 
-shown_served : {R : Type 0} (w : Walk R) (q : Question) (rest : List Question) (r : R) (n : ℕ) (step : AskedValue) (met more : List ℕ) (set : RrSet)
-    → IsAt w q rest r n step met more → straight_set w.judge w.tells q ≡ Some set → (h : IsHere w q r n step met more set)
-    → h.straight.entry.asked ≡ [] → h.straight.entry.mark ≡ Secure → (w.cached ≡ [] → ⊥) → IsShown w q rest n step more
-shown_served w q rest r n step met more set at is h asked mark some =
-    let none = h.asks ∙ asked in
-    let more_none = none_met w.trail n step met w.order h.on none in
-    let first : AreFirst w rest n =
-    record { front = []; unused = rest; whole = refl; all = λ nothing. absurd (some nothing); number = none_ends w.trail n (n + 1) step h.ends none } in
-    shown_by w q rest r n step met more set at is h mark first
-    (subst (λ ns. AreAsked [] (numbered w.trail ns)) (sym more_none) tt)
+shown_served : {R : Type 0} (w : Walk R) (q : Question) (rest : List Question) (s : Stand w q rest)
+    → (entry_at w q rest s).asked ≡ [] → (entry_at w q rest s).mark ≡ Secure → (w.cached ≡ [] → ⊥)
+    → IsShown w q rest s.n s.step s.more
+shown_served w q rest s asked mark some =
+    let none = s.here.asks ∙ asked in
+    let more_none = none_met w.trail s.n s.step s.met w.order s.here.on none in
+    let first : AreFirst w rest s.n = record {
+      front = [];
+      unused = rest;
+      whole = refl;
+      all = λ nothing. absurd (some nothing);
+      number = none_ends w.trail s.n (s.n + 1) s.step s.here.ends none;
+    } in
+    shown_by w q rest s mark first (subst (λ ns. AreAsked [] (numbered w.trail ns)) (sym more_none) tt)
 
-last_by : {R : Type 0} (w : Walk R) (q : Question) (r : R) (n : ℕ) (step : AskedValue) (met more : List ℕ) (set : RrSet)
-    → IsAt w q [] r n step met more → straight_set w.judge w.tells q ≡ Some set → (h : IsHere w q r n step met more set)
-    → HasEntry (step_context_of w.judge w.limits w.cached (take n w.trail) step) (in_section Answer set) h.straight.entry
-    → (set.rtype == type_dnskey) ≡ true → is_anchored_set w.judge set ≡ true → IsShown w q [] n step more
-last_by w q r n step met more set at is h (ByRules by_rules) keys anchored = shown_last w q r n step met more set at is h by_rules keys anchored
-last_by w q r n step met more set at is h (Served asked mark some) keys anchored = shown_served w q [] r n step met more set at is h asked mark some
+-- the entry is by the rules, or was kept
+abbrev HasEntryAt : {R : Type 0} (w : Walk R) (q : Question) (rest : List Question) → Stand w q rest → Type 0
+HasEntryAt w q rest s = HasEntry (context_at w q rest s) (in_section Answer s.set) (entry_at w q rest s)
 
-next_by : {R : Type 0} (w : Walk R) (q next : Question) (rest : List Question) (r : R) (n : ℕ) (step : AskedValue) (met more : List ℕ) (set above : RrSet)
-    → (at : IsAt w q (next ∷ rest) r n step met more) → straight_set w.judge w.tells q ≡ Some set → straight_set w.judge w.tells next ≡ Some above
-    → (h : IsHere w q r n step met more set)
-    → HasEntry (step_context_of w.judge w.limits w.cached (take n w.trail) step) (in_section Answer set) h.straight.entry
-    → (if set.rtype == type_dnskey then not (is_anchored_set w.judge set) && is_proved_by_ds w.judge set next above
-    else list_any (is_proved_by_keys w.judge set next above) set.signatures) ≡ true
-    → ShowsNext w next rest → IsShown w q (next ∷ rest) n step more
-next_by w q next rest r n step met more set above at is found h (ByRules by_rules) proved later =
-    shown_next w q next rest r n step met more set above (set.rtype == type_dnskey) at is found h by_rules refl proved later
-next_by w q next rest r n step met more set above at is found h (Served asked mark some) proved later =
-    shown_served w q (next ∷ rest) r n step met more set at is h asked mark some
+last_by : {R : Type 0} (w : Walk R) (q : Question) (s : Stand w q []) → HasEntryAt w q [] s
+    → (s.set.rtype == type_dnskey) ≡ true → is_anchored_set w.judge s.set ≡ true → IsShown w q [] s.n s.step s.more
+last_by w q s (ByRules by_rules) keys anchored = shown_last w q s by_rules keys anchored
+last_by w q s (Served asked mark some) keys anchored = shown_served w q [] s asked mark some
+
+next_by : {R : Type 0} (w : Walk R) (q next : Question) (rest : List Question) (s : Stand w q (next ∷ rest)) (above : RrSet)
+    → straight_set w.judge w.tells next ≡ Some above → HasEntryAt w q (next ∷ rest) s
+    → (if s.set.rtype == type_dnskey then not (is_anchored_set w.judge s.set) && is_proved_by_ds w.judge s.set next above
+    else list_any (is_proved_by_keys w.judge s.set next above) s.set.signatures) ≡ true
+    → ShowsNext w next rest → IsShown w q (next ∷ rest) s.n s.step s.more
+next_by w q next rest s above found (ByRules by_rules) proved later =
+    shown_next w q next rest s above (s.set.rtype == type_dnskey) found by_rules refl proved later
+next_by w q next rest s above found (Served asked mark some) proved later = shown_served w q (next ∷ rest) s asked mark some
+
+abbrev stand : {R : Type 0} (w : Walk R) (q : Question) (rest : List Question) (r : R) (n : ℕ) (step : AskedValue) (met more : List ℕ) (set : RrSet)
+    → IsAt w q rest r n step met more → straight_set w.judge w.tells q ≡ Some set → Stand w q rest
+stand w q rest r n step met more set at is = record {
+  r = r;
+  n = n;
+  step = step;
+  met = met;
+  more = more;
+  set = set;
+  at = at;
+  straight = is;
+  here = here w q rest r n step met more set at is;
+}
 
 pub shown : {R : Type 0} (w : Walk R) (q : Question) (rest : List Question) (r : R) (n : ℕ) (step : AskedValue) (met more : List ℕ)
     → leads_to_anchor w.judge w.tells q rest ≡ true → IsAt w q rest r n step met more → IsShown w q rest n step more
@@ -236,15 +259,15 @@ unfolding leads_to_anchor
 shown w q [] r n step met more leads at =
     let set = passing (λ s. (s.rtype == type_dnskey) && is_anchored_set w.judge s) (straight_set w.judge w.tells q) leads in
     let parts = and_parts (set.value.rtype == type_dnskey) (is_anchored_set w.judge set.value) set.passes in
-    let h = here w q [] r n step met more set.value at set.found in
-    last_by w q r n step met more set.value at set.found h (rules w q r n step met more set.value h) parts.0 parts.1
+    let s = stand w q [] r n step met more set.value at set.found in
+    last_by w q s (rules w q r n step met more set.value s.here) parts.0 parts.1
 shown w q (next ∷ rest) r n step met more leads at =
     let test = λ (s : RrSet). option_map_or (is_proved_by w.judge s next) (straight_set w.judge w.tells next) false in
     let parts = and_parts (option_map_or test (straight_set w.judge w.tells q) false) (leads_to_anchor w.judge w.tells next rest) leads in
     let set = passing test (straight_set w.judge w.tells q) parts.0 in
     let above = passing (is_proved_by w.judge set.value next) (straight_set w.judge w.tells next) set.passes in
-    let h = here w q (next ∷ rest) r n step met more set.value at set.found in
-    next_by w q next rest r n step met more set.value above.value at set.found above.found h (rules w q r n step met more set.value h) above.passes
+    let s = stand w q (next ∷ rest) r n step met more set.value at set.found in
+    next_by w q next rest s above.value above.found (rules w q r n step met more set.value s.here) above.passes
     (λ r2 n2 step2 met2 more2 at2. shown w next rest r2 n2 step2 met2 more2 parts.1 at2)
 
 -- ---- the law
@@ -277,8 +300,10 @@ records_by w q rest n step more other is now =
     ∙ secure_records w.judge q is.told is.set is.judged now other is.one is.secure
 
 -- a derivation whose last step asks a query, and whose steps heard a session that is valid for it, proves it
-pub valid_session_is_proved : {R : Type 0} (up : Upstream R) (r : R) (j : Judge) (limits : Limits) (cached : List EntryValue) (q : Question) (trail : List AskedValue) (top : AskedValue)
-    → derivation j limits cached trail ≡ true → are_secure cached ≡ true → top_step trail ≡ Some top → question_eq q top.query ≡ true → HeardAlong up r (in_send_order trail)
+pub valid_session_is_proved : {R : Type 0} (up : Upstream R) (r : R) (j : Judge) (limits : Limits)
+    (cached : List EntryValue) (q : Question) (trail : List AskedValue) (top : AskedValue)
+    → derivation j limits cached trail ≡ true → are_secure cached ≡ true → top_step trail ≡ Some top
+    → question_eq q top.query ≡ true → HeardAlong up r (in_send_order trail)
     → (valid : IsValidSession j (up.tells r) limits.depth q) → ProvesQuery j cached (up.tells r) q valid.queries trail
 valid_session_is_proved {R = R} up r j limits cached q trail top derived secure last same heard valid =
     let g = derivation_parts j limits cached trail derived in

@@ -102,6 +102,8 @@ steps_deny j limits cached earlier (step ∷ steps) h =
     (step_denies j limits cached earlier step parts.0, steps_deny j limits cached (earlier ++ step ∷ []) steps parts.1)
 
 -- each judged step of a derivation that ends with an answer shows what it denies
-pub denials_hold : (j : Judge) (limits : Limits) (cached : List EntryValue) (trail : List AskedValue) → derivation j limits cached trail ≡ true
+pub denials_hold : (j : Judge) (limits : Limits) (cached : List EntryValue) (trail : List AskedValue)
+    → derivation j limits cached trail ≡ true
     → HasDenials trail
-denials_hold j limits cached trail h = steps_deny j (effective limits) cached [] trail (derivation_parts j limits cached trail h).hold
+denials_hold j limits cached trail h =
+    steps_deny j (effective limits) cached [] trail (derivation_parts j limits cached trail h).hold

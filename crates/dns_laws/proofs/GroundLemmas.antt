@@ -44,7 +44,8 @@ same_owner one two [] ys some of_one of_two same = cc
 same_owner one two (x ∷ xs) [] some of_one of_two same = cc
 same_owner one two (x ∷ xs) (y ∷ ys) some of_one of_two same =
     let alike : name_eq x.owner y.owner ≡ true =
-    ap (name_eq x.owner) (sym (owner_same x y ((and_parts (same_bytes x y) (pointwise same_bytes xs ys) same).0))) ∙ name_refl x.owner in
+    ap (name_eq x.owner) (sym (owner_same x y ((and_parts (same_bytes x y) (pointwise same_bytes xs ys) same).0)))
+    ∙ name_refl x.owner in
     let first = (and_parts (name_eq one.owner x.owner) (one.rtype == x.rtype) of_one.0).0 in
     let second = (and_parts (name_eq two.owner y.owner) (two.rtype == y.rtype) of_two.0).0 in
     name_trans two.owner y.owner one.owner second
@@ -182,7 +183,8 @@ step_grounded : (j : Judge) (limits : Limits) (earlier : List AskedValue) (step 
     → step_holds j limits [] earlier step ≡ true
     → StepGrounded (step_context_of j limits [] earlier step) (judged_sets step) step.sets
 unfolding step_holds
-step_grounded j limits earlier step settled h = heard_grounded (step_context_of j limits [] earlier step) step step.reply (settled, refl) h
+step_grounded j limits earlier step settled h =
+    heard_grounded (step_context_of j limits [] earlier step) step step.reply (settled, refl) h
 
 -- ---- one step after another
 

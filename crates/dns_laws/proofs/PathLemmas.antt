@@ -126,7 +126,9 @@ here w q rest r n step met more set at is =
 
 -- an entry that repeats another asks nothing; then its step is the first, and there is no other
 first_repeats : {R : Type 0} (w : Walk R) (q : Question) (r : R) (n k : ℕ) (step : AskedValue) (met more : List ℕ) (set : RrSet)
-    (h : IsHere w q r n step met more set) → is_by_origin (step_context_of w.judge w.limits w.cached (take n w.trail) step) (in_section Answer set) h.straight.entry (Repeat k) ≡ true → ⊥
+    (h : IsHere w q r n step met more set)
+    → is_by_origin (step_context_of w.judge w.limits w.cached (take n w.trail) step)
+    (in_section Answer set) h.straight.entry (Repeat k) ≡ true → ⊥
 first_repeats w q r n k step met more set h is =
     let g = step_context_of w.judge w.limits w.cached (take n w.trail) step in
     let placed = in_section Answer set in
@@ -153,7 +155,8 @@ secure_mark Indeterminate h = cc
 
 -- what was kept is Secure, and so is what it serves
 served_entry : (g : StepContext) (placed : PlacedSet) (entry : JudgedSetValue) → are_secure g.cached ≡ true
-    → (is_empty entry.asked && list_any (is_served_by g.judge g.query placed entry) g.cached) ≡ true → HasEntry g placed entry
+    → (is_empty entry.asked && list_any (is_served_by g.judge g.query placed entry) g.cached) ≡ true
+    → HasEntry g placed entry
 served_entry g placed entry secure is =
     let test = is_served_by g.judge g.query placed entry in
     let parts = and_parts (is_empty entry.asked) (list_any test g.cached) is in
@@ -166,8 +169,10 @@ served_entry g placed entry secure is =
 
 origin_rules : {R : Type 0} (w : Walk R) (q : Question) (r : R) (n : ℕ) (step : AskedValue) (met more : List ℕ) (set : RrSet)
     (h : IsHere w q r n step met more set) (origin : MarkOrigin)
-    → is_by_origin (step_context_of w.judge w.limits w.cached (take n w.trail) step) (in_section Answer set) h.straight.entry origin ≡ true
-    → HasEntry (step_context_of w.judge w.limits w.cached (take n w.trail) step) (in_section Answer set) h.straight.entry
+    → is_by_origin (step_context_of w.judge w.limits w.cached (take n w.trail) step)
+    (in_section Answer set) h.straight.entry origin ≡ true
+    → HasEntry (step_context_of w.judge w.limits w.cached (take n w.trail) step)
+    (in_section Answer set) h.straight.entry
 origin_rules w q r n step met more set h Table is = ByRules is
 origin_rules w q r n step met more set h (Repeat k) is = absurd (first_repeats w q r n k step met more set h is)
 origin_rules w q r n step met more set h Cache is =
@@ -175,7 +180,8 @@ origin_rules w q r n step met more set h Cache is =
 
 pub rules : {R : Type 0} (w : Walk R) (q : Question) (r : R) (n : ℕ) (step : AskedValue) (met more : List ℕ) (set : RrSet)
     (h : IsHere w q r n step met more set)
-    → HasEntry (step_context_of w.judge w.limits w.cached (take n w.trail) step) (in_section Answer set) h.straight.entry
+    → HasEntry (step_context_of w.judge w.limits w.cached (take n w.trail) step)
+    (in_section Answer set) h.straight.entry
 rules w q r n step met more set h = origin_rules w q r n step met more set h h.straight.entry.origin h.straight.origin
 
 -- ---- what a step comes to
@@ -189,7 +195,8 @@ pub record AreFirst {R : Type 0} (w : Walk R) (rest : List Question) (n : ℕ) :
   pub number : n ≡ length front
 
 -- and those of a list with one more query, which one more step asks
-pub one_more : {R : Type 0} (w : Walk R) (next : Question) (rest : List Question) (n m : ℕ) → n ≡ m + 1 → AreFirst w rest m → AreFirst w (next ∷ rest) n
+abbrev pub one_more : {R : Type 0} (w : Walk R) (next : Question) (rest : List Question) (n m : ℕ) → n ≡ m + 1
+    → AreFirst w rest m → AreFirst w (next ∷ rest) n
 one_more w next rest n m before first = record {
   front = next ∷ first.front;
   unused = first.unused;
@@ -212,26 +219,47 @@ pub record IsShown {R : Type 0} (w : Walk R) (q : Question) (rest : List Questio
   pub first : AreFirst w rest n
   pub asked : AreAsked (q ∷ first.front) (numbered w.trail more)
 
-pub shown_by : {R : Type 0} (w : Walk R) (q : Question) (rest : List Question) (r : R) (n : ℕ) (step : AskedValue) (met more : List ℕ) (set : RrSet)
-    → IsAt w q rest r n step met more → straight_set w.judge w.tells q ≡ Some set → (h : IsHere w q r n step met more set)
-    → h.straight.entry.mark ≡ Secure → (first : AreFirst w rest n) → AreAsked first.front (numbered w.trail h.on.more)
-    → IsShown w q rest n step more
-shown_by w q rest r n step met more set at is h mark first asked =
-    let placed = in_section Answer set in
-    let alone = one_judged w.judge q h.told set step.depth h.one (ap (is_judged_at step.depth) h.one.rtype ∙ at.kept) in
+-- a step at which a walk stands, with the set of the query's straight reply
+pub record Stand {R : Type 0} (w : Walk R) (q : Question) (rest : List Question) : Type 0 where
+  pub r : R
+  pub n : ℕ
+  pub step : AskedValue
+  pub met : List ℕ
+  pub more : List ℕ
+  pub set : RrSet
+  pub at : IsAt w q rest r n step met more
+  pub straight : straight_set w.judge w.tells q ≡ Some set
+  pub here : IsHere w q r n step met more set
+
+-- by what the sets of the step are judged
+abbrev pub context_at : {R : Type 0} (w : Walk R) (q : Question) (rest : List Question) → Stand w q rest → StepContext
+context_at w q rest s = step_context_of w.judge w.limits w.cached (take s.n w.trail) s.step
+
+-- the entry of its one set
+abbrev pub entry_at : {R : Type 0} (w : Walk R) (q : Question) (rest : List Question) → Stand w q rest → JudgedSetValue
+entry_at w q rest s = s.here.straight.entry
+
+pub shown_by : {R : Type 0} (w : Walk R) (q : Question) (rest : List Question) (s : Stand w q rest)
+    → (entry_at w q rest s).mark ≡ Secure → (first : AreFirst w rest s.n)
+    → AreAsked first.front (numbered w.trail s.here.on.more) → IsShown w q rest s.n s.step s.more
+shown_by w q rest s mark first asked =
+    let placed = in_section Answer s.set in
+    let entry = entry_at w q rest s in
+    let alone = one_judged w.judge q s.here.told s.set s.step.depth s.here.one (ap (is_judged_at s.step.depth) s.here.one.rtype ∙ s.at.kept) in
     record {
-      set = set;
-      straight = is;
-      told = h.told;
-      heard_it = h.heard_it;
-      one = h.one;
-      judged = with_entry (placed, h.straight.entry);
+      set = s.set;
+      straight = s.straight;
+      told = s.here.told;
+      heard_it = s.here.heard_it;
+      one = s.here.one;
+      judged = with_entry (placed, entry);
       secure = record { section = refl; is = refl; mark = mark };
-      sets = ap (λ o. option_map_or (λ told. with_entries (judged_part step.depth told) step.sets) o []) h.heard_it
-          ∙ ap (λ ps. with_entries ps step.sets) alone ∙ ap (with_entries (placed ∷ [])) h.straight.sets;
-      ending = h.straight.ending;
+      sets = ap (λ o. option_map_or (λ told. with_entries (judged_part s.step.depth told) s.step.sets) o []) s.here.heard_it
+          ∙ ap (λ ps. with_entries ps s.step.sets) alone ∙ ap (with_entries (placed ∷ [])) s.here.straight.sets;
+      ending = s.here.straight.ending;
       first = first;
-      asked = subst (AreAsked (q ∷ first.front)) (sym (ap (numbered w.trail) h.next ∙ ap (λ o. cons_option o (numbered w.trail h.on.more)) at.found)) (at.same, asked);
+      asked = subst (AreAsked (q ∷ first.front))
+          (sym (ap (numbered w.trail) s.here.next ∙ ap (λ o. cons_option o (numbered w.trail s.here.on.more)) s.at.found)) (s.at.same, asked);
     }
 
 -- ---- the step that is asked

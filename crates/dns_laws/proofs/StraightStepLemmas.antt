@@ -222,7 +222,8 @@ answered_same Failed h = cc
 answered_same Seen h = cc
 
 -- a judged step that heard records holds by the first of another class
-pub judged_step : (j : Judge) (limits : Limits) (cached : List EntryValue) (earlier : List AskedValue) (step : AskedValue) (told : Told)
+pub judged_step : (j : Judge) (limits : Limits) (cached : List EntryValue) (earlier : List AskedValue)
+    (step : AskedValue) (told : Told)
     → step_holds j limits cached earlier step ≡ true
     → step.judged ≡ true → told_in step.reply ≡ Some told
     → judged_holds (step_context_of j limits cached earlier step) step told (foreign_record step.query told) ≡ true
@@ -240,7 +241,8 @@ pub record IsStraightStep (g : StepContext) (set : RrSet) (step : AskedValue) : 
   pub ending : step.ending ≡ Answered denial.None
   pub excuse : step.excuse ≡ []
 
-pub straight_step : (j : Judge) (limits : Limits) (cached : List EntryValue) (earlier : List AskedValue) (step : AskedValue) (q : Question)
+pub straight_step : (j : Judge) (limits : Limits) (cached : List EntryValue) (earlier : List AskedValue)
+    (step : AskedValue) (q : Question)
     (told : Told) (set : RrSet)
     → step_holds j limits cached earlier step ≡ true → step.judged ≡ true → told_in step.reply ≡ Some told
     → question_eq q step.query ≡ true

@@ -240,7 +240,8 @@ heard_asks g step Fault h = bare_asks g step ((and_parts (is_failed step.ending)
 heard_asks g step (Records told empty) h = records_asks g step told step.judged h
 
 -- a step that holds asks by the steps before it
-pub step_asks : (j : Judge) (limits : Limits) (cached : List EntryValue) (earlier : List AskedValue) (step : AskedValue) → step_holds j limits cached earlier step ≡ true
+pub step_asks : (j : Judge) (limits : Limits) (cached : List EntryValue) (earlier : List AskedValue)
+    (step : AskedValue) → step_holds j limits cached earlier step ≡ true
     → AreAsksOf (step_context_of j limits cached earlier step) (asks_of step)
 unfolding step_holds
 step_asks j limits cached earlier step h = heard_asks (step_context_of j limits cached earlier step) step step.reply h

@@ -28,7 +28,8 @@ as_suc b step = let longer = length_push b step in omega arith
 pub top_step_is : (b : List AskedValue) (step : AskedValue) → top_step (b ++ step ∷ []) ≡ Some step
 top_step_is b step = ap (slice_get (b ++ step ∷ [])) (last_number b step) ∙ slice_get_appended b step []
 
-pub send_order_is : (j : Judge) (limits : Limits) (cached : List EntryValue) (b : List AskedValue) (step : AskedValue) (m : ℕ) (p : TrailPart j limits cached [] b (asks_of step) 1 m)
+pub send_order_is : (j : Judge) (limits : Limits) (cached : List EntryValue) (b : List AskedValue) (step : AskedValue)
+    (m : ℕ) (p : TrailPart j limits cached [] b (asks_of step) 1 m)
     → send_order (b ++ step ∷ []) ≡ Some (length b ∷ p.order)
 send_order_is j limits cached b step m p =
     let trail = b ++ step ∷ [] in
@@ -38,7 +39,8 @@ send_order_is j limits cached b step m p =
 
 -- ---- how many steps
 
-pub top_counts : (j : Judge) (limits : Limits) (cached : List EntryValue) (b : List AskedValue) (step : AskedValue) (m : ℕ) → TrailPart j limits cached [] b (asks_of step) 1 m
+pub top_counts : (j : Judge) (limits : Limits) (cached : List EntryValue) (b : List AskedValue) (step : AskedValue)
+    (m : ℕ) → TrailPart j limits cached [] b (asks_of step) 1 m
     → length (b ++ step ∷ []) ≡ m
 top_counts j limits cached b step m p =
     let longer = part_grows j limits cached [] b (asks_of step) 1 m p in
@@ -59,7 +61,8 @@ once_or_top b k within = grind (arith, nat_tests)
 pub one_is_one : (n : ℕ) → n ≡ 1 → (n == 1) ≡ true
 one_is_one n is = grind (arith, nat_tests)
 
-top_once : (j : Judge) (limits : Limits) (cached : List EntryValue) (b : List AskedValue) (step : AskedValue) (m : ℕ) (p : TrailPart j limits cached [] b (asks_of step) 1 m)
+top_once : (j : Judge) (limits : Limits) (cached : List EntryValue) (b : List AskedValue) (step : AskedValue) (m : ℕ)
+    (p : TrailPart j limits cached [] b (asks_of step) 1 m)
     → is_each_met_once (length (b ++ step ∷ [])) (Some (length b ∷ p.order)) ≡ true
 top_once j limits cached b step m p =
     let one = length_push b step in
@@ -74,7 +77,8 @@ same_some : (a b : ℕ) (o : Option ℕ) → o ≡ Some a → a ≡ b → option
 same_some a b o is same = ap (λ x. option_eq nat_eq x (Some b)) is ∙ ap (λ x. nat_eq x b) same ∙ nat_same b
 
 -- the steps of the trail end in the order of their numbers
-top_ends : (j : Judge) (limits : Limits) (cached : List EntryValue) (b : List AskedValue) (step : AskedValue) (m : ℕ) (p : TrailPart j limits cached [] b (asks_of step) 1 m)
+top_ends : (j : Judge) (limits : Limits) (cached : List EntryValue) (b : List AskedValue) (step : AskedValue) (m : ℕ)
+    (p : TrailPart j limits cached [] b (asks_of step) 1 m)
     → option_eq nat_eq (end_step (length (b ++ step ∷ [])) (b ++ step ∷ []) (length (b ++ step ∷ []) - 1) 0) (Some (length (b ++ step ∷ []))) ≡ true
 top_ends j limits cached b step m p =
     let one : length (b ++ step ∷ []) ≡ suc (length b) = as_suc b step in
@@ -94,7 +98,8 @@ pub record IsTopOf (j : Judge) (d : Limits) (cached : List EntryValue) (b : List
   pub top : is_top (Some step) ≡ true
   pub few : m ≤ most_sends
 
-pub top_derivation : (j : Judge) (d : Limits) (cached : List EntryValue) (b : List AskedValue) (step : AskedValue) (m : ℕ) → IsTopOf j d cached b step m → derivation j d cached (b ++ step ∷ []) ≡ true
+pub top_derivation : (j : Judge) (d : Limits) (cached : List EntryValue) (b : List AskedValue) (step : AskedValue)
+    (m : ℕ) → IsTopOf j d cached b step m → derivation j d cached (b ++ step ∷ []) ≡ true
 unfolding derivation has_order
 top_derivation j d cached b step m top =
     let trail = b ++ step ∷ [] in
@@ -103,7 +108,8 @@ top_derivation j d cached b step m top =
     let is_short : nat_le (length trail) most_sends ≡ true = le-leb (length trail) most_sends (omega (arith, top.few)) in
     let is_top_step : is_top (top_step trail) ≡ true = ap is_top (top_step_is b step) ∙ top.top in
     let once : is_each_met_once (length trail) (send_order trail) ≡ true =
-    ap (is_each_met_once (length trail)) (send_order_is j (effective d) cached b step m p) ∙ top_once j (effective d) cached b step m p in
+    ap (is_each_met_once (length trail)) (send_order_is j (effective d) cached b step m p)
+    ∙ top_once j (effective d) cached b step m p in
     let whole : b ≡ p.more = p.grown in
     let hold : steps_hold j (effective d) cached [] trail ≡ true =
     steps_hold_more j (effective d) cached [] b step (subst (λ t. steps_hold j (effective d) cached [] t ≡ true) (sym whole) p.hold) top.holds in
@@ -116,9 +122,11 @@ top_derivation j d cached b step m top =
     hold
 
 -- its steps in the order of the sends: the top step, and what its asks sent
-pub top_sent : (j : Judge) (limits : Limits) (cached : List EntryValue) (b : List AskedValue) (step : AskedValue) (m : ℕ) (p : TrailPart j limits cached [] b (asks_of step) 1 m)
+pub top_sent : (j : Judge) (limits : Limits) (cached : List EntryValue) (b : List AskedValue) (step : AskedValue)
+    (m : ℕ) (p : TrailPart j limits cached [] b (asks_of step) 1 m)
     → in_send_order (b ++ step ∷ []) ≡ step ∷ part_sent p
 top_sent j limits cached b step m p =
     let trail = b ++ step ∷ [] in
-    ap (steps_at trail) (send_order_is j limits cached b step m p) ∙ ap (λ o. cons_option o (numbered trail p.order)) (slice_get_appended b step [])
+    ap (steps_at trail) (send_order_is j limits cached b step m p)
+    ∙ ap (λ o. cons_option o (numbered trail p.order)) (slice_get_appended b step [])
     ∙ ap (λ t. step ∷ t) (sent_stays j limits cached [] b (asks_of step) 1 m p (step ∷ []))

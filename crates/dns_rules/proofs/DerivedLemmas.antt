@@ -55,7 +55,8 @@ each_once n (Some order) h = record {
   once = λ k below. number_same (times k order) 1 (each_in_range (λ i. count_by (λ m. i == m) order == 1) 0 n h k (omega arith) (omega arith));
 }
 
-pub derivation_parts : (j : Judge) (d : Limits) (cached : List EntryValue) (trail : List AskedValue) → derivation j d cached trail ≡ true → Derived j d cached trail
+pub derivation_parts : (j : Judge) (d : Limits) (cached : List EntryValue) (trail : List AskedValue)
+    → derivation j d cached trail ≡ true → Derived j d cached trail
 unfolding derivation has_order
 derivation_parts j d cached trail h =
     let once = is_each_met_once (length trail) (send_order trail) in
@@ -76,13 +77,15 @@ derivation_parts j d cached trail h =
 -- ---- each step by those before it
 
 -- a step holds by the steps before it
-pub steps_hold_at : (j : Judge) (limits : Limits) (cached : List EntryValue) (earlier steps : List AskedValue) (n : ℕ) (step : AskedValue) → steps_hold j limits cached earlier steps ≡ true
+pub steps_hold_at : (j : Judge) (limits : Limits) (cached : List EntryValue) (earlier steps : List AskedValue) (n : ℕ)
+    (step : AskedValue) → steps_hold j limits cached earlier steps ≡ true
     → slice_get steps n ≡ Some step → step_holds j limits cached (earlier ++ take n steps) step ≡ true
 unfolding steps_hold
 steps_hold_at j limits cached earlier [] n step h is = cc
 steps_hold_at j limits cached earlier (s ∷ steps) zero step h is =
     let same : s ≡ step = cc in
-    ap (λ t. step_holds j limits cached t step) (append-nil earlier) ∙ ap (step_holds j limits cached earlier) (sym same)
+    ap (λ t. step_holds j limits cached t step) (append-nil earlier)
+    ∙ ap (step_holds j limits cached earlier) (sym same)
     ∙ (and_parts (step_holds j limits cached earlier s) (steps_hold j limits cached (earlier ++ s ∷ []) steps) h).0
 steps_hold_at j limits cached earlier (s ∷ steps) (suc n) step h is =
     let rest = (and_parts (step_holds j limits cached earlier s) (steps_hold j limits cached (earlier ++ s ∷ []) steps) h).1 in
@@ -95,7 +98,8 @@ pub record IsWithin (limits : Limits) (trail : List AskedValue) (n : ℕ) : Type
   pub found : slice_get trail n ≡ Some step
   pub within : step.depth ≤ limits.depth
 
-ask_within : (j : Judge) (limits : Limits) (cached : List EntryValue) (trail : List AskedValue) (n : ℕ) (step : AskedValue) (ask : AskRef) → step.depth ≤ limits.depth
+ask_within : (j : Judge) (limits : Limits) (cached : List EntryValue) (trail : List AskedValue) (n : ℕ)
+    (step : AskedValue) (ask : AskRef) → step.depth ≤ limits.depth
     → IsAskOf (step_context_of j limits cached (take n trail) step) ask → OfAsk (IsWithin limits trail) ask
 ask_within j limits cached trail n step TooDeep asker h = tt
 ask_within j limits cached trail n step TooMany asker h = tt
@@ -113,7 +117,8 @@ same_within limits trail n step here is =
     let same : here.step ≡ step = cc (here.found, is) in
     subst (λ s. s.depth ≤ limits.depth) same here.within
 
-hands_on : (j : Judge) (limits : Limits) (cached : List EntryValue) (trail : List AskedValue) → steps_hold j limits cached [] trail ≡ true → HandsOn (IsWithin limits trail) trail
+hands_on : (j : Judge) (limits : Limits) (cached : List EntryValue) (trail : List AskedValue)
+    → steps_hold j limits cached [] trail ≡ true → HandsOn (IsWithin limits trail) trail
 hands_on j limits cached trail hold = record {
   on = λ n step here is.
       let g = step_context_of j limits cached (take n trail) step in
@@ -122,7 +127,8 @@ hands_on j limits cached trail hold = record {
 }
 
 -- the order of the sends begins with the last step, and holds numbers of steps that aren't too deep
-pub order_begins : (j : Judge) (d : Limits) (cached : List EntryValue) (trail : List AskedValue) (g : Derived j d cached trail)
+pub order_begins : (j : Judge) (d : Limits) (cached : List EntryValue) (trail : List AskedValue)
+    (g : Derived j d cached trail)
     → BeginsWith (IsWithin (effective d) trail) (length trail - 1) g.sent.order
 order_begins j d cached trail g =
     let top : IsWithin (effective d) trail (length trail - 1) =
@@ -142,7 +148,8 @@ of_each Q [] each k h = absurd (omega arith)
 of_each Q (x ∷ xs) each k h = stands_once Q k x xs (k == x) refl h each.0 (λ rest. of_each Q xs each.1 k rest)
 
 -- each step of a derivation is at most as deep as asks go
-pub derivation_depths : (j : Judge) (d : Limits) (cached : List EntryValue) (trail : List AskedValue) → derivation j d cached trail ≡ true → All (λ step. step.depth ≤ depth_limit d.depth) trail
+pub derivation_depths : (j : Judge) (d : Limits) (cached : List EntryValue) (trail : List AskedValue)
+    → derivation j d cached trail ≡ true → All (λ step. step.depth ≤ depth_limit d.depth) trail
 derivation_depths j d cached trail h = λ k other below.
     let g = derivation_parts j d cached trail h in
     let here = of_each (IsWithin (effective d) trail) g.sent.order ((order_begins j d cached trail g).each) k (g.sent.once k below) in
@@ -155,7 +162,8 @@ below_each limits trail order each =
     each_more (IsWithin limits trail) (λ i. i < length trail) (λ i h. slice_get_within trail i h.step h.found) order each
 
 -- the order of the sends has as many numbers as there are steps
-pub derivation_counts : (j : Judge) (d : Limits) (cached : List EntryValue) (trail : List AskedValue) (order : List ℕ) → derivation j d cached trail ≡ true → send_order trail ≡ Some order
+pub derivation_counts : (j : Judge) (d : Limits) (cached : List EntryValue) (trail : List AskedValue) (order : List ℕ)
+    → derivation j d cached trail ≡ true → send_order trail ≡ Some order
     → length order ≡ length trail
 derivation_counts j d cached trail order h is =
     let g = derivation_parts j d cached trail h in
@@ -170,11 +178,13 @@ numbered_as_many limits trail (x ∷ xs) each =
     ap (λ o. length (cons_option o (numbered trail xs))) each.0.found ∙ ap suc (numbered_as_many limits trail xs each.1)
 
 -- as many steps were sent as the trail has
-pub derivation_sent : (j : Judge) (d : Limits) (cached : List EntryValue) (trail : List AskedValue) → derivation j d cached trail ≡ true → length (in_send_order trail) ≡ length trail
+pub derivation_sent : (j : Judge) (d : Limits) (cached : List EntryValue) (trail : List AskedValue)
+    → derivation j d cached trail ≡ true → length (in_send_order trail) ≡ length trail
 derivation_sent j d cached trail h =
     let g = derivation_parts j d cached trail h in
     ap (λ o. length (steps_at trail o)) g.sent.found
-    ∙ numbered_as_many (effective d) trail g.sent.order ((order_begins j d cached trail g).each) ∙ derivation_counts j d cached trail g.sent.order h g.sent.found
+    ∙ numbered_as_many (effective d) trail g.sent.order ((order_begins j d cached trail g).each)
+    ∙ derivation_counts j d cached trail g.sent.order h g.sent.found
 
 -- ---- the top step first
 
@@ -187,7 +197,8 @@ pub record TopFirst (trail : List AskedValue) : Type 0 where
   pub depth : top.depth ≡ 0
   pub first : in_send_order trail ≡ top ∷ others
 
-pub derivation_first : (j : Judge) (d : Limits) (cached : List EntryValue) (trail : List AskedValue) → derivation j d cached trail ≡ true → TopFirst trail
+pub derivation_first : (j : Judge) (d : Limits) (cached : List EntryValue) (trail : List AskedValue)
+    → derivation j d cached trail ≡ true → TopFirst trail
 derivation_first j d cached trail h =
     let g = derivation_parts j d cached trail h in
     let begins = order_begins j d cached trail g in

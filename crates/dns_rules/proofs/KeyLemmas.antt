@@ -32,9 +32,11 @@ wire_tells (l ∷ a) (m ∷ b) h =
     let long : length l ≡ length m = head_same (length l) (length m) (l ++ wire a) (m ++ wire b) h in
     let rest : l ++ wire a ≡ m ++ wire b = tail_same (length l) (length m) (l ++ wire a) (m ++ wire b) h in
     let first : l ≡ m =
-    sym (take-append_seam l (wire a)) ∙ ap (take (length l)) rest ∙ ap (λ k. take k (m ++ wire b)) long ∙ take-append_seam m (wire b) in
+    sym (take-append_seam l (wire a)) ∙ ap (take (length l)) rest ∙ ap (λ k. take k (m ++ wire b)) long
+    ∙ take-append_seam m (wire b) in
     let more : wire a ≡ wire b =
-    sym (drop-append_seam l (wire a)) ∙ ap (drop (length l)) rest ∙ ap (λ k. drop k (m ++ wire b)) long ∙ drop-append_seam m (wire b) in
+    sym (drop-append_seam l (wire a)) ∙ ap (drop (length l)) rest ∙ ap (λ k. drop k (m ++ wire b)) long
+    ∙ drop-append_seam m (wire b) in
     let others : a ≡ b = wire_tells a b more in
     ap (λ k. k ∷ a) first ∙ ap (λ t. m ∷ t) others
 

@@ -25,7 +25,8 @@ between_none a i = grind (arith, nat_tests)
 
 part_still : (j : Judge) (limits : Limits) (cached : List EntryValue) (b : List AskedValue) (asks : List AskRef) (n : ℕ)
     → ((visit : ℕ → List ℕ → Option (List ℕ)) (k : ℕ) (met : List ℕ) → length met ≡ n → order_asks visit k asks met ≡ Some met)
-    → ((visit : ℕ → ℕ → Option ℕ) (ended : ℕ) → end_asks visit asks ended ≡ Some ended) → TrailPart j limits cached b b asks n n
+    → ((visit : ℕ → ℕ → Option ℕ) (ended : ℕ) → end_asks visit asks ended ≡ Some ended)
+    → TrailPart j limits cached b b asks n n
 unfolding steps_hold
 part_still j limits cached b asks n still ends = record {
   more = [];
@@ -39,20 +40,26 @@ part_still j limits cached b asks n still ends = record {
   alike = refl;
 }
 
-pub part_none : (j : Judge) (limits : Limits) (cached : List EntryValue) (b : List AskedValue) (n : ℕ) → TrailPart j limits cached b b [] n n
+pub part_none : (j : Judge) (limits : Limits) (cached : List EntryValue) (b : List AskedValue) (n : ℕ)
+    → TrailPart j limits cached b b [] n n
 part_none j limits cached b n = part_still j limits cached b [] n (λ visit k met long. order_none visit k met) end_none
 
 -- an ask that would be too deep
-pub part_deep : (j : Judge) (limits : Limits) (cached : List EntryValue) (b : List AskedValue) (n : ℕ) → TrailPart j limits cached b b (TooDeep ∷ []) n n
-part_deep j limits cached b n = part_still j limits cached b (TooDeep ∷ []) n (λ visit k met long. order_deep visit k met) end_deep
+pub part_deep : (j : Judge) (limits : Limits) (cached : List EntryValue) (b : List AskedValue) (n : ℕ)
+    → TrailPart j limits cached b b (TooDeep ∷ []) n n
+part_deep j limits cached b n =
+    part_still j limits cached b (TooDeep ∷ []) n (λ visit k met long. order_deep visit k met) end_deep
 
 -- an ask that would be one too many
-pub part_many : (j : Judge) (limits : Limits) (cached : List EntryValue) (b : List AskedValue) (n : ℕ) → most_sends ≤ n → TrailPart j limits cached b b (TooMany ∷ []) n n
-part_many j limits cached b n many = part_still j limits cached b (TooMany ∷ []) n (λ visit k met long. order_many visit k met (omega arith)) end_many
+pub part_many : (j : Judge) (limits : Limits) (cached : List EntryValue) (b : List AskedValue) (n : ℕ)
+    → most_sends ≤ n → TrailPart j limits cached b b (TooMany ∷ []) n n
+part_many j limits cached b n many =
+    part_still j limits cached b (TooMany ∷ []) n (λ visit k met long. order_many visit k met (omega arith)) end_many
 
 -- ---- one part after another
 
-pub steps_hold-append : (j : Judge) (limits : Limits) (cached : List EntryValue) (earlier xs ys : List AskedValue) → steps_hold j limits cached earlier xs ≡ true
+pub steps_hold-append : (j : Judge) (limits : Limits) (cached : List EntryValue) (earlier xs ys : List AskedValue)
+    → steps_hold j limits cached earlier xs ≡ true
     → steps_hold j limits cached (earlier ++ xs) ys ≡ true → steps_hold j limits cached earlier (xs ++ ys) ≡ true
 unfolding steps_hold
 steps_hold-append j limits cached earlier [] ys h k = rw append-nil at k
@@ -72,12 +79,16 @@ then_met visit n xs ys met first second h k =
     order_asks-append visit n xs ys met ∙ ap (λ o. and_then_some o (order_asks visit n ys)) h ∙ k ∙ ap Some (append_assoc met first second)
 
 -- a part gives no fewer steps than there were
-pub part_grows : (j : Judge) (limits : Limits) (cached : List EntryValue) (before after : List AskedValue) (asks : List AskRef) (n m : ℕ) (p : TrailPart j limits cached before after asks n m)
+pub part_grows : (j : Judge) (limits : Limits) (cached : List EntryValue) (before after : List AskedValue)
+    (asks : List AskRef) (n m : ℕ) (p : TrailPart j limits cached before after asks n m)
     → length after ≡ length before + length p.order
-part_grows j limits cached before after asks n m p = ap length p.grown ∙ length-append before p.more ∙ ap (λ k. length before + k) (sym p.alike)
+part_grows j limits cached before after asks n m p =
+    ap length p.grown ∙ length-append before p.more ∙ ap (λ k. length before + k) (sym p.alike)
 
-pub part_then : (j : Judge) (limits : Limits) (cached : List EntryValue) (a b c : List AskedValue) (xs ys : List AskRef) (n k m : ℕ)
-    → TrailPart j limits cached a b xs n k → TrailPart j limits cached b c ys k m → TrailPart j limits cached a c (xs ++ ys) n m
+pub part_then : (j : Judge) (limits : Limits) (cached : List EntryValue) (a b c : List AskedValue)
+    (xs ys : List AskRef) (n k m : ℕ)
+    → TrailPart j limits cached a b xs n k → TrailPart j limits cached b c ys k m
+    → TrailPart j limits cached a c (xs ++ ys) n m
 part_then j limits cached a b c xs ys n k m first second =
     let longer = part_grows j limits cached a b xs n k first in
     let longer_still = part_grows j limits cached b c ys k m second in
@@ -112,14 +123,17 @@ part_then j limits cached a b c xs ys n k m first second =
 pub between_one : (a b i : ℕ) → a ≤ b → (if i == b then 1 else 0) + once_between a b i ≡ once_between a (b + 1) i
 between_one a b i first = grind (arith, nat_tests)
 
-pub steps_hold_more : (j : Judge) (limits : Limits) (cached : List EntryValue) (earlier xs : List AskedValue) (step : AskedValue) → steps_hold j limits cached earlier xs ≡ true
-    → step_holds j limits cached (earlier ++ xs) step ≡ true → steps_hold j limits cached earlier (xs ++ step ∷ []) ≡ true
+pub steps_hold_more : (j : Judge) (limits : Limits) (cached : List EntryValue) (earlier xs : List AskedValue)
+    (step : AskedValue) → steps_hold j limits cached earlier xs ≡ true
+    → step_holds j limits cached (earlier ++ xs) step ≡ true
+    → steps_hold j limits cached earlier (xs ++ step ∷ []) ≡ true
 unfolding steps_hold
 steps_hold_more j limits cached earlier xs step h k =
     steps_hold-append j limits cached earlier xs (step ∷ []) h (and_from (step_holds j limits cached (earlier ++ xs) step) true k refl)
 
 -- the step at the end of some steps is met, and what it asks after it
-pub step_met : (j : Judge) (limits : Limits) (cached : List EntryValue) (a b : List AskedValue) (step : AskedValue) (n m : ℕ) (p : TrailPart j limits cached a b (asks_of step) (n + 1) m)
+pub step_met : (j : Judge) (limits : Limits) (cached : List EntryValue) (a b : List AskedValue) (step : AskedValue)
+    (n m : ℕ) (p : TrailPart j limits cached a b (asks_of step) (n + 1) m)
     → (later : List AskedValue) (above : ℕ) (met : List ℕ) → length met ≡ n → length b ≤ above
     → order_step (suc above) (b ++ step ∷ later) (length b) met ≡ Some (met ++ length b ∷ p.order)
 step_met j limits cached a b step n m p later above met long up_to =
@@ -127,7 +141,8 @@ step_met j limits cached a b step n m p later above met long up_to =
     ∙ p.met (step ∷ later) above (length b) (met ++ length b ∷ []) (length_push met (length b) ∙ ap (λ k. k + 1) long) up_to (omega arith)
     ∙ ap Some (append_assoc met (length b ∷ []) p.order)
 
-step_met_in : (j : Judge) (limits : Limits) (cached : List EntryValue) (a b : List AskedValue) (step : AskedValue) (n m : ℕ) (p : TrailPart j limits cached a b (asks_of step) (n + 1) m)
+step_met_in : (j : Judge) (limits : Limits) (cached : List EntryValue) (a b : List AskedValue) (step : AskedValue)
+    (n m : ℕ) (p : TrailPart j limits cached a b (asks_of step) (n + 1) m)
     → (later : List AskedValue) (above k : ℕ) (met : List ℕ) → n < most_sends → length met ≡ n → length b < above → length b < k
     → order_asks (order_step above (b ++ step ∷ later)) k (Step (length b) ∷ []) met ≡ Some (met ++ length b ∷ p.order)
 step_met_in j limits cached a b step n m p later zero k met few long up_to before = absurd (omega arith)
@@ -135,7 +150,8 @@ step_met_in j limits cached a b step n m p later (suc above) k met few long up_t
     order_one (order_step (suc above) (b ++ step ∷ later)) k (length b) met (met ++ length b ∷ p.order) before (omega arith)
     (step_met j limits cached a b step n m p later above met long (omega arith))
 
-step_ends_in : (j : Judge) (limits : Limits) (cached : List EntryValue) (a b : List AskedValue) (step : AskedValue) (n m : ℕ) (p : TrailPart j limits cached a b (asks_of step) (n + 1) m)
+step_ends_in : (j : Judge) (limits : Limits) (cached : List EntryValue) (a b : List AskedValue) (step : AskedValue)
+    (n m : ℕ) (p : TrailPart j limits cached a b (asks_of step) (n + 1) m)
     → (later : List AskedValue) (above : ℕ) → length b < above
     → end_asks (end_step above (b ++ step ∷ later)) (Step (length b) ∷ []) (length a) ≡ Some (length b + 1)
 step_ends_in j limits cached a b step n m p later zero up_to = absurd (omega arith)
@@ -143,8 +159,10 @@ step_ends_in j limits cached a b step n m p later (suc above) up_to =
     end_one (end_step (suc above) (b ++ step ∷ later)) (length b) (length a) (length b + 1)
     (end_step_at above b later step (length a) (p.ends (step ∷ later) above (omega arith)))
 
-pub part_step : (j : Judge) (limits : Limits) (cached : List EntryValue) (a b : List AskedValue) (step : AskedValue) (n m : ℕ) → TrailPart j limits cached a b (asks_of step) (n + 1) m
-    → n < most_sends → step_holds j limits cached b step ≡ true → TrailPart j limits cached a (b ++ step ∷ []) (Step (length b) ∷ []) n m
+pub part_step : (j : Judge) (limits : Limits) (cached : List EntryValue) (a b : List AskedValue) (step : AskedValue)
+    (n m : ℕ) → TrailPart j limits cached a b (asks_of step) (n + 1) m
+    → n < most_sends → step_holds j limits cached b step ≡ true
+    → TrailPart j limits cached a (b ++ step ∷ []) (Step (length b) ∷ []) n m
 part_step j limits cached a b step n m p few holds =
     let longer = part_grows j limits cached a b (asks_of step) (n + 1) m p in
     record {
@@ -169,25 +187,30 @@ part_step j limits cached a b step n m p few holds =
 
 -- ---- the orders of these
 
-pub order_of_none : (j : Judge) (limits : Limits) (cached : List EntryValue) (b : List AskedValue) (n : ℕ) → (part_none j limits cached b n).order ≡ []
+pub order_of_none : (j : Judge) (limits : Limits) (cached : List EntryValue) (b : List AskedValue) (n : ℕ)
+    → (part_none j limits cached b n).order ≡ []
 unfolding part_none part_still
 order_of_none j limits cached b n = refl
 
-pub order_of_deep : (j : Judge) (limits : Limits) (cached : List EntryValue) (b : List AskedValue) (n : ℕ) → (part_deep j limits cached b n).order ≡ []
+pub order_of_deep : (j : Judge) (limits : Limits) (cached : List EntryValue) (b : List AskedValue) (n : ℕ)
+    → (part_deep j limits cached b n).order ≡ []
 unfolding part_deep part_still
 order_of_deep j limits cached b n = refl
 
-pub order_of_many : (j : Judge) (limits : Limits) (cached : List EntryValue) (b : List AskedValue) (n : ℕ) (many : most_sends ≤ n) → (part_many j limits cached b n many).order ≡ []
+pub order_of_many : (j : Judge) (limits : Limits) (cached : List EntryValue) (b : List AskedValue) (n : ℕ)
+    (many : most_sends ≤ n) → (part_many j limits cached b n many).order ≡ []
 unfolding part_many part_still
 order_of_many j limits cached b n many = refl
 
-pub order_of_then : (j : Judge) (limits : Limits) (cached : List EntryValue) (a b c : List AskedValue) (xs ys : List AskRef) (n k m : ℕ)
+pub order_of_then : (j : Judge) (limits : Limits) (cached : List EntryValue) (a b c : List AskedValue)
+    (xs ys : List AskRef) (n k m : ℕ)
     (first : TrailPart j limits cached a b xs n k) (second : TrailPart j limits cached b c ys k m)
     → (part_then j limits cached a b c xs ys n k m first second).order ≡ first.order ++ second.order
 unfolding part_then
 order_of_then j limits cached a b c xs ys n k m first second = refl
 
-pub order_of_step : (j : Judge) (limits : Limits) (cached : List EntryValue) (a b : List AskedValue) (step : AskedValue) (n m : ℕ) (p : TrailPart j limits cached a b (asks_of step) (n + 1) m)
+pub order_of_step : (j : Judge) (limits : Limits) (cached : List EntryValue) (a b : List AskedValue)
+    (step : AskedValue) (n m : ℕ) (p : TrailPart j limits cached a b (asks_of step) (n + 1) m)
     (few : n < most_sends) (holds : step_holds j limits cached b step ≡ true)
     → (part_step j limits cached a b step n m p few holds).order ≡ length b ∷ p.order
 unfolding part_step

@@ -54,7 +54,8 @@ past_between : (a b i : ℕ) → b ≤ i → once_between a b i ≡ 0
 past_between a b i past = grind (arith, nat_tests)
 
 -- the numbers of a part are those of its steps
-pub part_below : (j : Judge) (limits : Limits) (cached : List EntryValue) (before after : List AskedValue) (asks : List AskRef) (n m : ℕ) (p : TrailPart j limits cached before after asks n m)
+pub part_below : (j : Judge) (limits : Limits) (cached : List EntryValue) (before after : List AskedValue)
+    (asks : List AskRef) (n m : ℕ) (p : TrailPart j limits cached before after asks n m)
     → AreBelow (length after) p.order
 part_below j limits cached before after asks n m p =
     are_below (length after) p.order (λ i past. p.once i ∙ past_between (length before) (length after) i past)
@@ -79,32 +80,41 @@ numbered_stay trail later (x ∷ xs) below =
     ∙ ap (cons_option (slice_get trail x)) (numbered_stay trail later xs below.1)
 
 -- the steps that a part sent, in order
-abbrev pub part_sent : {j : Judge} {limits : Limits} {cached : List EntryValue} {before after : List AskedValue} {asks : List AskRef} {n m : ℕ}
+abbrev pub part_sent : {j : Judge} {limits : Limits} {cached : List EntryValue} {before after : List AskedValue}
+    {asks : List AskRef} {n m : ℕ}
     → TrailPart j limits cached before after asks n m → List AskedValue
 part_sent {after = after} p = steps_at after (Some p.order)
 
-pub sent_stays : (j : Judge) (limits : Limits) (cached : List EntryValue) (before after : List AskedValue) (asks : List AskRef) (n m : ℕ) (p : TrailPart j limits cached before after asks n m)
+pub sent_stays : (j : Judge) (limits : Limits) (cached : List EntryValue) (before after : List AskedValue)
+    (asks : List AskRef) (n m : ℕ) (p : TrailPart j limits cached before after asks n m)
     (later : List AskedValue) → steps_at (after ++ later) (Some p.order) ≡ steps_at after (Some p.order)
-sent_stays j limits cached before after asks n m p later = numbered_stay after later p.order (part_below j limits cached before after asks n m p)
+sent_stays j limits cached before after asks n m p later =
+    numbered_stay after later p.order (part_below j limits cached before after asks n m p)
 
-pub sent_of_none : (j : Judge) (limits : Limits) (cached : List EntryValue) (b : List AskedValue) (n : ℕ) → part_sent (part_none j limits cached b n) ≡ []
+pub sent_of_none : (j : Judge) (limits : Limits) (cached : List EntryValue) (b : List AskedValue) (n : ℕ)
+    → part_sent (part_none j limits cached b n) ≡ []
 sent_of_none j limits cached b n = ap (numbered b) (order_of_none j limits cached b n)
 
-pub sent_of_deep : (j : Judge) (limits : Limits) (cached : List EntryValue) (b : List AskedValue) (n : ℕ) → part_sent (part_deep j limits cached b n) ≡ []
+pub sent_of_deep : (j : Judge) (limits : Limits) (cached : List EntryValue) (b : List AskedValue) (n : ℕ)
+    → part_sent (part_deep j limits cached b n) ≡ []
 sent_of_deep j limits cached b n = ap (numbered b) (order_of_deep j limits cached b n)
 
-pub sent_of_many : (j : Judge) (limits : Limits) (cached : List EntryValue) (b : List AskedValue) (n : ℕ) (many : most_sends ≤ n) → part_sent (part_many j limits cached b n many) ≡ []
+pub sent_of_many : (j : Judge) (limits : Limits) (cached : List EntryValue) (b : List AskedValue) (n : ℕ)
+    (many : most_sends ≤ n) → part_sent (part_many j limits cached b n many) ≡ []
 sent_of_many j limits cached b n many = ap (numbered b) (order_of_many j limits cached b n many)
 
-pub sent_of_then : (j : Judge) (limits : Limits) (cached : List EntryValue) (a b c : List AskedValue) (xs ys : List AskRef) (n k m : ℕ)
+pub sent_of_then : (j : Judge) (limits : Limits) (cached : List EntryValue) (a b c : List AskedValue)
+    (xs ys : List AskRef) (n k m : ℕ)
     (first : TrailPart j limits cached a b xs n k) (second : TrailPart j limits cached b c ys k m)
     → part_sent (part_then j limits cached a b c xs ys n k m first second) ≡ part_sent first ++ part_sent second
 sent_of_then j limits cached a b c xs ys n k m first second =
-    ap (numbered c) (order_of_then j limits cached a b c xs ys n k m first second) ∙ filter_map-append (slice_get c) first.order second.order
+    ap (numbered c) (order_of_then j limits cached a b c xs ys n k m first second)
+    ∙ filter_map-append (slice_get c) first.order second.order
     ∙ ap (λ t. numbered t first.order ++ numbered c second.order) second.grown
     ∙ ap (λ t. t ++ numbered c second.order) (sent_stays j limits cached a b xs n k first second.more)
 
-pub sent_of_step : (j : Judge) (limits : Limits) (cached : List EntryValue) (a b : List AskedValue) (step : AskedValue) (n m : ℕ) (p : TrailPart j limits cached a b (asks_of step) (n + 1) m)
+pub sent_of_step : (j : Judge) (limits : Limits) (cached : List EntryValue) (a b : List AskedValue)
+    (step : AskedValue) (n m : ℕ) (p : TrailPart j limits cached a b (asks_of step) (n + 1) m)
     (few : n < most_sends) (holds : step_holds j limits cached b step ≡ true)
     → part_sent (part_step j limits cached a b step n m p few holds) ≡ step ∷ part_sent p
 sent_of_step j limits cached a b step n m p few holds =

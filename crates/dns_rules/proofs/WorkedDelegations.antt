@@ -169,12 +169,14 @@ unfolding computed
 ds_left_out = refl
 
 -- 1,024 steps come before an ask that is one too many
-pub ds_left_out_as_too_many : derivation by_root (within 26) [] (zone_step self_signed Bogus None (TooMany ∷ []) ∷ []) ≡ false
+pub ds_left_out_as_too_many : derivation by_root (within 26) []
+    (zone_step self_signed Bogus None (TooMany ∷ []) ∷ []) ≡ false
 unfolding computed
 ds_left_out_as_too_many = refl
 
 -- without an answer the keys are Bogus
-pub ds_asked_once : derivation by_root (within 26) [] (ds_fault ∷ zone_step self_signed Bogus None (Step 0 ∷ []) ∷ []) ≡ true
+pub ds_asked_once : derivation by_root (within 26) []
+    (ds_fault ∷ zone_step self_signed Bogus None (Step 0 ∷ []) ∷ []) ≡ true
 unfolding computed
 ds_asked_once = refl
 
@@ -224,7 +226,8 @@ pub ds_too_deep : derivation by_root (within 0) [] (zone_step self_signed Bogus 
 unfolding computed
 ds_too_deep = refl
 
-pub ds_too_deep_and_secure : derivation by_root (within 0) [] (zone_step self_signed Secure (Some 0) (TooDeep ∷ []) ∷ []) ≡ false
+pub ds_too_deep_and_secure : derivation by_root (within 0) []
+    (zone_step self_signed Secure (Some 0) (TooDeep ∷ []) ∷ []) ≡ false
 unfolding computed
 ds_too_deep_and_secure = refl
 

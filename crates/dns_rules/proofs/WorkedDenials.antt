@@ -86,7 +86,8 @@ pub no_such_name : derivation by_root (within 26) [] (by_both_covered (Answered 
 unfolding computed
 no_such_name = refl
 
-pub insecure_though_shown : derivation by_root (within 26) [] (by_both_covered (Answered (denial.Absent Insecure))) ≡ false
+pub insecure_though_shown : derivation by_root (within 26) []
+    (by_both_covered (Answered (denial.Absent Insecure))) ≡ false
 unfolding computed
 insecure_though_shown = refl
 
@@ -102,7 +103,8 @@ pub bogus_by_one_covering : derivation by_root (within 26) [] (by_one_covered (D
 unfolding computed
 bogus_by_one_covering = refl
 
-pub absent_by_one_covering : derivation by_root (within 26) [] (by_one_covered (Answered (denial.Absent Secure))) ≡ false
+pub absent_by_one_covering : derivation by_root (within 26) []
+    (by_one_covered (Answered (denial.Absent Secure))) ≡ false
 unfolding computed
 absent_by_one_covering = refl
 
@@ -166,11 +168,13 @@ pub plain_though_expanded : derivation by_root (within 26) [] (by_expansion (Ans
 unfolding computed
 plain_though_expanded = refl
 
-pub bogus_if_nothing_is_denied : derivation by_root (within 26) [] (after_one (from_wildcard [] [] (Denied Bogus))) ≡ true
+pub bogus_if_nothing_is_denied : derivation by_root (within 26) []
+    (after_one (from_wildcard [] [] (Denied Bogus))) ≡ true
 unfolding computed
 bogus_if_nothing_is_denied = refl
 
-pub plain_if_nothing_is_denied : derivation by_root (within 26) [] (after_one (from_wildcard [] [] (Answered denial.None))) ≡ false
+pub plain_if_nothing_is_denied : derivation by_root (within 26) []
+    (after_one (from_wildcard [] [] (Answered denial.None))) ≡ false
 unfolding computed
 plain_if_nothing_is_denied = refl
 
@@ -243,7 +247,8 @@ pub bogus_by_an_unreadable_nsec3 : derivation by_root (within 26) [] (by_unreada
 unfolding computed
 bogus_by_an_unreadable_nsec3 = refl
 
-pub absent_by_an_unreadable_nsec3 : derivation by_root (within 26) [] (by_unreadable_nsec3 (Answered (denial.Absent Secure))) ≡ false
+pub absent_by_an_unreadable_nsec3 : derivation by_root (within 26) []
+    (by_unreadable_nsec3 (Answered (denial.Absent Secure))) ≡ false
 unfolding computed
 absent_by_an_unreadable_nsec3 = refl
 

@@ -43,11 +43,13 @@ abbrev pub excused : EndingValue → List AskRef → List AskedValue
 excused ending excuse = asked_by_the_signature ++ asked_by_the_ending ++ signed_step expanded ending excuse ∷ []
 
 -- the excuse names the search, and the answer stands
-pub excused_by_the_search : derivation by_root (within 26) [] (excused (Answered denial.None) (Step 3 ∷ Step 4 ∷ Step 6 ∷ [])) ≡ true
+pub excused_by_the_search : derivation by_root (within 26) []
+    (excused (Answered denial.None) (Step 3 ∷ Step 4 ∷ Step 6 ∷ [])) ≡ true
 unfolding computed
 excused_by_the_search = refl
 
-pub denied_though_excused : derivation by_root (within 26) [] (excused (Denied Bogus) (Step 3 ∷ Step 4 ∷ Step 6 ∷ [])) ≡ false
+pub denied_though_excused : derivation by_root (within 26) []
+    (excused (Denied Bogus) (Step 3 ∷ Step 4 ∷ Step 6 ∷ [])) ≡ false
 unfolding computed
 denied_though_excused = refl
 

@@ -80,15 +80,18 @@ whole_search = Step 0 ∷ Step 1 ∷ Step 3 ∷ []
 -- ---- an unsigned set whose zone is found
 
 -- the plain asks in order, from the host on, and the DS ask last
-pub insecure_by_the_search : derivation by_root (within 26) [] (searched host_seen zone_seen (unsigned_step Insecure whole_search)) ≡ true
+pub insecure_by_the_search : derivation by_root (within 26) []
+    (searched host_seen zone_seen (unsigned_step Insecure whole_search)) ≡ true
 unfolding computed
 insecure_by_the_search = refl
 
-pub bogus_though_searched : derivation by_root (within 26) [] (searched host_seen zone_seen (unsigned_step Bogus whole_search)) ≡ false
+pub bogus_though_searched : derivation by_root (within 26) []
+    (searched host_seen zone_seen (unsigned_step Bogus whole_search)) ≡ false
 unfolding computed
 bogus_though_searched = refl
 
-pub secure_though_unsigned : derivation by_root (within 26) [] (searched host_seen zone_seen (unsigned_step Secure whole_search)) ≡ false
+pub secure_though_unsigned : derivation by_root (within 26) []
+    (searched host_seen zone_seen (unsigned_step Secure whole_search)) ≡ false
 unfolding computed
 secure_though_unsigned = refl
 
@@ -98,7 +101,8 @@ pub asked_in_another_order :
 unfolding computed
 asked_in_another_order = refl
 
-pub begun_at_the_zone : derivation by_root (within 26) [] (searched zone_seen host_seen (unsigned_step Insecure whole_search)) ≡ false
+pub begun_at_the_zone : derivation by_root (within 26) []
+    (searched zone_seen host_seen (unsigned_step Insecure whole_search)) ≡ false
 unfolding computed
 begun_at_the_zone = refl
 
@@ -171,11 +175,13 @@ unfolding computed
 goes_on_where_ns_are = refl
 
 -- at the root nothing is asked
-pub bogus_at_the_root : derivation by_root (within 26) [] (host_seen ∷ plain zone no_records ∷ unsigned_step Bogus (Step 0 ∷ Step 1 ∷ []) ∷ []) ≡ true
+pub bogus_at_the_root : derivation by_root (within 26) []
+    (host_seen ∷ plain zone no_records ∷ unsigned_step Bogus (Step 0 ∷ Step 1 ∷ []) ∷ []) ≡ true
 unfolding computed
 bogus_at_the_root = refl
 
-pub insecure_at_the_root : derivation by_root (within 26) [] (host_seen ∷ plain zone no_records ∷ unsigned_step Insecure (Step 0 ∷ Step 1 ∷ []) ∷ []) ≡ false
+pub insecure_at_the_root : derivation by_root (within 26) []
+    (host_seen ∷ plain zone no_records ∷ unsigned_step Insecure (Step 0 ∷ Step 1 ∷ []) ∷ []) ≡ false
 unfolding computed
 insecure_at_the_root = refl
 
@@ -190,11 +196,13 @@ pub bogus_after_a_fault : derivation by_root (within 26) [] (host_fault ∷ unsi
 unfolding computed
 bogus_after_a_fault = refl
 
-pub insecure_after_a_fault : derivation by_root (within 26) [] (host_fault ∷ unsigned_step Insecure (Step 0 ∷ []) ∷ []) ≡ false
+pub insecure_after_a_fault : derivation by_root (within 26) []
+    (host_fault ∷ unsigned_step Insecure (Step 0 ∷ []) ∷ []) ≡ false
 unfolding computed
 insecure_after_a_fault = refl
 
-pub goes_on_after_a_fault : derivation by_root (within 26) [] (searched host_fault zone_seen (unsigned_step Insecure whole_search)) ≡ false
+pub goes_on_after_a_fault : derivation by_root (within 26) []
+    (searched host_fault zone_seen (unsigned_step Insecure whole_search)) ≡ false
 unfolding computed
 goes_on_after_a_fault = refl
 
@@ -238,7 +246,8 @@ unfolding computed
 ds_asked_without_judging = refl
 
 -- it is no deeper than its step, so that it never is too deep; the ask for the DS set may be
-pub ds_too_deep : derivation by_root (within 0) [] (host_seen ∷ zone_seen ∷ unsigned_step Bogus (Step 0 ∷ Step 1 ∷ TooDeep ∷ []) ∷ []) ≡ true
+pub ds_too_deep : derivation by_root (within 0) []
+    (host_seen ∷ zone_seen ∷ unsigned_step Bogus (Step 0 ∷ Step 1 ∷ TooDeep ∷ []) ∷ []) ≡ true
 unfolding computed
 ds_too_deep = refl
 
@@ -259,7 +268,8 @@ one_step rtype mark asked =
     (record (host_entry mark None asked) { rtype = rtype } ∷ []) (Answered denial.None)
 
 -- an NSEC3 stands right below its zone
-pub nsec3_from_its_parent : derivation by_root (within 26) [] (searched_above (one_step 50 Insecure (Step 0 ∷ Step 2 ∷ []))) ≡ true
+pub nsec3_from_its_parent : derivation by_root (within 26) []
+    (searched_above (one_step 50 Insecure (Step 0 ∷ Step 2 ∷ []))) ≡ true
 unfolding computed
 nsec3_from_its_parent = refl
 
@@ -269,7 +279,8 @@ pub nsec3_from_its_owner :
 unfolding computed
 nsec3_from_its_owner = refl
 
-pub text_from_its_parent : derivation by_root (within 26) [] (searched_above (one_step 16 Insecure (Step 0 ∷ Step 2 ∷ []))) ≡ false
+pub text_from_its_parent : derivation by_root (within 26) []
+    (searched_above (one_step 16 Insecure (Step 0 ∷ Step 2 ∷ []))) ≡ false
 unfolding computed
 text_from_its_parent = refl
 
@@ -278,11 +289,13 @@ pub unsigned_ds : derivation by_root (within 26) [] (one_step 43 Bogus [] ∷ []
 unfolding computed
 unsigned_ds = refl
 
-pub unsigned_ds_from_its_owner : derivation by_root (within 26) [] (searched host_seen zone_seen (one_step 43 Insecure whole_search)) ≡ false
+pub unsigned_ds_from_its_owner : derivation by_root (within 26) []
+    (searched host_seen zone_seen (one_step 43 Insecure whole_search)) ≡ false
 unfolding computed
 unsigned_ds_from_its_owner = refl
 
-pub unsigned_ds_from_its_parent : derivation by_root (within 26) [] (searched_above (one_step 43 Insecure (Step 0 ∷ Step 2 ∷ []))) ≡ false
+pub unsigned_ds_from_its_parent : derivation by_root (within 26) []
+    (searched_above (one_step 43 Insecure (Step 0 ∷ Step 2 ∷ []))) ≡ false
 unfolding computed
 unsigned_ds_from_its_parent = refl
 

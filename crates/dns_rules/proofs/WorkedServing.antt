@@ -1,5 +1,5 @@
 -- Trails with kept entries on worked rows: the root's NS set, which an earlier lookup found Secure or Bogus, and the chain that was kept of it.
-use Rattle.std.proofs.Common.{◌≡◌, ℕ, true, false, List, [], ◌∷◌, Option, None, Some, refl}
+use Rattle.std.proofs.Common.{◌≡◌, ℕ, Bool, true, false, List, [], ◌∷◌, Option, None, Some, refl}
 use Rattle.std.specs.Prelude.{Ok, Err}
 use Rattle.dns_model.specs.declared.proof.Proof.{Proof}
 use Rattle.dns_model.specs.declared.proof.Proof.TheVariants.{Secure, Insecure, Bogus}
@@ -8,7 +8,7 @@ use Rattle.dns_model.specs.declared.denial.Denial.TheVariants as denial
 use Rattle.dns_model.specs.declared.trail.AskRef.{AskRef}
 use Rattle.dns_model.specs.declared.trail.AskRef.TheVariants.{Step}
 use Rattle.dns_model.specs.declared.trail.MarkOrigin.TheVariants.{Cache}
-use Rattle.dns_model.specs.Chains.{LinkValue, Anchored, KeySet, judge, all_shown, link_holds, links_hold, last_link}
+use Rattle.dns_model.specs.Chains.{LinkValue, Anchored, KeySet, Judge, judge, all_shown, link_holds, links_hold, last_link}
 use Rattle.dns_model.specs.Names.{Labels}
 use Rattle.dns_model.specs.Records.{RrSet, Question}
 use Rattle.dns_model.specs.SoundAnswers.{in_section}
@@ -64,15 +64,19 @@ abbrev pub served : Proof → Option ℕ → List AskRef → AskedValue
 served mark sig asked =
     ns_step (reply_of ns_records []) (record (answer_entry 2 mark sig asked) { origin = Cache } ∷ []) (Answered denial.None)
 
-pub one_step_and_no_ask : derivation root_judge (within 26) (kept_secure ∷ []) (served Secure (Some 0) [] ∷ []) ≡ true
+-- what was kept makes one step a trail that is a derivation
+abbrev pub serve : Judge → List EntryValue → AskedValue → Bool
+serve j kept step = derivation j (within 26) kept (step ∷ [])
+
+pub one_step_and_no_ask : serve root_judge (kept_secure ∷ []) (served Secure (Some 0) []) ≡ true
 unfolding computed links_hold link_holds all_shown last_link
 one_step_and_no_ask = refl
 
-pub among_others : derivation root_judge (within 26) (kept_bogus ∷ kept_secure ∷ []) (served Secure (Some 0) [] ∷ []) ≡ true
+pub among_others : serve root_judge (kept_bogus ∷ kept_secure ∷ []) (served Secure (Some 0) []) ≡ true
 unfolding computed links_hold link_holds all_shown last_link
 among_others = refl
 
-pub nothing_kept : derivation root_judge (within 26) [] (served Secure (Some 0) [] ∷ []) ≡ false
+pub nothing_kept : serve root_judge [] (served Secure (Some 0) []) ≡ false
 unfolding computed
 nothing_kept = refl
 
@@ -83,32 +87,31 @@ asks_though_served = refl
 
 -- ---- a Secure one is judged anew
 
-pub after_the_signature_ended :
-    derivation (judge verifier anchors 2001) (within 26) (kept_secure ∷ []) (served Secure (Some 0) [] ∷ []) ≡ false
+pub after_the_signature_ended : serve (judge verifier anchors 2001) (kept_secure ∷ [])
+    (served Secure (Some 0) []) ≡ false
 unfolding computed links_hold link_holds all_shown last_link
 after_the_signature_ended = refl
 
-pub under_no_anchors : derivation (judge verifier [] 1000) (within 26) (kept_secure ∷ []) (served Secure (Some 0) [] ∷ []) ≡ false
+pub under_no_anchors : serve (judge verifier [] 1000) (kept_secure ∷ []) (served Secure (Some 0) []) ≡ false
 unfolding computed links_hold link_holds all_shown last_link
 under_no_anchors = refl
 
-pub by_the_chain_of_another_set :
-    derivation root_judge (within 26) (kept ns_question (secure_by (Some 0)) key_links ∷ []) (served Secure (Some 0) [] ∷ []) ≡ false
+pub by_the_chain_of_another_set : serve root_judge (kept ns_question (secure_by (Some 0)) key_links ∷ [])
+    (served Secure (Some 0) []) ≡ false
 unfolding computed links_hold link_holds all_shown last_link
 by_the_chain_of_another_set = refl
 
-pub by_no_signature_of_its_link :
-    derivation root_judge (within 26) (kept ns_question (secure_by None) ns_links ∷ []) (served Secure None [] ∷ []) ≡ false
+pub by_no_signature_of_its_link : serve root_judge (kept ns_question (secure_by None) ns_links ∷ [])
+    (served Secure None []) ≡ false
 unfolding computed links_hold link_holds all_shown last_link
 by_no_signature_of_its_link = refl
 
-pub of_another_question :
-    derivation root_judge (within 26) (kept keys_question (secure_by (Some 0)) ns_links ∷ []) (served Secure (Some 0) [] ∷ []) ≡ false
+pub of_another_question : serve root_judge (kept keys_question (secure_by (Some 0)) ns_links ∷ [])
+    (served Secure (Some 0) []) ≡ false
 unfolding computed links_hold link_holds all_shown last_link
 of_another_question = refl
 
-pub by_another_place :
-    derivation root_judge (within 26) (kept_secure ∷ []) (served Secure (Some 1) [] ∷ []) ≡ false
+pub by_another_place : serve root_judge (kept_secure ∷ []) (served Secure (Some 1) []) ≡ false
 unfolding computed links_hold link_holds all_shown last_link
 by_another_place = refl
 
@@ -127,14 +130,15 @@ kept_keys place = record {
 }
 
 abbrev pub served_keys : Option ℕ → AskedValue
-served_keys place = record (keys_judged (record (answer_entry 48 Secure place []) { origin = Cache } ∷ [])) { depth = 0 }
+served_keys place =
+    record (keys_judged (record (answer_entry 48 Secure place []) { origin = Cache } ∷ [])) { depth = 0 }
 
-pub by_an_anchored_key : derivation root_judge (within 26) (kept_keys None ∷ []) (served_keys None ∷ []) ≡ true
+pub by_an_anchored_key : serve root_judge (kept_keys None ∷ []) (served_keys None) ≡ true
 unfolding computed links_hold link_holds all_shown last_link
 by_an_anchored_key = refl
 
 -- it has no signature at the place that is named
-pub by_a_place_without_a_signature : derivation root_judge (within 26) (kept_keys (Some 7) ∷ []) (served_keys (Some 7) ∷ []) ≡ false
+pub by_a_place_without_a_signature : serve root_judge (kept_keys (Some 7) ∷ []) (served_keys (Some 7)) ≡ false
 unfolding computed links_hold link_holds all_shown last_link
 by_a_place_without_a_signature = refl
 
@@ -166,11 +170,11 @@ owned_in_another_case = refl
 
 -- ---- another mark is served as it was kept
 
-pub as_it_was_found : derivation (judge verifier [] 2001) (within 26) (kept_bogus ∷ []) (served Bogus None [] ∷ []) ≡ true
+pub as_it_was_found : serve (judge verifier [] 2001) (kept_bogus ∷ []) (served Bogus None []) ≡ true
 unfolding computed links_hold link_holds all_shown last_link
 as_it_was_found = refl
 
-pub another_mark : derivation root_judge (within 26) (kept_bogus ∷ []) (served Insecure None [] ∷ []) ≡ false
+pub another_mark : serve root_judge (kept_bogus ∷ []) (served Insecure None []) ≡ false
 unfolding computed links_hold link_holds all_shown last_link
 another_mark = refl
 
@@ -183,7 +187,7 @@ kept_insecure = record {
   chain = None;
 }
 
-pub insecure_by_a_signature : derivation root_judge (within 26) (kept_insecure ∷ []) (served Insecure (Some 0) [] ∷ []) ≡ true
+pub insecure_by_a_signature : serve root_judge (kept_insecure ∷ []) (served Insecure (Some 0) []) ≡ true
 unfolding computed links_hold link_holds all_shown last_link
 insecure_by_a_signature = refl
 

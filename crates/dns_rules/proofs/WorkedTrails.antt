@@ -72,7 +72,8 @@ pub no_steps : derivation root_judge (within 26) [] [] ≡ false
 unfolding computed
 no_steps = refl
 
-pub other_order : derivation root_judge (within 26) [] (ns_secure ns_records (Answered denial.None) ∷ keys_found ∷ []) ≡ false
+pub other_order : derivation root_judge (within 26) []
+    (ns_secure ns_records (Answered denial.None) ∷ keys_found ∷ []) ≡ false
 unfolding computed
 other_order = refl
 
@@ -82,11 +83,13 @@ unfolding computed
 keys_alone = refl
 
 -- one signature asks once
-pub asked_twice : derivation root_judge (within 26) [] (keys_found ∷ ns_found Secure (Some 0) (Step 0 ∷ Step 0 ∷ []) ∷ []) ≡ false
+pub asked_twice : derivation root_judge (within 26) []
+    (keys_found ∷ ns_found Secure (Some 0) (Step 0 ∷ Step 0 ∷ []) ∷ []) ≡ false
 unfolding computed
 asked_twice = refl
 
-pub named_by_none : derivation root_judge (within 26) [] (keys_found ∷ keys_found ∷ ns_found Secure (Some 0) (Step 1 ∷ []) ∷ []) ≡ false
+pub named_by_none : derivation root_judge (within 26) []
+    (keys_found ∷ keys_found ∷ ns_found Secure (Some 0) (Step 1 ∷ []) ∷ []) ≡ false
 unfolding computed
 named_by_none = refl
 
@@ -108,7 +111,8 @@ pub another_mark : derivation root_judge (within 26) [] (keys_found ∷ ns_found
 unfolding computed
 another_mark = refl
 
-pub another_signature : derivation root_judge (within 26) [] (keys_found ∷ ns_found Secure (Some 1) (Step 0 ∷ []) ∷ []) ≡ false
+pub another_signature : derivation root_judge (within 26) []
+    (keys_found ∷ ns_found Secure (Some 1) (Step 0 ∷ []) ∷ []) ≡ false
 unfolding computed
 another_signature = refl
 
@@ -119,11 +123,13 @@ pub signature_of_unsigned_keys :
 unfolding computed
 signature_of_unsigned_keys = refl
 
-pub no_entry : derivation root_judge (within 26) [] (keys_judged [] ∷ ns_secure ns_records (Answered denial.None) ∷ []) ≡ false
+pub no_entry : derivation root_judge (within 26) []
+    (keys_judged [] ∷ ns_secure ns_records (Answered denial.None) ∷ []) ≡ false
 unfolding computed
 no_entry = refl
 
-pub ends_as_denied : derivation root_judge (within 26) [] (keys_found ∷ ns_secure ns_records (Denied Bogus) ∷ []) ≡ false
+pub ends_as_denied : derivation root_judge (within 26) []
+    (keys_found ∷ ns_secure ns_records (Denied Bogus) ∷ []) ≡ false
 unfolding computed
 ends_as_denied = refl
 
@@ -152,7 +158,8 @@ abbrev pub foreign_records : List Rr
 foreign_records = record (record_of [] 2 name_a) { class = 3 } ∷ record_of [] 46 signature ∷ []
 
 -- it ends its step, and nothing is asked
-pub ends_at_another_class : derivation root_judge (within 26) [] (ns_step (reply_of foreign_records []) [] (Foreign [] 3 2) ∷ []) ≡ true
+pub ends_at_another_class : derivation root_judge (within 26) []
+    (ns_step (reply_of foreign_records []) [] (Foreign [] 3 2) ∷ []) ≡ true
 unfolding computed
 ends_at_another_class = refl
 
@@ -182,11 +189,13 @@ not_too_deep = refl
 
 -- ---- an ask that gets no reply
 
-pub bogus_after_a_fault : derivation root_judge (within 26) [] (keys_fault ∷ ns_found Bogus None (Step 0 ∷ []) ∷ []) ≡ true
+pub bogus_after_a_fault : derivation root_judge (within 26) []
+    (keys_fault ∷ ns_found Bogus None (Step 0 ∷ []) ∷ []) ≡ true
 unfolding computed
 bogus_after_a_fault = refl
 
-pub secure_after_a_fault : derivation root_judge (within 26) [] (keys_fault ∷ ns_secure ns_records (Answered denial.None) ∷ []) ≡ false
+pub secure_after_a_fault : derivation root_judge (within 26) []
+    (keys_fault ∷ ns_secure ns_records (Answered denial.None) ∷ []) ≡ false
 unfolding computed
 secure_after_a_fault = refl
 
@@ -257,7 +266,8 @@ second_left_out = refl
 abbrev pub keys_by : MarkOrigin → Proof → AskedValue
 keys_by origin mark = keys_judged (record (answer_entry 48 mark None []) { origin = origin } ∷ [])
 
-pub as_the_first_found : derivation root_judge (within 26) [] (keys_found ∷ keys_by (Repeat 0) Secure ∷ both_secure ∷ []) ≡ true
+pub as_the_first_found : derivation root_judge (within 26) []
+    (keys_found ∷ keys_by (Repeat 0) Secure ∷ both_secure ∷ []) ≡ true
 unfolding computed
 as_the_first_found = refl
 
@@ -265,15 +275,18 @@ pub by_the_rules_again : derivation root_judge (within 26) [] (keys_found ∷ ke
 unfolding computed
 by_the_rules_again = refl
 
-pub repeats_itself : derivation root_judge (within 26) [] (keys_found ∷ keys_by (Repeat 1) Secure ∷ both_secure ∷ []) ≡ false
+pub repeats_itself : derivation root_judge (within 26) []
+    (keys_found ∷ keys_by (Repeat 1) Secure ∷ both_secure ∷ []) ≡ false
 unfolding computed
 repeats_itself = refl
 
-pub repeats_another_mark : derivation root_judge (within 26) [] (keys_found ∷ keys_by (Repeat 0) Bogus ∷ both_secure ∷ []) ≡ false
+pub repeats_another_mark : derivation root_judge (within 26) []
+    (keys_found ∷ keys_by (Repeat 0) Bogus ∷ both_secure ∷ []) ≡ false
 unfolding computed
 repeats_another_mark = refl
 
 -- nothing was kept
-pub kept_from_an_earlier_lookup : derivation root_judge (within 26) [] (keys_found ∷ keys_by Cache Secure ∷ both_secure ∷ []) ≡ false
+pub kept_from_an_earlier_lookup : derivation root_judge (within 26) []
+    (keys_found ∷ keys_by Cache Secure ∷ both_secure ∷ []) ≡ false
 unfolding computed
 kept_from_an_earlier_lookup = refl
