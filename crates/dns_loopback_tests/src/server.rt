@@ -121,7 +121,7 @@ pub(crate) fn serve(alloc: Global, listener: &TcpListener) -> Result<u32, NetErr
 
 /// Answers the next request that comes in a datagram.
 fn serve_datagram(alloc: Global, socket: &UdpSocket) -> Result<(), NetError> {
-    let mut buf = [0u8; 512];
+    let mut buf = [0u8; 64];
     let (len, from) = match socket.recv_from(&mut buf) {
         Ok(came) => came,
         Err(error) => return Err(NetError::from(kind_of(&error))),

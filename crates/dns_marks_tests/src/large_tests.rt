@@ -231,9 +231,14 @@ fn a_set_of_70_000_records_is_proved_by_the_last_of_as_many_keys(rt: HostRuntime
     check_row(&rt, "by that key alone", is_proved_by_key(rt.alloc()));
 }
 
+/// What is signed, and its signature. As an array of a function it would be dear to prove.
+const SIGNED: &[u8] = &[7; 300];
+
+const SIGNATURE: &[u8] = &[8; 300];
+
 fn accept_all(listed: &mut Listed) -> Result<(), NameError> {
     for number in 0..MANY as u32 {
-        listed.accept(13, &number.to_be_bytes(), &[7; 300], &[8; 300])?;
+        listed.accept(13, &number.to_be_bytes(), SIGNED, SIGNATURE)?;
     }
     Ok(())
 }
@@ -242,7 +247,7 @@ fn copy_holds_all(listed: &mut Listed) -> Result<bool, NameError> {
     accept_all(listed)?;
     let copy = listed.try_clone()?;
     let last = MANY as u32 - 1;
-    let held = copy.accepts(13, &last.to_be_bytes(), &[7; 300], &[8; 300]);
+    let held = copy.accepts(13, &last.to_be_bytes(), SIGNED, SIGNATURE);
     drop(copy);
     Ok(held)
 }

@@ -20,9 +20,12 @@ fn longest_request(alloc: Global) -> Result<DnsRequest, NameError> {
     Ok(DnsRequest::from_query(alloc, query, DnsRequestOptions::default())?)
 }
 
+/// The bits that make each letter large.
+const ALL_BITS: &[u8] = &[255; 32];
+
 /// It, with each letter large, copied.
 fn cased_request(alloc: Global) -> Result<DnsRequest, NameError> {
-    let cased = longest_request(alloc)?.with_case(&[255; 32])?;
+    let cased = longest_request(alloc)?.with_case(ALL_BITS)?;
     let copy = cased.try_clone();
     drop(cased);
     Ok(copy?)

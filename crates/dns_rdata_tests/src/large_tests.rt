@@ -3,7 +3,7 @@ use crate::rdata_signed_tests::{at_root, takes};
 use crate::rows::check_row;
 use dns_model::NameError;
 use dns_rdata::{Nsec3Record, NsecRecord, canonical_rdata};
-use dns_record::{RecordSet, RecordType};
+use dns_record::{Record, RecordSet, RecordType};
 use std::alloc::Global;
 
 const MANY: usize = 70_000;
@@ -37,11 +37,14 @@ fn a_set_of_70_000_records_is_made_and_copied(rt: HostRuntime) {
     check_row(&rt, "NS records", grows(rt.alloc()));
 }
 
+/// A window with every type. As an array of a function it would be dear to prove, and so would a long salt.
+const WINDOW: &[u8] = &[255; 32];
+
 fn add_windows(bytes: &mut Vec<u8>) -> Result<(), NameError> {
     for window in 0..=WINDOWS {
         bytes.push(window)?;
         bytes.push(32)?;
-        bytes.extend_from_slice(&[255; 32])?;
+        bytes.extend_from_slice(WINDOW)?;
     }
     Ok(())
 }
@@ -53,33 +56,76 @@ fn with_bitmap(alloc: Global, front: &[u8]) -> Result<Vec<u8>, NameError> {
     Ok(bytes)
 }
 
-fn nsec_is_copied(alloc: Global) -> Result<bool, NameError> {
-    let from = at_root(alloc, 47, &with_bitmap(alloc, b"\x01b\0")?)?;
-    match NsecRecord::of(alloc, &from)? {
-        Some(nsec) => Ok(nsec.try_clone()?.type_set().contains(RecordType(65_535))),
+/// A record of the root with a bitmap of every type behind a front.
+fn at_root_with_bitmap(alloc: Global, number: u16, front: &[u8]) -> Result<Record, NameError> {
+    let bytes = with_bitmap(alloc, front)?;
+    at_root(alloc, number, &bytes)
+}
+
+/// A copy has the last type.
+fn nsec_copy_has_last(nsec: &NsecRecord) -> Result<bool, NameError> {
+    let copy = nsec.try_clone()?;
+    let held = copy.type_set().contains(RecordType(65_535));
+    drop(copy);
+    Ok(held)
+}
+
+fn is_nsec_copied(alloc: Global, from: &Record) -> Result<bool, NameError> {
+    match NsecRecord::of(alloc, from)? {
+        Some(nsec) => {
+            let held = nsec_copy_has_last(&nsec);
+            drop(nsec);
+            held
+        }
         None => Ok(false),
     }
 }
+
+fn nsec_is_copied(alloc: Global) -> Result<bool, NameError> {
+    let from = at_root_with_bitmap(alloc, 47, b"\x01b\0")?;
+    let held = is_nsec_copied(alloc, &from);
+    drop(from);
+    held
+}
+
+const LONG_SALT: &[u8] = &[7; 255];
+
+const LONG_HASH: &[u8] = &[8; 255];
 
 /// With a salt and a next hash of 255 bytes each.
 fn long_front(alloc: Global) -> Result<Vec<u8>, NameError> {
     let mut front = Vec::from_slice(alloc, b"\x01\0\0\x0c\xff")?;
-    front.extend_from_slice(&[7; 255])?;
+    front.extend_from_slice(LONG_SALT)?;
     front.push(255)?;
-    front.extend_from_slice(&[8; 255])?;
+    front.extend_from_slice(LONG_HASH)?;
     Ok(front)
+}
+
+/// A copy has the last type and the whole salt.
+fn nsec3_copy_has_all(nsec3: &Nsec3Record) -> Result<bool, NameError> {
+    let copy = nsec3.try_clone()?;
+    let held = copy.type_set().contains(RecordType(65_535)) && copy.salt.as_slice().len() == 255;
+    drop(copy);
+    Ok(held)
+}
+
+fn is_nsec3_copied(alloc: Global, from: &Record) -> Result<bool, NameError> {
+    match Nsec3Record::of(alloc, from)? {
+        Some(nsec3) => {
+            let held = nsec3_copy_has_all(&nsec3);
+            drop(nsec3);
+            held
+        }
+        None => Ok(false),
+    }
 }
 
 fn nsec3_is_copied(alloc: Global) -> Result<bool, NameError> {
     let front = long_front(alloc)?;
-    let from = at_root(alloc, 50, &with_bitmap(alloc, &front)?)?;
-    match Nsec3Record::of(alloc, &from)? {
-        Some(nsec3) => {
-            let copy = nsec3.try_clone()?;
-            Ok(copy.type_set().contains(RecordType(65_535)) && copy.salt.as_slice().len() == 255)
-        }
-        None => Ok(false),
-    }
+    let from = at_root_with_bitmap(alloc, 50, &front)?;
+    let held = is_nsec3_copied(alloc, &from);
+    drop(from);
+    held
 }
 
 #[test]

@@ -23,8 +23,12 @@ fn name_of(alloc: Global, wire: &[u8]) -> Result<Name, NoMemory> {
     }
 }
 
+/// One that is too long fails its test by the error.
 fn rdata(alloc: Global, bytes: &[u8]) -> Result<Rdata, NoMemory> {
-    Rdata::from_slice(alloc, &bytes[..bytes.len().min(65535)])
+    if bytes.len() > 65535 {
+        return Err(NoMemory);
+    }
+    Rdata::from_slice(alloc, bytes)
 }
 
 fn record(alloc: Global, name: Name, record_type: u16, bytes: &[u8]) -> Result<Record, NoMemory> {

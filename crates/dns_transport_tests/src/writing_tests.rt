@@ -97,9 +97,12 @@ fn frames_are_written_to_a_link_that_takes_a_byte_at_a_time(rt: HostRuntime) {
     assert!(rt; matches!(are_written(rt.alloc()), Ok(true)));
 }
 
+/// As many bytes as fill a link with their frame.
+const FILLING: &[u8] = &[7; 98];
+
 /// Whether writing more than a link takes is a fault, and the next call finds no connection.
 fn is_filled(alloc: Global, stream: &mut TcpStream<PairLink>) -> bool {
-    let is_put = put(alloc, stream, &[7; 98]) && put(alloc, stream, &[8]);
+    let is_put = put(alloc, stream, FILLING) && put(alloc, stream, &[8]);
     let first = drain(stream) == Heard::Waiting;
     let full = drain(stream) == Heard::Fault(IoKind::Other);
     let after = drain(stream) == Heard::Fault(IoKind::NotConnected);

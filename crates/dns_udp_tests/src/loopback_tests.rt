@@ -48,7 +48,7 @@ fn request_to(socket: &UdpSocket, buf: &mut [u8], before: Before) -> io::Result<
 
 /// Serves one client, by a socket and one with another port.
 fn serve(socket: &UdpSocket, other: &UdpSocket, before: Before) -> io::Result<()> {
-    let mut buf = [0u8; 512];
+    let mut buf = [0u8; 64];
     let (len, from) = request_to(socket, &mut buf, before)?;
     reply(&mut buf);
     let bytes = &buf[..len];
