@@ -1,4 +1,6 @@
-use crate::parts::{Exchange, Heard, asked, exchange_over, link_of, push_responses, server};
+use crate::exchange_parts::{
+    Exchange, Heard, asked, exchange_over, link_of, push_responses, server,
+};
 use dns_exchange::TcpExchange;
 use dns_handle::{IoKind, NetError};
 use dns_link::ListDialer;

@@ -1,4 +1,4 @@
-//! Tests of requests over one connection, by what `dns_exchange` gives.
+//! Tests of frames over links, and of requests over one connection, by what `dns_transport` and `dns_exchange` give.
 //!
 //! They stand apart, since a crate with tests of its own is proved twice.
 #![tactic(auto)]
@@ -6,6 +6,24 @@
 #[cfg(test)]
 mod answer_tests;
 #[cfg(test)]
-mod loopback_tests;
+mod cut_tests;
 #[cfg(test)]
-mod parts;
+mod exchange_loopback_tests;
+#[cfg(test)]
+mod exchange_parts;
+#[cfg(test)]
+mod fault_tests;
+#[cfg(test)]
+mod long_tests;
+#[cfg(test)]
+mod reading_tests;
+#[cfg(test)]
+mod slow_link;
+#[cfg(test)]
+mod stream_heard;
+#[cfg(test)]
+mod stream_loopback_tests;
+#[cfg(test)]
+mod stream_parts;
+#[cfg(test)]
+mod writing_tests;

@@ -1,4 +1,4 @@
-use crate::parts::{ASKED, UPPER, datagrams, no_draws, server};
+use crate::udp_parts::{ASKED, UPPER, datagrams, no_draws, server};
 use dns_handle::{DnsRequest, DnsRequestOptions, DnsResponse, NetError};
 use dns_message::Message;
 use dns_record::Query;

@@ -1,4 +1,4 @@
-use crate::parts::{ASKED, datagrams, no_draws, request_of, server};
+use crate::udp_parts::{ASKED, datagrams, no_draws, request_of, server};
 use dns_handle::DnsRequest;
 use dns_udp::UdpClientStream;
 use dns_watching::Watching;

@@ -1,5 +1,0 @@
-use Rattle.std.proofs.Common.{◌≢◌, [], All}
-use Rattle.dns_transport_tests.proofs.parts.pieces_of.Given as goal
-
-abbrev pub invariant-loop-part : goal.invariant-loop-part
-invariant-loop-part l = All (λ piece. piece ≢ []) l.pieces.items

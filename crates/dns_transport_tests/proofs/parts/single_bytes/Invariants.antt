@@ -1,5 +1,0 @@
-use Rattle.std.proofs.Common.{◌≢◌, [], All}
-use Rattle.dns_transport_tests.proofs.parts.single_bytes.Given as goal
-
-abbrev pub invariant-loop-byte : goal.invariant-loop-byte
-invariant-loop-byte l = All (λ piece. piece ≢ []) l.pieces.items
