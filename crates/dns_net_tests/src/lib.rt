@@ -1,5 +1,5 @@
-//! Tests of requests, errors and links, by what `dns_handle` and `dns_recorded` give, and of the order of a trail, by what
-//! `dns_trail` gives.
+//! Tests of messages; of requests, errors and links; of the order of a trail; of the queue of requests, of what is polled for them,
+//! and of sends that are made again: by what `dns_wire`, `dns_handle`, `dns_recorded`, `dns_trail`, `dns_requests` and `dns_retry` give.
 //!
 //! They stand apart, since a crate with tests of its own is proved twice.
 #![tactic(auto)]
@@ -8,6 +8,14 @@
 mod long_order_tests;
 #[cfg(test)]
 mod long_request_tests;
+#[cfg(test)]
+mod message_pointer_tests;
+#[cfg(test)]
+mod message_rows;
+#[cfg(test)]
+mod message_tests;
+#[cfg(test)]
+mod message_writing_tests;
 #[cfg(test)]
 mod net_error_tests;
 #[cfg(test)]
@@ -28,3 +36,11 @@ mod order_tests;
 mod parts;
 #[cfg(test)]
 mod protocol_tests;
+#[cfg(test)]
+mod request_parts;
+#[cfg(test)]
+mod request_queue_tests;
+#[cfg(test)]
+mod retry_tests;
+#[cfg(test)]
+mod stream_tests;

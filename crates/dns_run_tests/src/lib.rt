@@ -1,6 +1,7 @@
 //! Tests of `run`, over some of the repository's rows and over an outside that fails, and the code of docs/LIBRARY.md. Tests of
 //! `check_trail`: trails that lookups of sessions left are derivations, and are none any more once they are turned in one place.
-//! And tests of how often a lookup and those checks ask the verifier, and of the iterations that they count.
+//! And tests of how often a lookup and those checks ask the verifier, and of the iterations that they count; and of reports that are
+//! read again: which lines can stand where, and what they say.
 //!
 //! They stand apart, since a crate with tests of its own is proved twice.
 #![tactic(auto)]
@@ -11,6 +12,8 @@ mod iteration_tests;
 mod library_tests;
 #[cfg(test)]
 mod question_tests;
+#[cfg(test)]
+mod report_reading_tests;
 #[cfg(test)]
 mod rows;
 #[cfg(test)]

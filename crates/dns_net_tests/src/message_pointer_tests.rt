@@ -1,7 +1,7 @@
 //! Names with compression pointers: long ones, rows of pointers, and each pointer at a place, with what exactly is read (RFC 1035,
 //! 4.1.4).
+use crate::message_rows::{Row, check_row, check_rows};
 use crate::message_tests::{error_of, read};
-use crate::rows::{Row, check_row, check_rows};
 use dns_wire::{DecodeError, DecodeKind, Message};
 use std::alloc::{AllocError, Global};
 

@@ -1,7 +1,7 @@
 use crate::chain_rows::*;
 use crate::chain_values::*;
-use crate::parts::ROOT;
 use crate::rows::check_number;
+use crate::trust_parts::ROOT;
 use dns_model::NameError;
 use std::alloc::Global;
 

@@ -1,5 +1,5 @@
-use crate::parts::*;
 use crate::rows::check_row;
+use crate::trust_parts::*;
 use dns_evidence::{ChainedSet, Listed, PlacedSet};
 use dns_model::{NameError, Proof, Section};
 use dns_name::Name;

@@ -1,8 +1,8 @@
 //! Chains that a verifier accepts by itself, whoever trusts their first keys and whenever.
 use crate::chain_rows::*;
 use crate::chain_values::*;
-use crate::parts::{Accepted, listing};
 use crate::rows::check_row;
+use crate::trust_parts::{Accepted, listing};
 use dns_chain_check::accepted_chain;
 use dns_evidence::Listed;
 use dns_model::{NameError, Section};

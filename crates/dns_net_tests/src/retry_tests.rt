@@ -1,4 +1,4 @@
-use crate::parts::{Said, check_row, reply, said_by, said_in, task};
+use crate::request_parts::{Said, check_row, reply, said_by, said_in, task};
 use dns_handle::{DnsHandle, DnsRequest, DnsRequestOptions};
 use dns_name::{Name, NoMemory};
 use dns_record::{DNSClass, Query, RecordType};

@@ -1,5 +1,5 @@
+use crate::message_rows::{Row, check_row, check_rows};
 use crate::message_tests::{POINTERS, Shape, WITH_OPT, read, shapes, with_rdata};
-use crate::rows::{Row, check_row, check_rows};
 use dns_wire::{Edns, EncodeError, Message, Query, Record};
 use std::alloc::{AllocError, Global};
 

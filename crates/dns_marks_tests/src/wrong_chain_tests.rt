@@ -1,6 +1,6 @@
 use crate::chain_rows::*;
 use crate::chain_values::*;
-use crate::parts::ROOT;
+use crate::trust_parts::ROOT;
 
 /// Chains with other numbers, or with links in other places.
 const WRONG_NUMBERS: &[Case] = &[

@@ -1,4 +1,5 @@
-use crate::parts::{message, only_insecure, query, set};
+use crate::flow_parts::{message, only_insecure, query, set};
+use crate::rows::check_row;
 use dns_evidence::{Limits, Listed, PlacedSet};
 use dns_flow::{Ask, Got, Need, Phase, after, start_ending, start_set, turn};
 use dns_message::Message;
@@ -7,7 +8,6 @@ use dns_outcome::Outcome;
 use dns_record::{Query, RecordType};
 use dns_trust::{Judge, NsProbe, TrustAnchors};
 use std::alloc::Global;
-use std::process::Abort;
 
 /// What an ask comes to: what is seen of NS records, a refusal, or an answer that has `b.` Insecure.
 #[derive(Clone, Copy)]
@@ -308,10 +308,6 @@ fn holds(alloc: Global, asked: RecordType, tried: &Tried<'_>) -> Result<bool, Na
         moment: 500,
     };
     holds_by(alloc, &judge, asked, tried)
-}
-
-fn check_row(rt: &impl Abort, shows: &str, held: Result<bool, NameError>) {
-    assert!(rt; matches!(held, Ok(true)), "{shows}");
 }
 
 fn rows() -> &'static [Row] {

@@ -1,6 +1,6 @@
 use crate::chain_rows::*;
 use crate::chain_values::*;
-use crate::parts::ROOT;
+use crate::trust_parts::ROOT;
 
 /// Chains with other rdatas or keys.
 const WRONG_RDATAS: &[Case] = &[

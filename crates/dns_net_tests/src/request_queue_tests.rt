@@ -1,4 +1,4 @@
-use crate::parts::request;
+use crate::request_parts::request;
 use dns_handle::NetError;
 use dns_requests::{BufDnsRequestStreamHandle, DnsResponseReceiver, OneshotDnsRequest};
 use std::alloc::Global;

@@ -1,6 +1,6 @@
 use crate::chain_values::*;
-use crate::parts::{Trust, Trusted, rdata, trust_in};
 use crate::rows::check_row;
+use crate::trust_parts::{Trust, Trusted, rdata, trust_in};
 use dns_chain_check::check_chain;
 use dns_model::{NameError, Section};
 use dns_name::Name;

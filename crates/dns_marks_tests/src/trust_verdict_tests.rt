@@ -1,6 +1,6 @@
-use crate::parts::*;
 use crate::rows::check_row;
 use crate::trust_mark_tests::key_set;
+use crate::trust_parts::*;
 use dns_evidence::{ChainedSet, Listed, MarkedSet};
 use dns_model::{NameError, Proof, Section};
 use dns_name::NoMemory;

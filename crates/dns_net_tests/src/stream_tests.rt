@@ -1,4 +1,4 @@
-use crate::parts::{Said, check_row, reply, said_by, said_in, task};
+use crate::request_parts::{Said, check_row, reply, said_by, said_in, task};
 use dns_handle::{DnsResponse, NetError};
 use dns_name::NoMemory;
 use dns_requests::{DnsResponseReceiver, DnsResponseStream, FirstAnswer};

@@ -1,4 +1,4 @@
-use crate::rows::{Row, check_row, check_rows};
+use crate::message_rows::{Row, check_row, check_rows};
 use dns_wire::*;
 use std::alloc::{AllocError, Global};
 

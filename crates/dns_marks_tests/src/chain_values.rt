@@ -1,4 +1,4 @@
-use crate::parts::{Accepted, PUBLIC_KEY, TRUSTED_ROOT, Trusted};
+use crate::trust_parts::{Accepted, PUBLIC_KEY, TRUSTED_ROOT, Trusted};
 
 /// The root's anchored key, and its second key.
 pub(crate) const ROOT_KEY: &[u8] = b"\x01\x01\x03\x0d\xaa\xbb";

@@ -1,5 +1,5 @@
-use crate::parts::*;
 use crate::rows::{check_number, check_row};
+use crate::trust_parts::*;
 use dns_evidence::Listed;
 use dns_model::NameError;
 use dns_rdata::Rrsig;
