@@ -59,7 +59,7 @@ fn with_bitmap(alloc: Global, front: &[u8]) -> Result<Vec<u8>, NameError> {
 /// A record of the root with a bitmap of every type behind a front.
 fn at_root_with_bitmap(alloc: Global, number: u16, front: &[u8]) -> Result<Record, NameError> {
     let bytes = with_bitmap(alloc, front)?;
-    at_root(alloc, number, &bytes)
+    Ok(at_root(alloc, number, &bytes)?)
 }
 
 /// A copy has the last type.
