@@ -43,15 +43,6 @@ impl Model for ListDatagrams {
     ghost invariant = { λ d. (d.left ≤ deque_len d.datagrams) × (deque_len d.datagrams ≤ deque_capacity d.datagrams) };
 }
 
-/// The bytes that fit into so much room.
-fn cut(bytes: Octets, room: usize) -> Octets
-    ensures { result ≡ take room bytes }
-{
-    let mut bytes = bytes.into_vec();
-    bytes.truncate(room);
-    Octets::from_vec(bytes)
-}
-
 /// Takes the first datagram out, puts what fits of it into the front of `buf`, and keeps that behind the others.
 fn receive_first(
     datagrams: &mut VecDeque<(Octets, SocketAddr)>,
@@ -62,7 +53,7 @@ fn receive_first(
     ensures received { IsReceived datagrams.old.items datagrams.new.items result buf.new }
 {
     let (bytes, from) = datagrams.pop_front()?;
-    let bytes = cut(bytes, buf.len());
+    let bytes = bytes.truncated(buf.len());
     copy_in(bytes.as_slice(), buf);
     let count = bytes.len();
     let Ok(()) = datagrams.push_back((bytes, from)) else {

@@ -80,14 +80,14 @@ fn unreadable(error: DecodeError) -> Result<Arrival, NoMemory>
 }
 
 /// The bytes of a message with another id, which is their first two.
-fn with_id(bytes: Octets, id: u16) -> Octets
+fn with_id(bytes: Octets, id: u16) -> Result<Octets, NoMemory>
     requires { 2 ≤ length bytes }
-    ensures { result ≡ with_id id bytes }
+    ensures { IfOk result (λ sent. sent ≡ with_id id bytes) }
 {
-    let mut bytes = bytes.into_vec();
+    let mut bytes = bytes.into_vec()?;
     bytes[0] = (id / 256) as u8;
     bytes[1] = (id % 256) as u8;
-    Octets::from_vec(bytes)
+    Ok(Octets::from_vec(bytes))
 }
 
 /// A request as it is sent under an id.
@@ -95,7 +95,7 @@ fn encoded_under(request: &DnsRequest, id: u16) -> Result<Octets, NetError>
     ensures { IsEncoded id (request_bytes request.now) result }
 {
     match request.message.to_vec() {
-        Ok(bytes) => Ok(with_id(bytes, id)),
+        Ok(bytes) => Ok(with_id(bytes, id)?),
         Err(EncodeError::TooLong) => Err(NetError::Proto(ProtoError::TooLong)),
         Err(EncodeError::NoMemory) => Err(NetError::NoMemory),
     }

@@ -1,3 +1,4 @@
+pub mod Parts
 pub mod NameSteps
 pub mod TextLemmas
 pub mod ReadSteps

@@ -1,2 +1,3 @@
 pub mod NameEnds
 pub mod LabelRuns
+pub mod Held

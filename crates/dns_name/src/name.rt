@@ -92,7 +92,7 @@ impl Name {
         Ok(Name { wire })
     }
 
-    /// An equal value in memory of its own.
+    /// An equal value; long octets are shared.
     pub fn try_clone(&self) -> Result<Name, NoMemory>
         ensures { IfOk result (λ n. n ≡ self.now) }
     {

@@ -13,6 +13,8 @@ mod name_tests;
 #[cfg(test)]
 mod name_text_tests;
 #[cfg(test)]
+mod octets_tests;
+#[cfg(test)]
 mod rows;
 #[cfg(test)]
 mod words_tests;

@@ -30,7 +30,7 @@ impl Model for Query {
 }
 
 impl Query {
-    /// An equal value in memory of its own.
+    /// An equal value; long octets are shared.
     pub fn try_clone(&self) -> Result<Query, NoMemory>
         ensures { IfOk result (λ q. q ≡ self.now) }
     {

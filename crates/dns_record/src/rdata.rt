@@ -61,7 +61,7 @@ impl Rdata {
         self.bytes
     }
 
-    /// An equal value in memory of its own.
+    /// An equal value; long octets are shared.
     pub fn try_clone(&self) -> Result<Rdata, NoMemory>
         ensures { IfOk result (λ r. r ≡ self.now) }
     {

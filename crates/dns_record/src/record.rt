@@ -39,7 +39,7 @@ impl Model for Record {
 }
 
 impl Record {
-    /// An equal value in memory of its own.
+    /// An equal value; long octets are shared.
     pub fn try_clone(&self) -> Result<Record, NoMemory>
         ensures { IfOk result (λ r. r ≡ self.now) }
     {
@@ -66,7 +66,7 @@ impl Record {
     }
 }
 
-/// Equal records in memory of their own, in order.
+/// Equal records in order, which share their long octets.
 pub fn clone_records(records: &Vec<Record>) -> Result<Vec<Record>, NoMemory>
     ensures { IfOk result (λ v. v.items ≡ records.now.items) }
 {

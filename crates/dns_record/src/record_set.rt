@@ -87,7 +87,7 @@ impl RecordSet {
         }
     }
 
-    /// An equal value in memory of its own.
+    /// An equal value; long octets are shared.
     pub fn try_clone(&self) -> Result<RecordSet, NoMemory>
         ensures { IfOk result (λ s. s ≡ self.now) }
     {

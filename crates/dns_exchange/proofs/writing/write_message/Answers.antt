@@ -1,9 +1,10 @@
-use Rattle.std.proofs.Common.{◌≡◌, Bool, true, false, [], ap}
+use Rattle.std.proofs.Common.{◌≡◌, Bool, true, false, [], ap, sym, subst}
 use Rattle.dns_mux.specs.Messages.{SerialMessageValue}
 use Rattle.dns_transport.specs.Links.{link_view}
 use Rattle.dns_transport.specs.StreamViews.{link_of, state_of}
 use Rattle.dns_exchange.specs.Reads.{sight}
-use Rattle.dns_exchange.proofs.WriteLemmas.{message_on, put_written}
+use Rattle.dns_exchange.specs.Writes.{HasWritten, message_to}
+use Rattle.dns_exchange.proofs.WriteLemmas.{message_on, no_message, put_written, written_none}
 use Rattle.dns_exchange.proofs.writing.write_message.Goals as goal
 
 not_both : (b : Bool) → b ≡ true → b ≡ false → ⊥
@@ -24,3 +25,17 @@ returns-clause-written g c =
     not_both _ (c.is_empty.ensures.1 none) c.if-is_empty.false)
     c.in_ok-enqueue.ensures.put.1)
     c.drain_all.ensures
+
+-- a message without a byte: nothing is written
+pub returns-then-is_empty-clause-written : goal.returns-then-is_empty-clause-written
+returns-then-is_empty-clause-written g c =
+    let seen = sight (link_view g.L.Link.counts g.L.Link.given g.L.Link.left g.L.Link.taken) (link_of c.args.stream.now) in
+    let stream = state_of c.args.stream.now in
+    let is = ap (λ (m : SerialMessageValue). m.bytes) c.message.view_is in
+    let none = c.is_empty.ensures.0 c.if-is_empty.true in
+    let empty : c.args.message.bytes ≡ [] = cc in
+    record {
+      out = subst (λ moved. HasWritten seen seen stream stream moved) (sym (no_message stream.peer c.args.message.bytes empty))
+          (written_none seen stream);
+      idle = c.requires.idle;
+    }
