@@ -1,6 +1,5 @@
 -- For private functions of this crate only: what lies where, and what is spelled, after a step in a name or a name.
-use Rattle.std.specs.Prelude.{◌≡◌, ℕ, ◌+◌, ◌<◌, ◌≤◌, true, ◌++◌, List, Option, None, Some, Result, Ok}
-use Rattle.std.specs.Global.{Vec}
+use Rattle.std.specs.Prelude.{◌≡◌, ℕ, ◌+◌, ◌<◌, ◌≤◌, true, ◌++◌, Bool, if◌then◌else◌, List, Option, None, Some, Result, Ok}
 use Rattle.dns_model.specs.Names.{Labels, wire, is_name}
 use Rattle.dns_model.specs.declared.proof.Proof.TheVariants.{Indeterminate}
 use Rattle.dns_message.specs.declared.decode_error.DecodeError.{DecodeError}
@@ -41,10 +40,9 @@ abbrev pub FieldRead : Option (List ℕ × ℕ) → List ℕ → List ℕ → Op
 FieldRead read old new (Some next) = IsAppended read old new next
 FieldRead read old new None = read ≡ None
 
--- the bytes that a vector holds
-abbrev pub items_in : Option (Vec ℕ) → Option (List ℕ)
-items_in None = None
-items_in (Some v) = Some v.items
+-- the fields that were written, where they were
+abbrev pub fields_in : Bool → List ℕ → Option (List ℕ)
+fields_in spelled bytes = if spelled then Some bytes else None
 
 -- the header of the code as one of the definitions
 abbrev pub header_value : Header → HeaderValue

@@ -23,9 +23,10 @@ pub record IsPointerEnd (bytes : List ℕ) (from to : ℕ) : Type 0 where
 pub record ArePointerEnds (bytes pointer_ends : List ℕ) : Type 0 where
   pub each : (place : ℕ) → place < length pointer_ends → IsPointerEnd bytes place (slice_index pointer_ends place)
 
--- bytes that are read: a place in them has 32 bits, and beside them stands their table
+-- bytes that are read: a place in them has 32 bits, they are those of the octets, and beside them stands their table
 pub record IsReadable (message : MessageBytes) : Type 0 where
   pub short : length message.bytes.now < 2 ^ 32
+  pub octets : message.octets.now ≡ message.bytes.now
   pub pointer_ends : ArePointerEnds message.bytes.now message.pointer_ends.now
 
 -- where a pointer leads by the table, or its target where the table ends before it

@@ -34,7 +34,7 @@ impl Model for Edns {
 }
 
 impl Edns {
-    /// An equal value in memory of its own.
+    /// An equal value; long octets are shared.
     pub fn try_clone(&self) -> Result<Edns, NoMemory>
         ensures { IfOk result (λ e. e ≡ self.now) }
     {
@@ -132,7 +132,7 @@ fn clone_edns(edns: &Option<Edns>) -> Result<Option<Edns>, NoMemory>
 }
 
 impl Message {
-    /// An equal value in memory of its own.
+    /// An equal value; long octets are shared.
     pub fn try_clone(&self) -> Result<Message, NoMemory>
         ensures { IfOk result (λ m. m ≡ self.now) }
     {

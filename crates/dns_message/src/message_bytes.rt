@@ -1,3 +1,4 @@
+use dns_name::Octets;
 use std::alloc::Global;
 
 /// The bytes of a message that is read, with what each reader of a part of it is given beside the place.
@@ -5,6 +6,8 @@ use std::alloc::Global;
 pub(crate) struct MessageBytes<'a> {
     /// Where the memory of what is read comes from.
     pub(crate) alloc: Global,
+    /// The octets that the message stands in, which rdata share.
+    pub(crate) octets: &'a Octets,
     pub(crate) bytes: &'a [u8],
     /// For each place that a pointer can name, where the row of bare pointers there ends.
     pub(crate) pointer_ends: &'a [u16],

@@ -12,6 +12,7 @@ use crate::name_reader::name_of;
 use crate::number_reader::u16_of;
 use crate::pointers::pointer_ends_of;
 use crate::section_reader::section_of;
+use dns_name::{Name, Octets};
 use dns_rdata::u16_at;
 use dns_record::{DNSClass, OpCode, Query, Record, RecordType, ResponseCode};
 use std::alloc::Global;
@@ -52,13 +53,17 @@ fn header_of(bytes: &[u8]) -> Result<Header, DecodeError>
 
 /// A question and the place after it (RFC 1035, 4.1.2).
 #[tactic(auto, unfolding(crate::specs::MessageAt::question_at))]
-fn question_of(message: &MessageBytes<'_>, at: usize) -> Result<(Query, usize), DecodeError>
+fn question_of(
+    message: &MessageBytes<'_>,
+    room: &mut Vec<u8>,
+    at: usize,
+) -> Result<(Query, usize), DecodeError>
     requires readable { IsReadable message.now }
     requires at { at ≤ length message.now.bytes.now }
     ensures reads { Reads (λ x. (x.0, x.1)) result (question_at message.now.bytes.now at) }
     ensures fits { IfOk result (λ x. x.1 ≤ length message.now.bytes.now) }
 {
-    let (name, next) = name_of(message, at)?;
+    let (name, next) = name_of(message, room, at)?;
     let (record_type, next) = u16_of(message.bytes, next)?;
     let (class, next) = u16_of(message.bytes, next)?;
     let query = Query {
@@ -75,6 +80,7 @@ const SMALLEST_QUESTION: usize = 5;
 /// So many questions, and the place after them.
 fn questions_of(
     message: &MessageBytes<'_>,
+    room: &mut Vec<u8>,
     count: u16,
     at: usize,
 ) -> Result<(Vec<Query>, usize), DecodeError>
@@ -83,11 +89,11 @@ fn questions_of(
     ensures reads { Reads (λ x. (x.0.items, x.1)) result (questions_at count message.now.bytes.now at) }
     ensures fits { IfOk result (λ x. x.1 ≤ length message.now.bytes.now) }
 {
-    let room = usize::from(count).min((message.bytes.len() - at) / SMALLEST_QUESTION);
-    let mut queries = Vec::with_capacity(message.alloc, room)?;
+    let most = usize::from(count).min((message.bytes.len() - at) / SMALLEST_QUESTION);
+    let mut queries = Vec::with_capacity(message.alloc, most)?;
     let mut pos = at;
     'questions: for _ in 0..count {
-        let (query, next) = question_of(message, pos)?;
+        let (query, next) = question_of(message, room, pos)?;
         queries.push(query)?;
         pos = next;
     }
@@ -143,22 +149,47 @@ impl Message {
     /// also those inside an rdata in the classes IN, NONE and ANY. The records are marked `Indeterminate`.
     ///
     /// `DecodeError` is the first fault from the left with its place in bytes, or want of memory.
-    #[tactic(auto, unfolding(crate::specs::MessageAt::message_at))]
     pub fn from_vec(alloc: Global, bytes: &[u8]) -> Result<Message, DecodeError>
         requires { length bytes.now < 2 ^ 32 }
         ensures { Reads (λ m. m) result (message_at bytes.now) }
     {
+        Message::from_octets(Octets::from_slice(alloc, bytes)?)
+    }
+
+    /// The message that the octets are, as `from_vec` reads it. The rdata that stand in them as they are share them.
+    #[tactic(auto, unfolding(crate::specs::MessageAt::message_at))]
+    pub fn from_octets(octets: Octets) -> Result<Message, DecodeError>
+        requires { length octets < 2 ^ 32 }
+        ensures { Reads (λ m. m) result (message_at octets) }
+    {
+        let octets = octets.into_shared()?;
+        let alloc = octets.allocator();
+        let bytes = octets.as_slice();
         let header = header_of(bytes)?;
         let pointer_ends = pointer_ends_of(alloc, bytes)?;
         let message = MessageBytes {
             alloc,
+            octets: &octets,
             bytes,
             pointer_ends: pointer_ends.as_slice(),
         };
-        let (queries, next) = questions_of(&message, header.questions, HEADER)?;
-        let (answers, _, next) = section_of(&message, header.answers, false, next)?;
-        let (authorities, _, next) = section_of(&message, header.authorities, false, next)?;
-        let (additionals, opt, next) = section_of(&message, header.additionals, true, next)?;
+        let mut room = Vec::with_capacity(alloc, Name::MAX_LEN)?;
+        let (queries, next) = questions_of(&message, &mut room, header.questions, HEADER)?;
+        let (answers, _, next) = section_of(&message, &mut room, header.answers, false, next)?;
+        let (authorities, _, next) = section_of(
+            &message,
+            &mut room,
+            header.authorities,
+            false,
+            next,
+        )?;
+        let (additionals, opt, next) = section_of(
+            &message,
+            &mut room,
+            header.additionals,
+            true,
+            next,
+        )?;
         if next < bytes.len() {
             return Err(fault(DecodeKind::Trailing, next));
         }

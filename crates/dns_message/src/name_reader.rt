@@ -82,15 +82,19 @@ pub(crate) fn push_spelled(
     }
 }
 
-/// The name at a place, and the place after its bytes.
-pub(crate) fn name_of(message: &MessageBytes<'_>, at: usize) -> Result<(Name, usize), DecodeError>
+/// The name at a place, and the place after its bytes. `room` is overwritten: the name is spelled there.
+pub(crate) fn name_of(
+    message: &MessageBytes<'_>,
+    room: &mut Vec<u8>,
+    at: usize,
+) -> Result<(Name, usize), DecodeError>
     requires readable { IsReadable message.now }
     requires at { at ≤ length message.now.bytes.now }
     ensures reads { Reads (λ x. (x.0, x.1)) result (name_at message.now.bytes.now at) }
     ensures fits { IfOk result (λ x. x.1 ≤ length message.now.bytes.now) }
 {
-    let mut wire = Vec::new(message.alloc);
-    let next = push_spelled(message, at, &mut wire)?;
-    let name = Name::from_octets(Octets::from_vec(wire));
+    room.clear();
+    let next = push_spelled(message, at, room)?;
+    let name = Name::from_octets(Octets::from_slice(message.alloc, room.as_slice())?);
     Ok((name, next))
 }

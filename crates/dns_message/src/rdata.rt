@@ -3,7 +3,7 @@ ghost use Rattle.dns_model.specs.Types.{has_shapes};
 ghost use Rattle.dns_message.specs.Reading.{Reads};
 ghost use Rattle.dns_message.specs.RdataAt.{fields_at, shaped_at, opaque_at, rdata_at};
 ghost use Rattle.dns_message.specs.Pointers.{IsReadable};
-ghost use Rattle.dns_message.specs.Fitting.{items_in};
+ghost use Rattle.dns_message.specs.Fitting.{fields_in};
 ghost use Rattle.dns_rdata.specs.Fields.{field_value};
 
 use crate::decode_error::{DecodeError, DecodeKind, fault};
@@ -13,63 +13,73 @@ use dns_name::{NoMemory, Octets};
 use dns_rdata::{Field, fields_of};
 use dns_record::{DNSClass, Rdata, RecordType};
 
-/// How many bytes to make room for at first, where the rdata has this size: the reader of names makes room for a name alone.
-fn room_of(shape: &[Field], size: usize) -> usize {
-    match shape {
-        [Field::DomainName] => 0,
-        _ => size,
-    }
-}
-
-/// The bytes of the rdata from `at` up to `stop`, names spelled out, or `None` where they aren't exactly these fields.
-fn spelled_fields(
+/// Writes the rdata from `at` up to `stop` into `room`, names spelled out. Answers whether it is exactly these fields; where it
+/// isn't, what was written means nothing.
+fn spells_fields(
     message: &MessageBytes<'_>,
+    room: &mut Vec<u8>,
     shape: &[Field],
     at: usize,
     stop: usize,
-) -> Result<Option<Vec<u8>>, NoMemory>
+) -> Result<bool, NoMemory>
     requires readable { IsReadable message.now }
     requires at { at ≤ length message.now.bytes.now }
     requires stop { stop ≤ length message.now.bytes.now }
-    ensures { IfOk result (λ o. items_in o ≡ fields_at (map field_value shape.now) message.now.bytes.now at stop) }
+    ensures { IfOk result (λ spelled.
+        fields_in spelled room.new.items ≡ fields_at (map field_value shape.now) message.now.bytes.now at stop) }
 {
-    let mut into = Vec::with_capacity(message.alloc, room_of(shape, stop.saturating_sub(at)))?;
+    room.clear();
     let mut pos = at;
     for field in shape {
-        match push_field(message, *field, pos, stop, &mut into)? {
-            None => return Ok(None),
+        match push_field(message, *field, pos, stop, room)? {
+            None => return Ok(false),
             Some(next) => pos = next,
         }
     }
-    if pos == stop {
-        Ok(Some(into))
+    Ok(pos == stop)
+}
+
+/// The octets of the message from `at` up to `stop` where they are these bytes, and else a copy.
+fn octets_of(
+    message: &MessageBytes<'_>,
+    bytes: &[u8],
+    at: usize,
+    stop: usize,
+) -> Result<Octets, NoMemory>
+    requires readable { IsReadable message.now }
+    requires rises { at ≤ stop }
+    requires stop { stop ≤ length message.now.bytes.now }
+    ensures { IfOk result (λ o. o ≡ bytes.now) }
+{
+    if Octets::MOST_IN_PLACE < bytes.len() && bytes == &message.bytes[at..stop] {
+        message.octets.part(at, stop)
     } else {
-        Ok(None)
+        Octets::from_slice(message.alloc, bytes)
     }
 }
 
-/// The rdata from `at` up to `stop` in the shape of its type, names spelled out, or `None` where it hasn't that shape.
+/// The rdata from `at` up to `stop` in the shape of its type, names spelled out, or `None` where it hasn't that shape. Where it
+/// stands in the message as it is, it is a part of the message.
 #[tactic(auto, unfolding(crate::specs::RdataAt::shaped_at))]
 fn shaped_of(
     message: &MessageBytes<'_>,
+    room: &mut Vec<u8>,
     record_type: u16,
     at: usize,
     stop: usize,
 ) -> Result<Option<Rdata>, NoMemory>
     requires readable { IsReadable message.now }
-    requires at { at ≤ length message.now.bytes.now }
+    requires rises { at ≤ stop }
     requires stop { stop ≤ length message.now.bytes.now }
     ensures { IfOk result (λ o. o ≡ shaped_at record_type message.now.bytes.now at stop) }
 {
-    match spelled_fields(message, fields_of(RecordType(record_type)), at, stop)? {
-        None => Ok(None),
-        Some(spelled) => {
-            if spelled.len() <= Rdata::MAX_LEN {
-                Ok(Some(Rdata::from_octets(Octets::from_vec(spelled))))
-            } else {
-                Ok(None)
-            }
-        }
+    let shape = fields_of(RecordType(record_type));
+    let is_spelled = spells_fields(message, room, shape, at, stop)?;
+    if is_spelled && room.len() <= Rdata::MAX_LEN {
+        let octets = octets_of(message, room.as_slice(), at, stop)?;
+        Ok(Some(Rdata::from_octets(octets)))
+    } else {
+        Ok(None)
     }
 }
 
@@ -87,7 +97,7 @@ pub(crate) fn opaque_of(
     size: u16,
     at: usize,
 ) -> Result<Octets, DecodeError>
-    requires short { length message.now.bytes.now < 2 ^ 32 }
+    requires readable { IsReadable message.now }
     requires at { at ≤ length message.now.bytes.now }
     ensures reads { Reads (λ o. o) result (opaque_at message.now.bytes.now size at) }
     ensures fits { IfOk result (λ o. at + size ≤ length message.now.bytes.now) }
@@ -96,13 +106,14 @@ pub(crate) fn opaque_of(
     if message.bytes.len() < stop {
         return Err(fault(DecodeKind::Short, at));
     }
-    Ok(Octets::from_slice(message.alloc, &message.bytes[at..stop])?)
+    Ok(message.octets.part(at, stop)?)
 }
 
 /// The rdata of so many bytes at a place, by its type and class.
 #[tactic(auto, unfolding(crate::specs::RdataAt::rdata_at))]
 pub(crate) fn rdata_of(
     message: &MessageBytes<'_>,
+    room: &mut Vec<u8>,
     record_type: u16,
     class: u16,
     size: u16,
@@ -118,12 +129,12 @@ pub(crate) fn rdata_of(
         return Err(fault(DecodeKind::Short, at));
     }
     if size == 0 {
-        return Ok(Rdata::from_octets(Octets::from_vec(Vec::new(message.alloc))));
+        return Ok(Rdata::from_octets(Octets::empty(message.alloc)));
     }
     if !has_shapes(class) {
-        return Ok(Rdata::from_slice(message.alloc, &message.bytes[at..stop])?);
+        return Ok(Rdata::from_octets(message.octets.part(at, stop)?));
     }
-    match shaped_of(message, record_type, at, stop)? {
+    match shaped_of(message, room, record_type, at, stop)? {
         Some(rdata) => Ok(rdata),
         None => Err(fault(DecodeKind::BadRdata, at)),
     }

@@ -29,6 +29,7 @@ pub(crate) struct RecordFields {
 #[tactic(auto, unfolding(crate::specs::RecordAt::record_at))]
 fn record_fields_of(
     message: &MessageBytes<'_>,
+    room: &mut Vec<u8>,
     record_type: u16,
     at: usize,
 ) -> Result<(RecordFields, usize), DecodeError>
@@ -41,7 +42,7 @@ fn record_fields_of(
     let (class, next) = u16_of(message.bytes, at)?;
     let (ttl, next) = u32_of(message.bytes, next)?;
     let (size, next) = u16_of(message.bytes, next)?;
-    let rdata = rdata_of(message, record_type, class, size, next)?;
+    let rdata = rdata_of(message, room, record_type, class, size, next)?;
     Ok((RecordFields { class, ttl, rdata }, next + usize::from(size)))
 }
 
@@ -75,7 +76,7 @@ fn edns_of(payload: u16, ttl: u32, options: Octets) -> Edns
 /// An OPT from its class on, and the place after it.
 #[tactic(auto, unfolding(crate::specs::RecordAt::opt_at))]
 fn opt_of(message: &MessageBytes<'_>, at: usize) -> Result<(Item, usize), DecodeError>
-    requires short { length message.now.bytes.now < 2 ^ 32 }
+    requires readable { IsReadable message.now }
     requires at { at ≤ length message.now.bytes.now }
     ensures reads { Reads (λ x. (x.0, x.1)) result (opt_at message.now.bytes.now at) }
     ensures fits { IfOk result (λ x. x.1 ≤ length message.now.bytes.now) }
@@ -95,6 +96,7 @@ fn opt_of(message: &MessageBytes<'_>, at: usize) -> Result<(Item, usize), Decode
 #[tactic(auto, unfolding(crate::specs::RecordAt::item_at))]
 pub(crate) fn item_of(
     message: &MessageBytes<'_>,
+    room: &mut Vec<u8>,
     allow_opt: bool,
     at: usize,
 ) -> Result<(Item, usize), DecodeError>
@@ -103,7 +105,7 @@ pub(crate) fn item_of(
     ensures reads { Reads (λ x. (x.0, x.1)) result (item_at allow_opt message.now.bytes.now at) }
     ensures fits { IfOk result (λ x. x.1 ≤ length message.now.bytes.now) }
 {
-    let (owner, next) = name_of(message, at)?;
+    let (owner, next) = name_of(message, room, at)?;
     let (record_type, next) = u16_of(message.bytes, next)?;
     if record_type == RecordType::OPT.0 {
         let at_root = stands_at_root(&owner);
@@ -113,7 +115,7 @@ pub(crate) fn item_of(
         }
         return Err(fault(DecodeKind::BadOpt, at));
     }
-    let (fields, next) = record_fields_of(message, record_type, next)?;
+    let (fields, next) = record_fields_of(message, room, record_type, next)?;
     Ok((kept_of(owner, record_type, fields), next))
 }
 

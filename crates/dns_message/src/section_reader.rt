@@ -17,6 +17,7 @@ const SMALLEST_RECORD: usize = 11;
 /// where `allow_opt` is set, and once.
 pub(crate) fn section_of(
     message: &MessageBytes<'_>,
+    room: &mut Vec<u8>,
     count: u16,
     allow_opt: bool,
     at: usize,
@@ -26,13 +27,13 @@ pub(crate) fn section_of(
     ensures reads { Reads (λ x. (x.0.items, x.1, x.2)) result (section_at count allow_opt message.now.bytes.now at) }
     ensures fits { IfOk result (λ x. x.2 ≤ length message.now.bytes.now) }
 {
-    let room = usize::from(count).min((message.bytes.len() - at) / SMALLEST_RECORD);
-    let mut records = Vec::with_capacity(message.alloc, room)?;
+    let most = usize::from(count).min((message.bytes.len() - at) / SMALLEST_RECORD);
+    let mut records = Vec::with_capacity(message.alloc, most)?;
     let mut opt = None;
     let mut allowed = allow_opt;
     let mut pos = at;
     'records: for _ in 0..count {
-        let (item, next) = item_of(message, allowed, pos)?;
+        let (item, next) = item_of(message, room, allowed, pos)?;
         pos = next;
         match item {
             Item::Kept(record) => records.push(record)?,

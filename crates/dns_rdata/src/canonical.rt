@@ -70,7 +70,7 @@ fn lowered_rdata(
 
 // Whether the names in an rdata of this type are lower-cased in canonical form.
 #[tactic(auto, unfolding(dns_model::specs::Shapes::is_lowered_type))]
-fn is_lowered(record_type: RecordType) -> bool
+pub(crate) fn is_lowered(record_type: RecordType) -> bool
     ensures { result ≡ is_lowered_type record_type.0 }
 {
     matches!(

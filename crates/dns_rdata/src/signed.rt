@@ -6,6 +6,7 @@ ghost use Rattle.dns_model.specs.Shapes.{canonical_form};
 ghost use Rattle.dns_model.specs.Signing.{signed_bytes, signed_head as head_of, signed_owner, rising_once};
 ghost use Rattle.dns_model.specs.Chains.{rdatas_of};
 
+use crate::canonical::is_lowered;
 use crate::write::{push_u16, push_u32};
 use crate::{Rrsig, canonical_rdata};
 use dns_name::{Name, NoMemory, Octets};
@@ -89,10 +90,14 @@ fn rising_records(
     Ok(rising)
 }
 
-// An rdata in canonical form, which is as long.
+// An rdata in canonical form, which is as long. One that stays as it is is no copy.
+#[tactic(auto, using(crate::proofs::CanonicalLemmas::canonical_as))]
 fn canonical(alloc: Global, record_type: RecordType, rdata: &Rdata) -> Result<Rdata, NoMemory>
     ensures { IfOk result (λ r. r ≡ canonical_form record_type.0 rdata.now) }
 {
+    if !is_lowered(record_type) {
+        return rdata.try_clone();
+    }
     let bytes = canonical_rdata(alloc, record_type, rdata.as_slice())?;
     Ok(Rdata::from_octets(bytes))
 }

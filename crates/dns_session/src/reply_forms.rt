@@ -30,7 +30,7 @@ fn message_of(alloc: Global, word: &[u8]) -> Result<Option<Result<Message, Decod
     let Some(bytes) = octets_in(alloc, word)? else {
         return Ok(None);
     };
-    let message = Message::from_vec(alloc, bytes.as_slice());
+    let message = Message::from_octets(bytes);
     match message {
         Ok(message) => Ok(Some(Ok(message))),
         Err(error) => {

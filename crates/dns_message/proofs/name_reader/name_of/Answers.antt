@@ -8,7 +8,11 @@ returns-in_err-next-clause-reads c =
     rw (p.1, p.2) (name_fails c.in_err-next.field-0.0.kind c.in_err-next.field-0.0.offset c.args.message.now.bytes.now c.args.at c.in_err-next.ensures.fault)
 
 pub from_octets-name-requires : goal.from_octets-name-requires
-from_octets-name-requires c = rw c.from_vec.ensures (wire_form _ _ _ (spelled_alone _ _ _ _ c.new-wire.ensures.items c.in_ok-next.ensures.name))
+from_octets-name-requires c =
+    let alone = spelled_alone _ _ _ _ c.clear.ensures.items c.in_ok-next.ensures.name in
+    rw (c.in_ok-from_slice.ensures, c.as_slice.ensures.value) (wire_form _ _ _ alone)
 
 pub returns-clause-reads : goal.returns-clause-reads
-returns-clause-reads c = rw (c.from_octets-name.ensures, c.from_vec.ensures) (named _ _ _ (spelled_alone _ _ _ _ c.new-wire.ensures.items c.in_ok-next.ensures.name))
+returns-clause-reads c =
+    let alone = spelled_alone _ _ _ _ c.clear.ensures.items c.in_ok-next.ensures.name in
+    rw (c.from_octets-name.ensures, c.in_ok-from_slice.ensures, c.as_slice.ensures.value) (named _ _ _ alone)
