@@ -77,7 +77,7 @@ impl Model for Chain {
 pub fn clone_rdatas(rdatas: &Vec<Rdata>) -> Result<Vec<Rdata>, NoMemory>
     ensures { IfOk result (λ v. v.items ≡ rdatas.now.items) }
 {
-    let mut all = Vec::new(*rdatas.allocator());
+    let mut all = Vec::with_capacity(*rdatas.allocator(), rdatas.len())?;
     for rdata in rdatas {
         let next = rdata.try_clone()?;
         all.push(next)?;
@@ -89,7 +89,7 @@ pub fn clone_rdatas(rdatas: &Vec<Rdata>) -> Result<Vec<Rdata>, NoMemory>
 pub fn clone_links(links: &Vec<Link>) -> Result<Vec<Link>, NoMemory>
     ensures { IfOk result (λ v. map link_value v.items ≡ map link_value links.now.items) }
 {
-    let mut all = Vec::new(*links.allocator());
+    let mut all = Vec::with_capacity(*links.allocator(), links.len())?;
     for link in links {
         let next = link.try_clone()?;
         all.push(next)?;

@@ -8,7 +8,7 @@ use dns_record::clone_records;
 fn clone_sets(sets: &Vec<JudgedSet>) -> Result<Vec<JudgedSet>, NoMemory>
     ensures { IfOk result (λ v. v.items ≡ sets.now.items) }
 {
-    let mut all = Vec::new(*sets.allocator());
+    let mut all = Vec::with_capacity(*sets.allocator(), sets.len())?;
     for set in sets {
         let next = set.try_clone()?;
         all.push(next)?;
@@ -19,7 +19,7 @@ fn clone_sets(sets: &Vec<JudgedSet>) -> Result<Vec<JudgedSet>, NoMemory>
 fn clone_steps(steps: &Vec<Asked>) -> Result<Vec<Asked>, NoMemory>
     ensures { IfOk result (λ v. v.items ≡ steps.now.items) }
 {
-    let mut all = Vec::new(*steps.allocator());
+    let mut all = Vec::with_capacity(*steps.allocator(), steps.len())?;
     for step in steps {
         let next = step.try_clone()?;
         all.push(next)?;

@@ -70,7 +70,7 @@ impl Record {
 pub fn clone_records(records: &Vec<Record>) -> Result<Vec<Record>, NoMemory>
     ensures { IfOk result (λ v. v.items ≡ records.now.items) }
 {
-    let mut all = Vec::new(*records.allocator());
+    let mut all = Vec::with_capacity(*records.allocator(), records.len())?;
     for record in records {
         let next = record.try_clone()?;
         all.push(next)?;
