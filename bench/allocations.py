@@ -1,0 +1,59 @@
+#!/usr/bin/env python3
+"""Instructions and allocations of one lookup of each session, as valgrind's callgrind counts them.
+
+    python3 bench/allocations.py [--program PROGRAM] SESSION..
+
+PROGRAM is the built dns_bench. What one lookup takes is taken off what some take, so that reading the session doesn't
+count. Unlike seconds the counts are the same on each run.
+"""
+import argparse
+import os
+import re
+import subprocess
+import sys
+import tempfile
+
+import passes
+
+LOOKUPS = 21
+FUNCTION = re.compile(r"c?fn=\((\d+)\)(?: (.*))?")
+
+
+def counted(program, session, lookups, file):
+    """Instructions of a run, and how often it called each function of another."""
+    words = ["valgrind", "--tool=callgrind", f"--callgrind-out-file={file}", program, "lookup", str(lookups)]
+    with open(session, "rb") as text:
+        ended = subprocess.run(words, stdin=text, stdout=subprocess.DEVNULL, stderr=subprocess.DEVNULL, check=False)
+    if ended.returncode != 0:
+        sys.exit(f"{' '.join(words[3:])} < {session}: status {ended.returncode}")
+    names, calls, called, total = {}, {}, None, 0
+    with open(file, encoding="utf-8") as lines:
+        for line in lines:
+            found = FUNCTION.match(line)
+            if found and found.group(2):
+                names[found.group(1)] = found.group(2).strip()
+            if line.startswith("cfn="):
+                called = found.group(1)
+            elif line.startswith("calls="):
+                calls[called] = calls.get(called, 0) + int(line[len("calls="):].split()[0])
+            elif line.startswith("totals:"):
+                total = int(line.split()[1])
+    return total, {names[number]: count for number, count in calls.items()}
+
+
+def main():
+    words = argparse.ArgumentParser()
+    words.add_argument("--program", default=passes.PROGRAM, help="the built program dns_bench")
+    words.add_argument("sessions", nargs="+")
+    asked = words.parse_args()
+    program = passes.checked(asked.program)
+    print(f"{'session':16}{'instructions':>14}{'allocations':>13}{'grown':>7}")
+    for session in asked.sessions:
+        with tempfile.TemporaryDirectory() as folder:
+            one, few = (counted(program, session, count, os.path.join(folder, str(count))) for count in (1, LOOKUPS))
+        more = [(few[1].get(name, 0) - one[1].get(name, 0)) / (LOOKUPS - 1) for name in ("rattle_alloc", "rattle_realloc")]
+        name = os.path.basename(session).removesuffix(".session")
+        print(f"{name:16}{(few[0] - one[0]) / (LOOKUPS - 1):14.0f}{more[0]:13.1f}{more[1]:7.1f}")
+
+
+main()
