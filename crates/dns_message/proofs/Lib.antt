@@ -1,6 +1,6 @@
 pub mod Faults
 pub mod NameReading
-pub mod PointerReading
+pub mod NameKeeping
 pub mod RdataReading
 pub mod RecordReading
 pub mod HeaderReading

@@ -17,7 +17,7 @@ use Rattle.dns_model.specs.ResultSteps.{◌>>=◌}
 use Rattle.dns_message.specs.Reading.{FailsWith}
 use Rattle.dns_message.proofs.Faults.{fails_on}
 use Rattle.dns_message.specs.NameAt.{step_of, after_step, labels_from, labels_at, name_at, spelled_at}
-use Rattle.dns_message.specs.Pointers.{IsPointerEnd, ending_at, steps_left}
+use Rattle.dns_message.specs.Readable.{ending_at, steps_left}
 use Rattle.dns_message.specs.Fitting.{IsSpelled, IsAppended, ending_or}
 use Rattle.std.specs.Result.{result_ok}
 
@@ -125,12 +125,12 @@ one_more : (labels : Labels) (label : Label) (r : Result (Labels × ℕ) DecodeE
 one_more labels label (Ok x) = ap (λ (n : Labels). Ok (n, x.1)) (simp append_assoc)
 one_more labels label (Err e) = refl
 
-row_wire-append : (a b : Labels) → row_wire (a ++ b) ≡ row_wire a ++ row_wire b
+pub row_wire-append : (a b : Labels) → row_wire (a ++ b) ≡ row_wire a ++ row_wire b
 row_wire-append [] b = refl
 row_wire-append (label ∷ a) b =
     ap (λ (w : List ℕ). length label ∷ (label ++ w)) (row_wire-append a b) ∙ ap (λ (w : List ℕ). length label ∷ w) (sym (append_assoc label (row_wire a) (row_wire b)))
 
-wire-row : (labels : Labels) → wire labels ≡ row_wire labels ++ 0 ∷ []
+pub wire-row : (labels : Labels) → wire labels ≡ row_wire labels ++ 0 ∷ []
 wire-row [] = refl
 wire-row (label ∷ labels) = ap (λ (w : List ℕ). length label ∷ (label ++ w)) (wire-row labels) ∙ ap (λ (w : List ℕ). length label ∷ w) (sym (append_assoc label (row_wire labels) (0 ∷ [])))
 
@@ -187,23 +187,17 @@ jumped None labels place (Err e) = refl
 jumped (Some first) labels place (Ok x) = refl
 jumped (Some first) labels place (Err e) = refl
 
--- a pointer's target reads as the place where it lands
-landed : (ending : Option ℕ) (labels : Labels) (place : ℕ) (r s : Result (Labels × ℕ) DecodeError) → ending_at place r ≡ ending_at place s
-    → finish ending (with_labels labels (ending_at place r)) ≡ finish ending (with_labels labels (ending_at place s))
-landed ending labels place r s same = ap (λ (x : Result (Labels × ℕ) DecodeError). finish ending (with_labels labels x)) same
-
-pub walked_pointer : (bytes : List ℕ) (at start pos : ℕ) (ending : Option ℕ) (read : List ℕ) (target to : ℕ) → Walked bytes at start pos ending read
-    → step_of bytes start pos (length read) ≡ Ok (step.Pointer target) → IsPointerEnd bytes target to
-    → Walked bytes at to to (Some (ending_or ending (pos + 2))) read
-walked_pointer bytes at start pos ending read target to w is pointer_end =
+pub walked_pointer : (bytes : List ℕ) (at start pos : ℕ) (ending : Option ℕ) (read : List ℕ) (target : ℕ) → Walked bytes at start pos ending read
+    → step_of bytes start pos (length read) ≡ Ok (step.Pointer target)
+    → Walked bytes at target target (Some (ending_or ending (pos + 2))) read
+walked_pointer bytes at start pos ending read target w is =
     let rest : labels_at bytes start pos (length read) ≡ ending_at (pos + 2) (labels_at bytes target target (length read)) =
     one_step (Ok (step.Pointer target)) bytes start pos (length read) is in
     record {
       labels = w.labels;
       spelled = w.spelled;
       good = w.good;
-      so_far = jumped ending w.labels (pos + 2) (labels_at bytes to to (length read))
-          ∙ sym (landed ending w.labels (pos + 2) (labels_at bytes target target (length read)) (labels_at bytes to to (length read)) (pointer_end.alike (length read) (pos + 2)))
+      so_far = jumped ending w.labels (pos + 2) (labels_at bytes target target (length read))
           ∙ ap (λ (r : Result (Labels × ℕ) DecodeError). finish ending (with_labels w.labels r)) (sym rest)
           ∙ w.so_far;
     }
@@ -291,13 +285,13 @@ row_label bytes at start pos ending old new size n r begun is =
       long = length-append r.read part ∙ ap (λ (x : List ℕ). length r.read + length x) l.parts ∙ omega (arith, l.long, r.long);
     }
 
-pub row_pointer : (bytes : List ℕ) (at start pos : ℕ) (ending : Option ℕ) (old new : List ℕ) (size target to : ℕ) (copied : List ℕ) → Row bytes at start pos ending old new size
-    → step_of bytes start pos size ≡ Ok (step.Pointer target) → IsPointerEnd bytes target to → copied ≡ new ++ slice_range bytes start pos
-    → Row bytes at to to (Some (ending_or ending (pos + 2))) old copied size
-row_pointer bytes at start pos ending old new size target to copied r is pointer_end row = record {
+pub row_pointer : (bytes : List ℕ) (at start pos : ℕ) (ending : Option ℕ) (old new : List ℕ) (size target : ℕ) (copied : List ℕ) → Row bytes at start pos ending old new size
+    → step_of bytes start pos size ≡ Ok (step.Pointer target) → copied ≡ new ++ slice_range bytes start pos
+    → Row bytes at target target (Some (ending_or ending (pos + 2))) old copied size
+row_pointer bytes at start pos ending old new size target copied r is row = record {
   read = r.read;
-  walk = walked_pointer bytes at start pos ending r.read target to r.walk (ap (step_of bytes start pos) r.long ∙ is) pointer_end;
-  grown = ap (λ (x : List ℕ). copied ++ x) (no_range bytes to) ∙ append-nil copied ∙ row ∙ r.grown;
+  walk = walked_pointer bytes at start pos ending r.read target r.walk (ap (step_of bytes start pos) r.long ∙ is);
+  grown = ap (λ (x : List ℕ). copied ++ x) (no_range bytes target) ∙ append-nil copied ∙ row ∙ r.grown;
   long = r.long;
 }
 

@@ -12,7 +12,7 @@ use Rattle.dns_message.specs.declared.step.Step.TheVariants as step
 use Rattle.dns_message.specs.NameAt.{step_of, after_step, labels_from, labels_at, name_at}
 use Rattle.dns_message.proofs.NameReading.{label_step, label_at, one_step, with_label}
 use Rattle.dns_message.proofs.Standing.{Stands, stands_front, stands_back, stands_inside, stands_range, stands_byte}
-use Rattle.dns_message.specs.Pointers.{ending_at, steps_left}
+use Rattle.dns_message.specs.Readable.{ending_at, steps_left}
 
 -- labels of a name of which `size` bytes were read before
 pub record IsGood (size : ℕ) (labels : Labels) : Type 0 where

@@ -1,6 +1,7 @@
 pub mod Reading
 pub mod NameAt
-pub mod Pointers
+pub mod Readable
+pub mod KnownNames
 pub mod Fitting
 pub mod RdataAt
 pub mod RecordAt

@@ -9,6 +9,4 @@ pub(crate) struct MessageBytes<'a> {
     /// The octets that the message stands in, which rdata share.
     pub(crate) octets: &'a Octets,
     pub(crate) bytes: &'a [u8],
-    /// For each place that a pointer can name, where the row of bare pointers there ends.
-    pub(crate) pointer_ends: &'a [u16],
 }

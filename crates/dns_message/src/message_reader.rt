@@ -1,16 +1,17 @@
 ghost use Rattle.std.specs.Prelude.{◌≡◌, ◌+◌, ◌<◌, ◌≤◌, ◌^◌, length, IfOk};
 ghost use Rattle.dns_message.specs.Reading.{Reads};
 ghost use Rattle.dns_message.specs.MessageAt.{header_at, question_at, questions_at, message_of, message_at};
-ghost use Rattle.dns_message.specs.Pointers.{IsReadable};
+ghost use Rattle.dns_message.specs.Readable.{IsReadable};
 ghost use Rattle.dns_message.specs.Fitting.{header_value};
+ghost use Rattle.dns_message.specs.KnownNames.{AreKnown};
 
 use crate::decode_error::{DecodeError, DecodeKind, fault};
 use crate::header_flags::*;
+use crate::known_names::KnownNames;
 use crate::message::{Edns, Message};
 use crate::message_bytes::MessageBytes;
 use crate::name_reader::name_of;
 use crate::number_reader::u16_of;
-use crate::pointers::pointer_ends_of;
 use crate::section_reader::section_of;
 use dns_name::{Name, Octets};
 use dns_rdata::u16_at;
@@ -55,15 +56,18 @@ fn header_of(bytes: &[u8]) -> Result<Header, DecodeError>
 #[tactic(auto, unfolding(crate::specs::MessageAt::question_at))]
 fn question_of(
     message: &MessageBytes<'_>,
+    names: &mut KnownNames,
     room: &mut Vec<u8>,
     at: usize,
 ) -> Result<(Query, usize), DecodeError>
     requires readable { IsReadable message.now }
+    requires known { AreKnown message.now.bytes.now names.old }
     requires at { at ≤ length message.now.bytes.now }
     ensures reads { Reads (λ x. (x.0, x.1)) result (question_at message.now.bytes.now at) }
     ensures fits { IfOk result (λ x. x.1 ≤ length message.now.bytes.now) }
+    ensures known { AreKnown message.now.bytes.now names.new }
 {
-    let (name, next) = name_of(message, room, at)?;
+    let (name, next) = name_of(message, names, room, at)?;
     let (record_type, next) = u16_of(message.bytes, next)?;
     let (class, next) = u16_of(message.bytes, next)?;
     let query = Query {
@@ -80,20 +84,23 @@ const SMALLEST_QUESTION: usize = 5;
 /// So many questions, and the place after them.
 fn questions_of(
     message: &MessageBytes<'_>,
+    names: &mut KnownNames,
     room: &mut Vec<u8>,
     count: u16,
     at: usize,
 ) -> Result<(Vec<Query>, usize), DecodeError>
     requires readable { IsReadable message.now }
+    requires known { AreKnown message.now.bytes.now names.old }
     requires at { at ≤ length message.now.bytes.now }
     ensures reads { Reads (λ x. (x.0.items, x.1)) result (questions_at count message.now.bytes.now at) }
     ensures fits { IfOk result (λ x. x.1 ≤ length message.now.bytes.now) }
+    ensures known { AreKnown message.now.bytes.now names.new }
 {
     let most = usize::from(count).min((message.bytes.len() - at) / SMALLEST_QUESTION);
     let mut queries = Vec::with_capacity(message.alloc, most)?;
     let mut pos = at;
     'questions: for _ in 0..count {
-        let (query, next) = question_of(message, room, pos)?;
+        let (query, next) = question_of(message, names, room, pos)?;
         queries.push(query)?;
         pos = next;
     }
@@ -166,18 +173,31 @@ impl Message {
         let alloc = octets.allocator();
         let bytes = octets.as_slice();
         let header = header_of(bytes)?;
-        let pointer_ends = pointer_ends_of(alloc, bytes)?;
         let message = MessageBytes {
             alloc,
             octets: &octets,
             bytes,
-            pointer_ends: pointer_ends.as_slice(),
         };
+        let mut names = KnownNames::new(alloc, bytes)?;
         let mut room = Vec::with_capacity(alloc, Name::MAX_LEN)?;
-        let (queries, next) = questions_of(&message, &mut room, header.questions, HEADER)?;
-        let (answers, _, next) = section_of(&message, &mut room, header.answers, false, next)?;
+        let (queries, next) = questions_of(
+            &message,
+            &mut names,
+            &mut room,
+            header.questions,
+            HEADER,
+        )?;
+        let (answers, _, next) = section_of(
+            &message,
+            &mut names,
+            &mut room,
+            header.answers,
+            false,
+            next,
+        )?;
         let (authorities, _, next) = section_of(
             &message,
+            &mut names,
             &mut room,
             header.authorities,
             false,
@@ -185,6 +205,7 @@ impl Message {
         )?;
         let (additionals, opt, next) = section_of(
             &message,
+            &mut names,
             &mut room,
             header.additionals,
             true,

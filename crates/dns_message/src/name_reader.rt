@@ -1,13 +1,15 @@
-ghost use Rattle.std.specs.Prelude.{◌≡◌, ◌+◌, ◌<◌, ◌≤◌, ◌^◌, ◌++◌, length, slice_range, IfOk, IfErr, OnOk};
+ghost use Rattle.std.specs.Prelude.{◌≡◌, ◌+◌, ◌<◌, ◌≤◌, ◌^◌, ◌++◌, [], length, drop, slice_range, IfOk, IfErr, OnOk};
 ghost use Rattle.dns_message.specs.Reading.{Reads, FailsWith};
 ghost use Rattle.std.specs.Result.{result_ok};
+ghost use Rattle.std.specs.List.{All};
 ghost use Rattle.dns_message.specs.NameAt.{name_at, spelled_at};
-ghost use Rattle.dns_message.specs.Pointers.{IsReadable};
+ghost use Rattle.dns_message.specs.Readable.{IsReadable};
 ghost use Rattle.dns_message.specs.Fitting.{IsSpelled, IsAppended, ending_or};
+ghost use Rattle.dns_message.specs.KnownNames.{AreKnown, HasPassed, IsPassed};
 
 use crate::decode_error::DecodeError;
+use crate::known_names::{KnownNames, Passed};
 use crate::message_bytes::MessageBytes;
-use crate::pointers::pointer_end_in;
 use crate::step::{Step, step_at};
 use dns_name::{Name, NoMemory, Octets};
 
@@ -40,19 +42,42 @@ fn push_row(bytes: &[u8], start: usize, end: usize, into: &mut Vec<u8>) -> Resul
     Ok(())
 }
 
+/// Notes a place to which a pointer leads, with how many bytes of labels stand before, where names are kept for it.
+fn pass(
+    names: &KnownNames,
+    passed: &mut Vec<Passed>,
+    place: u16,
+    size: usize,
+) -> Result<(), NoMemory>
+    requires short { size ≤ 254 }
+    ensures { OnOk result (HasPassed place size passed.old.items passed.new.items) }
+{
+    if names.keeps(place) {
+        passed.push(Passed {
+            place,
+            size: size as u8,
+        })?;
+    }
+    Ok(())
+}
+
 /// Appends the wire form of the name at a place, spelled out, and answers the place after its bytes. The labels between two
-/// pointers are copied at once. After an `Err`, what was appended means nothing.
-pub(crate) fn push_spelled(
+/// pointers are copied at once, and the name at a place that is known. After an `Err`, what was appended means nothing.
+fn push_walked(
     message: &MessageBytes<'_>,
+    names: &KnownNames,
     at: usize,
     into: &mut Vec<u8>,
+    passed: &mut Vec<Passed>,
 ) -> Result<usize, DecodeError>
     requires readable { IsReadable message.now }
+    requires known { AreKnown message.now.bytes.now names.now }
     requires at { at ≤ length message.now.bytes.now }
+    requires none { passed.old.items ≡ [] }
     ensures name { IfOk result (λ next.
         IsSpelled (name_at message.now.bytes.now at) into.old.items into.new.items next) }
-    ensures field { IfOk result (λ next.
-        IsAppended (result_ok (spelled_at message.now.bytes.now at)) into.old.items into.new.items next) }
+    ensures passed { IfOk result (λ next.
+        All (IsPassed message.now.bytes.now (drop (length into.old.items) into.new.items)) passed.new.items) }
     ensures fault { IfErr result (λ e. FailsWith e.kind e.offset (spelled_at message.now.bytes.now at)) }
     ensures fits { IfOk result (λ next. next ≤ length message.now.bytes.now) }
 {
@@ -74,27 +99,61 @@ pub(crate) fn push_spelled(
             }
             Step::Pointer(target) => {
                 push_row(bytes, start, pos, into)?;
+                if let Some(known) = names.find(target, size) {
+                    into.extend_from_slice(known)?;
+                    return Ok(ending_or(ending, pos + 2));
+                }
+                pass(names, passed, target, size)?;
                 ending = Some(ending_or(ending, pos + 2));
-                start = pointer_end_in(message.pointer_ends, target);
+                start = usize::from(target);
                 pos = start;
             }
         }
     }
 }
 
+/// Appends the wire form of the name at a place, spelled out, answers the place after its bytes, and keeps the name for the places
+/// to which its pointers lead. After an `Err`, what was appended means nothing.
+pub(crate) fn push_spelled(
+    message: &MessageBytes<'_>,
+    names: &mut KnownNames,
+    at: usize,
+    into: &mut Vec<u8>,
+) -> Result<usize, DecodeError>
+    requires readable { IsReadable message.now }
+    requires known { AreKnown message.now.bytes.now names.old }
+    requires at { at ≤ length message.now.bytes.now }
+    ensures name { IfOk result (λ next.
+        IsSpelled (name_at message.now.bytes.now at) into.old.items into.new.items next) }
+    ensures field { IfOk result (λ next.
+        IsAppended (result_ok (spelled_at message.now.bytes.now at)) into.old.items into.new.items next) }
+    ensures fault { IfErr result (λ e. FailsWith e.kind e.offset (spelled_at message.now.bytes.now at)) }
+    ensures fits { IfOk result (λ next. next ≤ length message.now.bytes.now) }
+    ensures known { AreKnown message.now.bytes.now names.new }
+{
+    let begun = into.len();
+    let mut passed = Vec::new(message.alloc);
+    let next = push_walked(message, names, at, into, &mut passed)?;
+    names.learn(message.bytes, passed.as_slice(), &into[begun..])?;
+    Ok(next)
+}
+
 /// The name at a place, and the place after its bytes. `room` is overwritten: the name is spelled there.
 pub(crate) fn name_of(
     message: &MessageBytes<'_>,
+    names: &mut KnownNames,
     room: &mut Vec<u8>,
     at: usize,
 ) -> Result<(Name, usize), DecodeError>
     requires readable { IsReadable message.now }
+    requires known { AreKnown message.now.bytes.now names.old }
     requires at { at ≤ length message.now.bytes.now }
     ensures reads { Reads (λ x. (x.0, x.1)) result (name_at message.now.bytes.now at) }
     ensures fits { IfOk result (λ x. x.1 ≤ length message.now.bytes.now) }
+    ensures known { AreKnown message.now.bytes.now names.new }
 {
     room.clear();
-    let next = push_spelled(message, at, room)?;
+    let next = push_spelled(message, names, at, room)?;
     let name = Name::from_octets(Octets::from_slice(message.alloc, room.as_slice())?);
     Ok((name, next))
 }

@@ -2,11 +2,13 @@ ghost use Rattle.std.specs.Prelude.{◌≡◌, ◌+◌, ◌<◌, ◌≤◌, ◌^
 ghost use Rattle.dns_model.specs.Types.{has_shapes};
 ghost use Rattle.dns_message.specs.Reading.{Reads};
 ghost use Rattle.dns_message.specs.RdataAt.{fields_at, shaped_at, opaque_at, rdata_at};
-ghost use Rattle.dns_message.specs.Pointers.{IsReadable};
+ghost use Rattle.dns_message.specs.Readable.{IsReadable};
 ghost use Rattle.dns_message.specs.Fitting.{fields_in};
 ghost use Rattle.dns_rdata.specs.Fields.{field_value};
+ghost use Rattle.dns_message.specs.KnownNames.{AreKnown};
 
 use crate::decode_error::{DecodeError, DecodeKind, fault};
+use crate::known_names::KnownNames;
 use crate::message_bytes::MessageBytes;
 use crate::rdata_reader::push_field;
 use dns_name::{NoMemory, Octets};
@@ -17,21 +19,24 @@ use dns_record::{DNSClass, Rdata, RecordType};
 /// isn't, what was written means nothing.
 fn spells_fields(
     message: &MessageBytes<'_>,
+    names: &mut KnownNames,
     room: &mut Vec<u8>,
     shape: &[Field],
     at: usize,
     stop: usize,
 ) -> Result<bool, NoMemory>
     requires readable { IsReadable message.now }
+    requires known { AreKnown message.now.bytes.now names.old }
     requires at { at ≤ length message.now.bytes.now }
     requires stop { stop ≤ length message.now.bytes.now }
-    ensures { IfOk result (λ spelled.
+    ensures fields { IfOk result (λ spelled.
         fields_in spelled room.new.items ≡ fields_at (map field_value shape.now) message.now.bytes.now at stop) }
+    ensures known { AreKnown message.now.bytes.now names.new }
 {
     room.clear();
     let mut pos = at;
     for field in shape {
-        match push_field(message, *field, pos, stop, room)? {
+        match push_field(message, names, *field, pos, stop, room)? {
             None => return Ok(false),
             Some(next) => pos = next,
         }
@@ -63,18 +68,21 @@ fn octets_of(
 #[tactic(auto, unfolding(crate::specs::RdataAt::shaped_at))]
 fn shaped_of(
     message: &MessageBytes<'_>,
+    names: &mut KnownNames,
     room: &mut Vec<u8>,
     record_type: u16,
     at: usize,
     stop: usize,
 ) -> Result<Option<Rdata>, NoMemory>
     requires readable { IsReadable message.now }
+    requires known { AreKnown message.now.bytes.now names.old }
     requires rises { at ≤ stop }
     requires stop { stop ≤ length message.now.bytes.now }
-    ensures { IfOk result (λ o. o ≡ shaped_at record_type message.now.bytes.now at stop) }
+    ensures shaped { IfOk result (λ o. o ≡ shaped_at record_type message.now.bytes.now at stop) }
+    ensures known { AreKnown message.now.bytes.now names.new }
 {
     let shape = fields_of(RecordType(record_type));
-    let is_spelled = spells_fields(message, room, shape, at, stop)?;
+    let is_spelled = spells_fields(message, names, room, shape, at, stop)?;
     if is_spelled && room.len() <= Rdata::MAX_LEN {
         let octets = octets_of(message, room.as_slice(), at, stop)?;
         Ok(Some(Rdata::from_octets(octets)))
@@ -113,6 +121,7 @@ pub(crate) fn opaque_of(
 #[tactic(auto, unfolding(crate::specs::RdataAt::rdata_at))]
 pub(crate) fn rdata_of(
     message: &MessageBytes<'_>,
+    names: &mut KnownNames,
     room: &mut Vec<u8>,
     record_type: u16,
     class: u16,
@@ -120,9 +129,11 @@ pub(crate) fn rdata_of(
     at: usize,
 ) -> Result<Rdata, DecodeError>
     requires readable { IsReadable message.now }
+    requires known { AreKnown message.now.bytes.now names.old }
     requires at { at ≤ length message.now.bytes.now }
     ensures reads { Reads (λ r. r) result (rdata_at record_type class message.now.bytes.now size at) }
     ensures fits { IfOk result (λ r. at + size ≤ length message.now.bytes.now) }
+    ensures known { AreKnown message.now.bytes.now names.new }
 {
     let stop = at + usize::from(size);
     if message.bytes.len() < stop {
@@ -134,7 +145,7 @@ pub(crate) fn rdata_of(
     if !has_shapes(class) {
         return Ok(Rdata::from_octets(message.octets.part(at, stop)?));
     }
-    match shaped_of(message, room, record_type, at, stop)? {
+    match shaped_of(message, names, room, record_type, at, stop)? {
         Some(rdata) => Ok(rdata),
         None => Err(fault(DecodeKind::BadRdata, at)),
     }

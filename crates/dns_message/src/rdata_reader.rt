@@ -2,11 +2,13 @@ ghost use Rattle.std.specs.Prelude.{◌≡◌, ◌+◌, ◌<◌, ◌≤◌, ◌^
 ghost use Rattle.dns_message.specs.NameAt.{spelled_at};
 ghost use Rattle.dns_message.specs.RdataAt.{octets_at, counted_octets_at, rest_at, bitmap_at, field_at};
 ghost use Rattle.std.specs.Result.{result_ok};
-ghost use Rattle.dns_message.specs.Pointers.{IsReadable};
+ghost use Rattle.dns_message.specs.Readable.{IsReadable};
 ghost use Rattle.dns_message.specs.Fitting.{FieldRead};
 ghost use Rattle.dns_rdata.specs.Fields.{field_value};
+ghost use Rattle.dns_message.specs.KnownNames.{AreKnown};
 
 use crate::decode_error::DecodeKind;
+use crate::known_names::KnownNames;
 use crate::message_bytes::MessageBytes;
 use crate::name_reader::push_spelled;
 use dns_name::NoMemory;
@@ -42,22 +44,25 @@ fn push_octets(
 #[tactic(auto, unfolding(crate::specs::RdataAt::field_at))]
 pub(crate) fn push_field(
     message: &MessageBytes<'_>,
+    names: &mut KnownNames,
     field: Field,
     pos: usize,
     stop: usize,
     into: &mut Vec<u8>,
 ) -> Result<Option<usize>, NoMemory>
     requires readable { IsReadable message.now }
+    requires known { AreKnown message.now.bytes.now names.old }
     requires stop { stop ≤ length message.now.bytes.now }
     requires pos { pos ≤ length message.now.bytes.now }
     ensures reads { IfOk result (λ next.
         FieldRead (field_at (field_value field) message.now.bytes.now pos stop) into.old.items into.new.items next) }
     ensures fits { IfOk result (λ next. IfSome next (λ n. n ≤ length message.now.bytes.now)) }
+    ensures known { AreKnown message.now.bytes.now names.new }
 {
     let bytes = message.bytes;
     match field {
         Field::Octets(size) => push_octets(bytes, usize::from(size), pos, stop, into),
-        Field::DomainName => push_name(message, pos, into),
+        Field::DomainName => push_name(message, names, pos, into),
         Field::CharacterString => push_counted(bytes, pos, stop, into),
         Field::TypeBitmap => push_bitmap(bytes, pos, stop, into),
         Field::Remainder => push_rest(bytes, pos, stop, into),
@@ -66,16 +71,19 @@ pub(crate) fn push_field(
 
 fn push_name(
     message: &MessageBytes<'_>,
+    names: &mut KnownNames,
     pos: usize,
     into: &mut Vec<u8>,
 ) -> Result<Option<usize>, NoMemory>
     requires readable { IsReadable message.now }
+    requires known { AreKnown message.now.bytes.now names.old }
     requires pos { pos ≤ length message.now.bytes.now }
     ensures reads { IfOk result (λ next.
         FieldRead (result_ok (spelled_at message.now.bytes.now pos)) into.old.items into.new.items next) }
     ensures fits { IfOk result (λ next. IfSome next (λ n. n ≤ length message.now.bytes.now)) }
+    ensures known { AreKnown message.now.bytes.now names.new }
 {
-    match push_spelled(message, pos, into) {
+    match push_spelled(message, names, pos, into) {
         Ok(next) => Ok(Some(next)),
         Err(error) => {
             if error.kind == DecodeKind::NoMemory {

@@ -1,13 +1,15 @@
 ghost use Rattle.std.specs.Prelude.{◌≡◌, ◌+◌, ◌<◌, ◌≤◌, ◌^◌, length, IfOk};
 ghost use Rattle.dns_message.specs.Reading.{Reads};
-ghost use Rattle.dns_message.specs.Pointers.{IsReadable};
+ghost use Rattle.dns_message.specs.Readable.{IsReadable};
 ghost use Rattle.dns_model.specs.Names.{Labels};
 ghost use Rattle.dns_message.specs.Fitting.{kept_of};
 ghost use Rattle.dns_message.specs.RecordAt.{record_at, opt_at, item_at, edns_of, is_root};
+ghost use Rattle.dns_message.specs.KnownNames.{AreKnown};
 
 use crate::decode_error::{DecodeError, DecodeKind, fault};
 use crate::header_flags::{DNSSEC_OK, EDNS_VERSION, EXTENDED_CODE};
 use crate::item::Item;
+use crate::known_names::KnownNames;
 use crate::message::Edns;
 use crate::message_bytes::MessageBytes;
 use crate::name_reader::name_of;
@@ -29,20 +31,23 @@ pub(crate) struct RecordFields {
 #[tactic(auto, unfolding(crate::specs::RecordAt::record_at))]
 fn record_fields_of(
     message: &MessageBytes<'_>,
+    names: &mut KnownNames,
     room: &mut Vec<u8>,
     record_type: u16,
     at: usize,
 ) -> Result<(RecordFields, usize), DecodeError>
     requires readable { IsReadable message.now }
+    requires known { AreKnown message.now.bytes.now names.old }
     requires at { at ≤ length message.now.bytes.now }
     ensures reads { (owner : Labels) → Reads (λ x. (kept_of owner record_type x.0, x.1)) result
         (record_at owner record_type message.now.bytes.now at) }
     ensures fits { IfOk result (λ x. x.1 ≤ length message.now.bytes.now) }
+    ensures known { AreKnown message.now.bytes.now names.new }
 {
     let (class, next) = u16_of(message.bytes, at)?;
     let (ttl, next) = u32_of(message.bytes, next)?;
     let (size, next) = u16_of(message.bytes, next)?;
-    let rdata = rdata_of(message, room, record_type, class, size, next)?;
+    let rdata = rdata_of(message, names, room, record_type, class, size, next)?;
     Ok((RecordFields { class, ttl, rdata }, next + usize::from(size)))
 }
 
@@ -96,16 +101,19 @@ fn opt_of(message: &MessageBytes<'_>, at: usize) -> Result<(Item, usize), Decode
 #[tactic(auto, unfolding(crate::specs::RecordAt::item_at))]
 pub(crate) fn item_of(
     message: &MessageBytes<'_>,
+    names: &mut KnownNames,
     room: &mut Vec<u8>,
     allow_opt: bool,
     at: usize,
 ) -> Result<(Item, usize), DecodeError>
     requires readable { IsReadable message.now }
+    requires known { AreKnown message.now.bytes.now names.old }
     requires at { at ≤ length message.now.bytes.now }
     ensures reads { Reads (λ x. (x.0, x.1)) result (item_at allow_opt message.now.bytes.now at) }
     ensures fits { IfOk result (λ x. x.1 ≤ length message.now.bytes.now) }
+    ensures known { AreKnown message.now.bytes.now names.new }
 {
-    let (owner, next) = name_of(message, room, at)?;
+    let (owner, next) = name_of(message, names, room, at)?;
     let (record_type, next) = u16_of(message.bytes, next)?;
     if record_type == RecordType::OPT.0 {
         let at_root = stands_at_root(&owner);
@@ -115,7 +123,7 @@ pub(crate) fn item_of(
         }
         return Err(fault(DecodeKind::BadOpt, at));
     }
-    let (fields, next) = record_fields_of(message, room, record_type, next)?;
+    let (fields, next) = record_fields_of(message, names, room, record_type, next)?;
     Ok((kept_of(owner, record_type, fields), next))
 }
 

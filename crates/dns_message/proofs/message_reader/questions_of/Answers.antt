@@ -1,3 +1,4 @@
+use Rattle.std.proofs.Common.{rules}
 use Rattle.std.proofs.lemmas.Result.{err_from_is_err_and}
 use Rattle.dns_message.specs.MessageAt.{questions_at}
 use Rattle.dns_message.proofs.RecordReading.{questions_more, questions_fail, questions_done}
@@ -14,6 +15,7 @@ questions-preserved c = record {
   so_far = rw c.in_ok-push.ensures.items (questions_more c.args.count c.questions.counter c.args.message.now.bytes.now c.questions.pos c.in_ok-query.query c.in_ok-query.next c.questions.queries.items
       (questions_at c.args.count c.args.message.now.bytes.now c.args.at) c.questions-test.true c.in_ok-query.ensures.reads c.questions.invariant.so_far);
   fits = c.in_ok-query.ensures.fits;
+  known = search rules;
 }
 
 pub returns-clause-reads : goal.returns-clause-reads

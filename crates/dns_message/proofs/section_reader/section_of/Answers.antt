@@ -1,4 +1,4 @@
-use Rattle.std.proofs.Common.{◌≡◌, ◌-◌, Option, None, Ok, ap, sym, ◌∙◌, refl}
+use Rattle.std.proofs.Common.{rules, ◌≡◌, ◌-◌, Option, None, Ok, ap, sym, ◌∙◌, refl}
 use Rattle.std.proofs.lemmas.Result.{err_from_is_err_and}
 use Rattle.dns_message.specs.declared.item.Item.{Item}
 use Rattle.dns_message.specs.declared.item.Item.TheVariants as item
@@ -24,6 +24,7 @@ records-preserved c =
                 c.records.records.items c.records.opt (section_at c.args.count c.args.allow_opt c.args.message.now.bytes.now c.args.at) c.records-test.true h c.records.invariant.so_far);
             once = rw (w.opt-is, w.allowed-is) c.records.invariant.once;
             fits = c.in_ok-item.ensures.fits;
+            known = search rules;
           }
       | in-Opt w ↦
           let h : item_at c.records.allowed c.args.message.now.bytes.now c.records.pos ≡ Ok (item.Opt w.in-Opt.edns w.in-Opt.code, c.in_ok-item.next) =
@@ -36,6 +37,7 @@ records-preserved c =
                 c.records.records.items (section_at c.args.count c.args.allow_opt c.args.message.now.bytes.now c.args.at) c.records-test.true h so_far);
             once = rw (w.opt-is, w.allowed-is) refl;
             fits = c.in_ok-item.ensures.fits;
+            known = search rules;
           }
     ]
 

@@ -1,8 +1,10 @@
 use Rattle.std.proofs.Common.{◌≤◌, length}
 use Rattle.std.specs.Prelude.{IfSome}
+use Rattle.std.specs.List.{All}
 use Rattle.dns_message.proofs.NameReading.{Row}
-use Rattle.dns_message.proofs.name_reader.push_spelled.Given as goal
-use Rattle.dns_message.specs.Pointers.{steps_left}
+use Rattle.dns_message.proofs.NameKeeping.{IsOnWay}
+use Rattle.dns_message.proofs.name_reader.push_walked.Given as goal
+use Rattle.dns_message.specs.Readable.{steps_left}
 
 abbrev pub invariant-steps : goal.invariant-steps
 invariant-steps l = record {
@@ -12,6 +14,7 @@ invariant-steps l = record {
   start_fits : l.start ≤ length l.bytes;
   pos_fits : l.pos ≤ length l.bytes;
   ending_fits : IfSome l.ending (λ e. e ≤ length l.bytes);
+  passed : All (IsOnWay l.bytes l.at) l.passed.items;
 }
 
 abbrev pub decreases-steps : goal.decreases-steps
