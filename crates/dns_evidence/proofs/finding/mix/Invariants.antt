@@ -1,7 +1,13 @@
-use Rattle.std.proofs.Common.{◌≡◌, drop}
+use Rattle.std.proofs.Common.{◌≡◌, drop, length}
 use Rattle.dns_evidence.specs.Finding.{mixed}
 use Rattle.dns_evidence.proofs.finding.mix.Given as goal
 
 -- the number goes on with the bytes that are left
-abbrev pub invariant-loop-byte : goal.invariant-loop-byte
-invariant-loop-byte l = mixed l.number (drop l.byte-index l.bytes) ≡ mixed l.seed l.bytes
+abbrev pub invariant-fours : goal.invariant-fours
+invariant-fours l = mixed l.number l.rest ≡ mixed l.seed l.bytes
+
+abbrev pub decreases-fours : goal.decreases-fours
+decreases-fours l = length l.rest
+
+abbrev pub invariant-bytes : goal.invariant-bytes
+invariant-bytes l = mixed l.number (drop l.byte-index l.byte-items) ≡ mixed l.seed l.bytes
