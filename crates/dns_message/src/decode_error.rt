@@ -1,6 +1,5 @@
-ghost use Rattle.std.specs.Prelude.{◌≡◌, ◌<◌, ◌^◌};
+ghost use Rattle.std.specs.Prelude.{◌≡◌};
 ghost use Rattle.dns_message.specs.declared.decode_error.DecodeKind.TheVariants.{NoMemory};
-ghost use Rattle.dns_message.specs.Reading.{fault};
 
 use std::alloc::{AllocError, AllocFailed};
 
@@ -62,16 +61,5 @@ impl From<dns_name::NoMemory> for DecodeError {
             kind: DecodeKind::NoMemory,
             offset: 0,
         }
-    }
-}
-
-/// A fault at a place.
-pub(crate) fn fault(kind: DecodeKind, place: usize) -> DecodeError
-    requires { place < 2 ^ 32 }
-    ensures { result ≡ fault kind place }
-{
-    DecodeError {
-        kind,
-        offset: place as u32,
     }
 }

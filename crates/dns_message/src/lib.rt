@@ -14,6 +14,7 @@ mod name_reader;
 mod number_reader;
 mod rdata;
 mod rdata_reader;
+mod read_fault;
 mod record_reader;
 mod section_reader;
 mod step;

@@ -5,13 +5,14 @@ ghost use Rattle.dns_message.specs.Readable.{IsReadable};
 ghost use Rattle.dns_message.specs.Fitting.{header_value};
 ghost use Rattle.dns_message.specs.KnownNames.{AreKnown};
 
-use crate::decode_error::{DecodeError, DecodeKind, fault};
+use crate::decode_error::{DecodeError, DecodeKind};
 use crate::header_flags::*;
 use crate::known_names::KnownNames;
 use crate::message::{Edns, Message};
 use crate::message_bytes::MessageBytes;
 use crate::name_reader::name_of;
 use crate::number_reader::u16_of;
+use crate::read_fault::{ReadFault, fault};
 use crate::section_reader::section_of;
 use dns_name::{Name, Octets};
 use dns_rdata::u16_at;
@@ -33,7 +34,7 @@ pub(crate) struct Header {
 const HEADER: usize = 12;
 
 #[tactic(auto, using(crate::proofs::HeaderReading::header_short, crate::proofs::HeaderReading::header_whole))]
-fn header_of(bytes: &[u8]) -> Result<Header, DecodeError>
+fn header_of(bytes: &[u8]) -> Result<Header, ReadFault>
     requires short { length bytes.now < 2 ^ 32 }
     ensures reads { Reads header_value result (header_at bytes.now) }
     ensures fits { IfOk result (λ h. 12 ≤ length bytes.now) }
@@ -59,7 +60,7 @@ fn question_of(
     names: &mut KnownNames,
     room: &mut Vec<u8>,
     at: usize,
-) -> Result<(Query, usize), DecodeError>
+) -> Result<(Query, usize), ReadFault>
     requires readable { IsReadable message.now }
     requires known { AreKnown message.now.bytes.now names.old }
     requires at { at ≤ length message.now.bytes.now }
@@ -88,7 +89,7 @@ fn questions_of(
     room: &mut Vec<u8>,
     count: u16,
     at: usize,
-) -> Result<(Vec<Query>, usize), DecodeError>
+) -> Result<(Vec<Query>, usize), ReadFault>
     requires readable { IsReadable message.now }
     requires known { AreKnown message.now.bytes.now names.old }
     requires at { at ≤ length message.now.bytes.now }
@@ -151,6 +152,60 @@ fn message_of(header: Header, sections: Sections, opt: Option<(Edns, u8)>) -> Me
     }
 }
 
+/// The message that the octets are.
+#[tactic(auto, unfolding(crate::specs::MessageAt::message_at))]
+fn read_message(octets: Octets) -> Result<Message, ReadFault>
+    requires { length octets < 2 ^ 32 }
+    ensures { Reads (λ m. m) result (message_at octets) }
+{
+    let octets = octets.into_shared()?;
+    let alloc = octets.allocator();
+    let bytes = octets.as_slice();
+    let header = header_of(bytes)?;
+    let message = MessageBytes {
+        alloc,
+        octets: &octets,
+        bytes,
+    };
+    let mut names = KnownNames::new(alloc, bytes)?;
+    let mut room = Vec::with_capacity(alloc, Name::MAX_LEN)?;
+    let (queries, next) = questions_of(&message, &mut names, &mut room, header.questions, HEADER)?;
+    let (answers, _, next) = section_of(
+        &message,
+        &mut names,
+        &mut room,
+        header.answers,
+        false,
+        next,
+    )?;
+    let (authorities, _, next) = section_of(
+        &message,
+        &mut names,
+        &mut room,
+        header.authorities,
+        false,
+        next,
+    )?;
+    let (additionals, opt, next) = section_of(
+        &message,
+        &mut names,
+        &mut room,
+        header.additionals,
+        true,
+        next,
+    )?;
+    if next < bytes.len() {
+        return Err(fault(DecodeKind::Trailing, next));
+    }
+    let sections = Sections {
+        queries,
+        answers,
+        authorities,
+        additionals,
+    };
+    Ok(message_of(header, sections, opt))
+}
+
 impl Message {
     /// The message that the bytes are, all of them (RFC 1035, 4.1; RFC 6891). Names may end in pointers, and are spelled out,
     /// also those inside an rdata in the classes IN, NONE and ANY. The records are marked `Indeterminate`.
@@ -164,62 +219,13 @@ impl Message {
     }
 
     /// The message that the octets are, as `from_vec` reads it. The rdata that stand in them as they are share them.
-    #[tactic(auto, unfolding(crate::specs::MessageAt::message_at))]
     pub fn from_octets(octets: Octets) -> Result<Message, DecodeError>
         requires { length octets < 2 ^ 32 }
         ensures { Reads (λ m. m) result (message_at octets) }
     {
-        let octets = octets.into_shared()?;
-        let alloc = octets.allocator();
-        let bytes = octets.as_slice();
-        let header = header_of(bytes)?;
-        let message = MessageBytes {
-            alloc,
-            octets: &octets,
-            bytes,
-        };
-        let mut names = KnownNames::new(alloc, bytes)?;
-        let mut room = Vec::with_capacity(alloc, Name::MAX_LEN)?;
-        let (queries, next) = questions_of(
-            &message,
-            &mut names,
-            &mut room,
-            header.questions,
-            HEADER,
-        )?;
-        let (answers, _, next) = section_of(
-            &message,
-            &mut names,
-            &mut room,
-            header.answers,
-            false,
-            next,
-        )?;
-        let (authorities, _, next) = section_of(
-            &message,
-            &mut names,
-            &mut room,
-            header.authorities,
-            false,
-            next,
-        )?;
-        let (additionals, opt, next) = section_of(
-            &message,
-            &mut names,
-            &mut room,
-            header.additionals,
-            true,
-            next,
-        )?;
-        if next < bytes.len() {
-            return Err(fault(DecodeKind::Trailing, next));
+        match read_message(octets) {
+            Ok(message) => Ok(message),
+            Err(fault) => Err(fault.shown()),
         }
-        let sections = Sections {
-            queries,
-            answers,
-            authorities,
-            additionals,
-        };
-        Ok(message_of(header, sections, opt))
     }
 }

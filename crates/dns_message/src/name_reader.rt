@@ -7,9 +7,9 @@ ghost use Rattle.dns_message.specs.Readable.{IsReadable};
 ghost use Rattle.dns_message.specs.Fitting.{IsSpelled, IsAppended, ending_or};
 ghost use Rattle.dns_message.specs.KnownNames.{AreKnown, HasPassed, IsPassed};
 
-use crate::decode_error::DecodeError;
 use crate::known_names::{KnownNames, Passed};
 use crate::message_bytes::MessageBytes;
+use crate::read_fault::ReadFault;
 use crate::step::{Step, step_at};
 use dns_name::{Name, NoMemory, Octets};
 
@@ -69,7 +69,7 @@ fn push_walked(
     at: usize,
     into: &mut Vec<u8>,
     passed: &mut Vec<Passed>,
-) -> Result<usize, DecodeError>
+) -> Result<usize, ReadFault>
     requires readable { IsReadable message.now }
     requires known { AreKnown message.now.bytes.now names.now }
     requires at { at ≤ length message.now.bytes.now }
@@ -119,7 +119,7 @@ pub(crate) fn push_spelled(
     names: &mut KnownNames,
     at: usize,
     into: &mut Vec<u8>,
-) -> Result<usize, DecodeError>
+) -> Result<usize, ReadFault>
     requires readable { IsReadable message.now }
     requires known { AreKnown message.now.bytes.now names.old }
     requires at { at ≤ length message.now.bytes.now }
@@ -144,7 +144,7 @@ pub(crate) fn name_of(
     names: &mut KnownNames,
     room: &mut Vec<u8>,
     at: usize,
-) -> Result<(Name, usize), DecodeError>
+) -> Result<(Name, usize), ReadFault>
     requires readable { IsReadable message.now }
     requires known { AreKnown message.now.bytes.now names.old }
     requires at { at ≤ length message.now.bytes.now }

@@ -1,12 +1,13 @@
 ghost use Rattle.std.specs.Prelude.{◌≡◌, ◌+◌, ◌<◌, ◌≤◌, ◌^◌, length, IfOk};
 ghost use Rattle.dns_message.specs.Reading.{Reads, u16_field, u32_field};
 
-use crate::decode_error::{DecodeError, DecodeKind, fault};
+use crate::decode_error::DecodeKind;
+use crate::read_fault::{ReadFault, fault};
 use dns_rdata::{u16_at, u32_at};
 
 /// The number of two bytes at a place, and the place after it.
 #[tactic(auto, unfolding(crate::specs::Reading::u16_field))]
-pub(crate) fn u16_of(bytes: &[u8], at: usize) -> Result<(u16, usize), DecodeError>
+pub(crate) fn u16_of(bytes: &[u8], at: usize) -> Result<(u16, usize), ReadFault>
     requires short { length bytes.now < 2 ^ 32 }
     requires at { at ≤ length bytes.now }
     ensures reads { Reads (λ x. x) result (u16_field bytes.now at) }
@@ -20,7 +21,7 @@ pub(crate) fn u16_of(bytes: &[u8], at: usize) -> Result<(u16, usize), DecodeErro
 
 /// The number of four bytes at a place, and the place after it.
 #[tactic(auto, unfolding(crate::specs::Reading::u32_field))]
-pub(crate) fn u32_of(bytes: &[u8], at: usize) -> Result<(u32, usize), DecodeError>
+pub(crate) fn u32_of(bytes: &[u8], at: usize) -> Result<(u32, usize), ReadFault>
     requires short { length bytes.now < 2 ^ 32 }
     requires at { at ≤ length bytes.now }
     ensures reads { Reads (λ x. x) result (u32_field bytes.now at) }

@@ -7,10 +7,11 @@ ghost use Rattle.dns_message.specs.Fitting.{fields_in};
 ghost use Rattle.dns_rdata.specs.Fields.{field_value};
 ghost use Rattle.dns_message.specs.KnownNames.{AreKnown};
 
-use crate::decode_error::{DecodeError, DecodeKind, fault};
+use crate::decode_error::DecodeKind;
 use crate::known_names::KnownNames;
 use crate::message_bytes::MessageBytes;
 use crate::rdata_reader::push_field;
+use crate::read_fault::{ReadFault, fault};
 use dns_name::{NoMemory, Octets};
 use dns_rdata::{Field, fields_of};
 use dns_record::{DNSClass, Rdata, RecordType};
@@ -104,7 +105,7 @@ pub(crate) fn opaque_of(
     message: &MessageBytes<'_>,
     size: u16,
     at: usize,
-) -> Result<Octets, DecodeError>
+) -> Result<Octets, ReadFault>
     requires readable { IsReadable message.now }
     requires at { at ≤ length message.now.bytes.now }
     ensures reads { Reads (λ o. o) result (opaque_at message.now.bytes.now size at) }
@@ -127,7 +128,7 @@ pub(crate) fn rdata_of(
     class: u16,
     size: u16,
     at: usize,
-) -> Result<Rdata, DecodeError>
+) -> Result<Rdata, ReadFault>
     requires readable { IsReadable message.now }
     requires known { AreKnown message.now.bytes.now names.old }
     requires at { at ≤ length message.now.bytes.now }

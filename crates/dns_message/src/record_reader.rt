@@ -6,7 +6,7 @@ ghost use Rattle.dns_message.specs.Fitting.{kept_of};
 ghost use Rattle.dns_message.specs.RecordAt.{record_at, opt_at, item_at, edns_of, is_root};
 ghost use Rattle.dns_message.specs.KnownNames.{AreKnown};
 
-use crate::decode_error::{DecodeError, DecodeKind, fault};
+use crate::decode_error::DecodeKind;
 use crate::header_flags::{DNSSEC_OK, EDNS_VERSION, EXTENDED_CODE};
 use crate::item::Item;
 use crate::known_names::KnownNames;
@@ -15,6 +15,7 @@ use crate::message_bytes::MessageBytes;
 use crate::name_reader::name_of;
 use crate::number_reader::{u16_of, u32_of};
 use crate::rdata::{opaque_of, rdata_of};
+use crate::read_fault::{ReadFault, fault};
 use dns_model::Proof;
 use dns_name::{Name, Octets};
 use dns_record::{DNSClass, Rdata, Record, RecordType};
@@ -35,7 +36,7 @@ fn record_fields_of(
     room: &mut Vec<u8>,
     record_type: u16,
     at: usize,
-) -> Result<(RecordFields, usize), DecodeError>
+) -> Result<(RecordFields, usize), ReadFault>
     requires readable { IsReadable message.now }
     requires known { AreKnown message.now.bytes.now names.old }
     requires at { at ≤ length message.now.bytes.now }
@@ -80,7 +81,7 @@ fn edns_of(payload: u16, ttl: u32, options: Octets) -> Edns
 
 /// An OPT from its class on, and the place after it.
 #[tactic(auto, unfolding(crate::specs::RecordAt::opt_at))]
-fn opt_of(message: &MessageBytes<'_>, at: usize) -> Result<(Item, usize), DecodeError>
+fn opt_of(message: &MessageBytes<'_>, at: usize) -> Result<(Item, usize), ReadFault>
     requires readable { IsReadable message.now }
     requires at { at ≤ length message.now.bytes.now }
     ensures reads { Reads (λ x. (x.0, x.1)) result (opt_at message.now.bytes.now at) }
@@ -105,7 +106,7 @@ pub(crate) fn item_of(
     room: &mut Vec<u8>,
     allow_opt: bool,
     at: usize,
-) -> Result<(Item, usize), DecodeError>
+) -> Result<(Item, usize), ReadFault>
     requires readable { IsReadable message.now }
     requires known { AreKnown message.now.bytes.now names.old }
     requires at { at ≤ length message.now.bytes.now }

@@ -4,11 +4,11 @@ ghost use Rattle.dns_message.specs.Readable.{IsReadable};
 ghost use Rattle.dns_message.specs.RecordAt.{section_at};
 ghost use Rattle.dns_message.specs.KnownNames.{AreKnown};
 
-use crate::decode_error::DecodeError;
 use crate::item::Item;
 use crate::known_names::KnownNames;
 use crate::message::Edns;
 use crate::message_bytes::MessageBytes;
+use crate::read_fault::ReadFault;
 use crate::record_reader::item_of;
 use dns_record::Record;
 
@@ -24,7 +24,7 @@ pub(crate) fn section_of(
     count: u16,
     allow_opt: bool,
     at: usize,
-) -> Result<(Vec<Record>, Option<(Edns, u8)>, usize), DecodeError>
+) -> Result<(Vec<Record>, Option<(Edns, u8)>, usize), ReadFault>
     requires readable { IsReadable message.now }
     requires known { AreKnown message.now.bytes.now names.old }
     requires at { at ≤ length message.now.bytes.now }

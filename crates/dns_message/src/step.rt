@@ -3,7 +3,8 @@ ghost use Rattle.dns_message.specs.Reading.{Reads};
 ghost use Rattle.dns_message.specs.NameAt.{step_of};
 ghost use Rattle.dns_message.specs.Fitting.{FitsStep};
 
-use crate::decode_error::{DecodeError, DecodeKind, fault};
+use crate::decode_error::DecodeKind;
+use crate::read_fault::{ReadFault, fault};
 use dns_name::Name;
 use dns_rdata::u16_at;
 
@@ -34,7 +35,7 @@ pub(crate) fn step_at(
     start: usize,
     pos: usize,
     size: usize,
-) -> Result<Step, DecodeError>
+) -> Result<Step, ReadFault>
     requires short { length bytes.now < 2 ^ 32 }
     requires pos { pos ≤ length bytes.now }
     requires size { size ≤ 254 }
