@@ -5,6 +5,7 @@ use Rattle.dns_model.specs.Records.{Question}
 use Rattle.dns_model.specs.Trails.{AskedValue}
 use Rattle.dns_model.proofs.EachLemmas.{each_append}
 use Rattle.dns_rules.specs.Asking.{most_sends}
+use Rattle.dns_handle.specs.Errors as seen
 use Rattle.dns_handle.specs.Errors.{Reply}
 use Rattle.dns_handle.specs.Handles.{OrUnsent}
 use Rattle.dns_handle.specs.Requests.{first_question}
@@ -166,7 +167,14 @@ unsent_alike meanings options now old new q (Ok x) by = sends_alike meanings opt
 unsent_alike meanings options now old new q (Err e) (inl by) = inl (sends_alike meanings options now old new q by)
 unsent_alike meanings options now old new q (Err e) (inr unsent) = inr unsent
 
--- nothing was sent
-pub unsent_front : {H : Type 0} (meanings : handle.Ghosts H) (t : Terms) (still : H) (answer : Reply) → IsFront meanings t still still answer
-unsent_front meanings t still answer =
-    record { sends = []; state = begin t.query; run = Begun (begin t.query) refl; middle = still; made = refl; rest = inl refl }
+-- nothing was sent, and memory ran out
+pub unsent_front : {H : Type 0} (meanings : handle.Ghosts H) (t : Terms) (still : H) → IsFront meanings t still still (Err seen.NoMemory)
+unsent_front meanings t still = record {
+  sends = [];
+  state = begin t.query;
+  run = Begun (begin t.query) refl;
+  middle = still;
+  made = refl;
+  rest = inl refl;
+  came = inl refl;
+}

@@ -193,6 +193,7 @@ lost_send meanings t old s m n middle new asking reply a made out =
         middle = middle;
         made = a.on.made;
         rest = inr (record { ask = a.ask; reply = reply; waits = a.waits; made = made; lost = refl });
+        came = inl refl;
       };
       sends = sends_of meanings t old new (a.on.sends ++ one ∷ []) (a.next.more reply a.on.are) (made_more meanings t.now old middle new a.on.sends one a.on.made made)
           (omega (arith, push, a.on.count, a.next.few));
@@ -293,7 +294,7 @@ unasked : {H : Type 0} (meanings : handle.Ghosts H) (t : Terms) (old : H) (s m :
     → RanOut meanings t old m new
 unasked meanings t old s m new on out = record {
   out = out;
-  front = record { sends = on.sends; state = s; run = on.run; middle = new; made = on.made; rest = inl refl };
+  front = record { sends = on.sends; state = s; run = on.run; middle = new; made = on.made; rest = inl refl; came = inl refl };
   sends = sends_of meanings t old new on.sends on.are on.made on.few;
 }
 
@@ -353,11 +354,12 @@ out_answered meanings t old new m answer ran is =
     })
 
 end_answered : {H : Type 0} (meanings : handle.Ghosts H) (t : Terms) (old new : H) (m : StateValue) (answer : Result ResponseValue NetError)
-    → (end : AtEnd meanings t old m new) → Comes t end.on.sends (reply_of answer) → IsAnswered meanings t old new answer
-end_answered meanings t old new m answer end comes =
+    → (end : AtEnd meanings t old m new) → m.ended ≡ Some (reply_of answer) → Comes t end.on.sends (reply_of answer)
+    → IsAnswered meanings t old new answer
+end_answered meanings t old new m answer end ended comes =
     let on = end.on in
     record {
-      front = record { sends = on.sends; state = m; run = on.run; middle = new; made = on.made; rest = inl refl };
+      front = record { sends = on.sends; state = m; run = on.run; middle = new; made = on.made; rest = inl refl; came = inr ended };
       sends = or_unsent old new answer (SendsOfTerms meanings t old new)
           (sends_of_some meanings t old new on.sends on.are on.made on.few (comes_some t on.sends comes));
       lookup = unless_fact answer (AnswersLookup meanings (call_by t old new) (reply_of answer)) (comes_answers meanings t old new on.sends comes on.made);
@@ -374,6 +376,6 @@ answered_by meanings t v old new m (Some r) answer ends same is ended comes =
     let one : r ≡ answer = cc in
     subst (IsAnswered meanings t old new) one
     (elim ends [
-      | inl end ↦ end_answered meanings t old new m r end (subst (λ x. (sends : List Sent) → Run x sends m → Comes x sends (reply_of r)) same comes end.on.sends end.on.run)
+      | inl end ↦ end_answered meanings t old new m r end (sym ended) (subst (λ x. (sends : List Sent) → Run x sends m → Comes x sends (reply_of r)) same comes end.on.sends end.on.run)
       | inr ran ↦ out_answered meanings t old new m r ran (ended_same (reply_of r) (Err seen.NoMemory) m.ended ended ran.out.ended)
     ])

@@ -39,7 +39,8 @@ pub record LosesSend {H : Type 0} (meanings : handle.Ghosts H) (t : Terms) (s : 
   pub lost : answer ≡ Err seen.NoMemory
 
 -- whatever the answer: the sends are those of a run up to some state, or these and one more, whose reply was lost to want of
--- memory. A run names each send by what was heard before it, with its request and its depth
+-- memory. A run names each send by what was heard before it, with its request and its depth. The answer is the one to which the
+-- run has come at that state, with its marks, its chains and its trail, or that memory ran out
 pub record IsFront {H : Type 0} (meanings : handle.Ghosts H) (t : Terms) (old new : H) (answer : Reply) : Type 0 where
   pub sends : List Sent
   pub state : StateValue
@@ -47,6 +48,7 @@ pub record IsFront {H : Type 0} (meanings : handle.Ghosts H) (t : Terms) (old ne
   pub middle : H
   pub made : MakesSends meanings t.now old sends middle
   pub rest : (middle ≡ new) ⊎ LosesSend meanings t state middle new answer
+  pub came : (answer ≡ Err seen.NoMemory) ⊎ (state.ended ≡ Some answer)
 
 -- the first send by the request of the terms, each other one by that of its ask
 abbrev pub SendsOfTerms : {H : Type 0} → handle.Ghosts H → Terms → H → H → Type 0

@@ -122,7 +122,8 @@ impl<H: DnsHandle + Drop, V: Verifier + Drop> DnssecDnsHandle<H, V> {
             (SendsFor (Asking H.DnsHandle options now) (inner_of self.old) (inner_of self.new) query) }
 
         // And whatever the result, the sends are a front of a run, or that and one send more whose reply was lost to want of memory:
-        // each the first one, or named by its asker's table for what was heard, in the order of sends, with its depth.
+        // each the first one, or named by its asker's table for what was heard, in the order of sends, with its depth. The answer
+        // is the one to which that run has come, or that memory ran out.
         ensures front { IsFront H.DnsHandle (terms_of_call (call_of V.Verifier self.old self.new query options now))
             (inner_of self.old) (inner_of self.new) (reply_of result) }
 

@@ -1,4 +1,5 @@
 use Rattle.std.proofs.Common.{subst}
+use Rattle.std.proofs.lemmas.Result.{err_from_is_err_and}
 use Rattle.dns_handle.specs.Handles.{OrUnsent}
 use Rattle.dns_handle.specs.Replies.{reply_of}
 use Rattle.dns_lookup.specs.Answering.{call_by, AnswersLookup}
@@ -8,7 +9,9 @@ use Rattle.dns_lookup.proofs.FrontLemmas.{unsent_front}
 use Rattle.dns_lookup.proofs.lookup.look_up.Goals as goal
 
 pub returns-in_err-validation-clause-front : goal.returns-in_err-validation-clause-front
-returns-in_err-validation-clause-front g c = unsent_front g.H.DnsHandle _ _ _
+returns-in_err-validation-clause-front g c =
+    let p = err_from_is_err_and c.from_residual.result c.from_residual.ensures.1 in
+    rw (p.1, p.2) (unsent_front g.H.DnsHandle _ _)
 
 pub returns-clause-front : goal.returns-clause-front
 returns-clause-front g c =
