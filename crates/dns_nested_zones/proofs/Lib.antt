@@ -1,5 +1,11 @@
 mod NameLemmas
 mod ListLemmas
+mod ToldLemmas
 mod EndLemmas
-mod StraightLemmas
-mod DenialLemmas
+mod PairLemmas
+mod ZoneKeyLemmas
+mod SignedLemmas
+mod WayLemmas
+mod RunLemmas
+mod ClimbLemmas
+mod OwnLemmas

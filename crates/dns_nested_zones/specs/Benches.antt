@@ -1,5 +1,5 @@
 -- What is counted of one lookup of the host of nested zones (RFC 4035, 5), over any handle.
-use Rattle.std.specs.Prelude.{ℕ, ◌≡◌, min, List, length, Option, Some, Result, Ok, Err, slice_get}
+use Rattle.std.specs.Prelude.{ℕ, ◌+◌, ◌*◌, ◌≡◌, true, min, List, length, Option, Some, Result, Ok, Err, slice_get}
 use Rattle.std.specs.Option.{option_map_or}
 use Rattle.dns_model.specs.Records.{Question}
 use Rattle.dns_model.specs.SoundAnswers.{ChainValue, ResponseValue}
@@ -55,7 +55,11 @@ pub data EndsBench {H : Type 0} (meanings : handle.Ghosts H) (n : ℕ) (old : H)
       → EndsBench meanings n old (Some new) (Err error)
   OutOfMemory : (kept : Option H) → EndsBench meanings n old kept (Err NoMemory)
 
--- what is counted over the upstream that tells of the zones
+-- what is counted over the upstream that tells of the zones: the host's address is Secure, and each zone, the root among them, takes
+-- three links and two asks
 pub record IsOwnCount (n : ℕ) (count : BenchCount) : Type 0 where
   pub left : RecordedValue
   pub counts : EndsBench recorded.ghosts n (upstream n) (Some left) (Ok count)
+  pub secure : count.secure ≡ true
+  pub links : count.links ≡ 3 * n + 3
+  pub asks : count.asks ≡ 2 * n + 2

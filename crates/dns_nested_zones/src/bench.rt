@@ -241,7 +241,8 @@ fn memory_alone(ended: Result<BenchCount, NetError>) -> Result<BenchCount, NoMem
     }
 }
 
-/// What one lookup of the host of so many nested zones counts over `bench_replies`. The only error is want of memory.
+/// What one lookup of the host of so many nested zones counts over `bench_replies`: the host's address is Secure, by three links and two
+/// asks for each zone, the root among them. The only error is want of memory.
 pub fn bench_count(alloc: Global, zones: ZoneCount) -> Result<BenchCount, NoMemory>
     ensures { IfOk result (λ count. IsOwnCount zones count) }
 {

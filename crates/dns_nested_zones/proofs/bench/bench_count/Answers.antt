@@ -1,7 +1,7 @@
 use Rattle.std.proofs.Common.{◌≤◌, subst, arith}
 use Rattle.dns_recorded.specs.contracts.recorded.RecordedDnsHandle.TheImpl as recorded
 use Rattle.dns_nested_zones.specs.Benches.{EndsBench}
-use Rattle.dns_nested_zones.proofs.DenialLemmas.{memory_alone, own_count}
+use Rattle.dns_nested_zones.proofs.OwnLemmas.{memory_alone, own_count}
 use Rattle.dns_nested_zones.proofs.bench.bench_count.Goals as goal
 
 pub memory_alone-requires : goal.memory_alone-requires
@@ -14,8 +14,9 @@ memory_alone-requires c =
 
 pub returns : goal.returns
 returns c =
+    let low : c.args.zones ≤ 100 = omega arith in
     let end = c.bench_over-handle.result in
-    own_count c.args.zones end.handle end.result c.memory_alone.result
+    own_count c.args.zones low end.handle end.result c.memory_alone.result
     (subst (λ h. EndsBench recorded.ghosts c.args.zones h end.handle end.result) c.in_ok-handle.ensures
     c.bench_over-handle.ensures)
     c.memory_alone.ensures
