@@ -73,12 +73,12 @@ fn holds(alloc: Global, kept: &[Entry], trail: &Trail, moment: u64) -> Option<bo
 // The trail of a lookup whose one set is served.
 fn served(response: DnsResponse) -> Option<Trail> {
     let mut trail = response.trail;
-    while trail.steps.len() > 1 {
-        let _ = trail.steps.remove(0);
-    }
-    let entry = trail.steps.get_mut(0)?.sets.get_mut(0)?;
+    let mut last = trail.steps.pop()?;
+    trail.steps.clear();
+    let entry = last.sets.get_mut(0)?;
     entry.origin = MarkOrigin::Cache;
     entry.asked.clear();
+    trail.steps.push(last).ok()?;
     Some(trail)
 }
 
