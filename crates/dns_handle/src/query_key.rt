@@ -21,9 +21,7 @@ pub struct QueryKey {
 pub(crate) fn folded_of(alloc: Global, name: &NameRef) -> Result<Octets, NoMemory>
     ensures { IfOk result (λ k. k ≡ wire (folded name.now)) }
 {
-    let mut bytes = Vec::with_capacity(alloc, name.wire().len())?;
-    name.push_folded(&mut bytes)?;
-    Ok(Octets::from_vec(bytes))
+    name.folded(alloc)
 }
 
 impl QueryKey {

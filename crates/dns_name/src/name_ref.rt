@@ -5,12 +5,12 @@ ghost use Rattle.dns_model.specs.Names.{name_eq, name_cmp, at_or_above, strictly
 ghost use Rattle.dns_model.specs.NameForm.{name_in, labels_of, IsWire};
 
 use crate::reading::{known_bytes, label_at, name_end, push_lowered};
-use crate::{Name, NoMemory};
+use crate::{Name, NoMemory, Octets};
 use std::alloc::Global;
 use std::marker::Model;
 
 /// A domain name read where it stands, as in an rdata or in a `Name`. Contracts see it as its labels, the leaf first.
-/// None of its calls takes memory but `to_name` and `push_folded`.
+/// None of its calls takes memory but `to_name`, `folded` and `push_folded`.
 #[derive(Drop)]
 pub struct NameRef<'a> {
     wire: &'a [u8],
@@ -69,6 +69,13 @@ impl<'a> NameRef<'a> {
         ensures { IfOk result (λ n. n ≡ self.now) }
     {
         Name::of_ref(alloc, self)
+    }
+
+    /// The wire form with A to Z as a to z (RFC 4034, 6.2).
+    pub fn folded(&self, alloc: Global) -> Result<Octets, NoMemory>
+        ensures { IfOk result (λ o. o ≡ wire (folded self.now)) }
+    {
+        Octets::lowered(alloc, self.wire)
     }
 
     /// Appends the wire form with A to Z as a to z (RFC 4034, 6.2). For want of memory `into` stays as it was.

@@ -1,4 +1,5 @@
-ghost use Rattle.std.specs.Prelude.{◌≡◌, ◌≤◌, [], length, slice_range, take, ◌↔◌, IsTrue, IfOk};
+ghost use Rattle.std.specs.Prelude.{◌≡◌, ◌≤◌, [], length, map, slice_range, take, ◌↔◌, IsTrue, IfOk};
+ghost use Rattle.std.specs.Char.{to_ascii_lowercase};
 ghost use Rattle.std.specs.Cmp.{partial_equiv_from_equiv, partial_order_from_agreeing_total};
 ghost use Rattle.std.specs.Cmp.Lexicographic.{slice_cmp};
 ghost use Rattle.std.specs.Hash as fed;
@@ -11,6 +12,7 @@ ghost use Rattle.std.proofs.lemmas.Slice.Eq.{bytes_eq-Decides};
 ghost use Rattle.dns_model.proofs.OrderLemmas.{bytes_ties};
 
 use crate::NoMemory;
+use crate::reading::push_lowered;
 use block_part::BlockPart;
 use in_place::{InPlace, ROOM};
 use std::alloc::Global;
@@ -93,6 +95,19 @@ impl Octets {
             Held::Block(BlockPart::whole(alloc, Vec::from_slice(alloc, bytes)?)?)
         };
         Ok(Octets { held, alloc })
+    }
+
+    /// A copy of bytes, A to Z as a to z.
+    pub fn lowered(alloc: Global, bytes: &[u8]) -> Result<Octets, NoMemory>
+        ensures { IfOk result (λ o. o ≡ map to_ascii_lowercase bytes.now) }
+    {
+        if bytes.len() <= ROOM {
+            let held = Held::InPlace(InPlace::lowered(bytes));
+            return Ok(Octets { held, alloc });
+        }
+        let mut lowered = Vec::with_capacity(alloc, bytes.len())?;
+        push_lowered(&mut lowered, bytes)?;
+        Ok(Octets::from_vec(lowered))
     }
 
     /// The bytes, lent.

@@ -1,4 +1,5 @@
-ghost use Rattle.std.specs.Prelude.{◌≡◌, ◌≤◌, length, take};
+ghost use Rattle.std.specs.Prelude.{◌≡◌, ◌≤◌, length, map, take};
+ghost use Rattle.std.specs.Char.{to_ascii_lowercase};
 
 use std::marker::Model;
 
@@ -41,6 +42,20 @@ impl InPlace {
     {
         let mut room = [0; ROOM];
         room[..bytes.len()].copy_from_slice(bytes);
+        InPlace {
+            room,
+            len: bytes.len() as u32,
+        }
+    }
+
+    /// A copy of bytes, A to Z as a to z.
+    pub fn lowered(bytes: &[u8]) -> InPlace
+        requires { length bytes.now ≤ 24 }
+        ensures { result ≡ map to_ascii_lowercase bytes.now }
+    {
+        let mut room = [0; ROOM];
+        room[..bytes.len()].copy_from_slice(bytes);
+        room[..bytes.len()].make_ascii_lowercase();
         InPlace {
             room,
             len: bytes.len() as u32,
