@@ -2,6 +2,7 @@ pub mod Faults
 pub mod NameReading
 pub mod NameKeeping
 pub mod RdataReading
+pub mod RdataStanding
 pub mod RecordReading
 pub mod HeaderReading
 pub mod Writing

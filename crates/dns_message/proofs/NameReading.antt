@@ -250,7 +250,7 @@ take_two (suc m) n [] = take_nil (suc m + n) ∙ sym (take_nil n)
 take_two (suc m) n (x ∷ xs) = let e : suc m + n ≡ suc (m + n) = omega arith in rw e (ap (λ (t : List ℕ). x ∷ t) (take_two m n xs))
 
 -- two ranges that meet
-two_ranges : (bytes : List ℕ) (start pos next : ℕ) → start ≤ pos → pos ≤ next → slice_range bytes start next ≡ slice_range bytes start pos ++ slice_range bytes pos next
+pub two_ranges : (bytes : List ℕ) (start pos next : ℕ) → start ≤ pos → pos ≤ next → slice_range bytes start next ≡ slice_range bytes start pos ++ slice_range bytes pos next
 two_ranges bytes start pos next a b =
     let whole : next - start ≡ (pos - start) + (next - pos) = omega arith in
     let there : start + (pos - start) ≡ pos = omega arith in

@@ -2,6 +2,7 @@ pub mod Reading
 pub mod NameAt
 pub mod Readable
 pub mod KnownNames
+pub mod Plain
 pub mod Fitting
 pub mod RdataAt
 pub mod RecordAt

@@ -12,6 +12,7 @@ mod message_reader;
 mod message_writer;
 mod name_reader;
 mod number_reader;
+mod plain_rdata;
 mod rdata;
 mod rdata_reader;
 mod read_fault;

@@ -10,6 +10,7 @@ ghost use Rattle.dns_message.specs.KnownNames.{AreKnown};
 use crate::decode_error::DecodeKind;
 use crate::known_names::KnownNames;
 use crate::message_bytes::MessageBytes;
+use crate::plain_rdata::is_spelled;
 use crate::rdata_reader::push_field;
 use crate::read_fault::{ReadFault, fault};
 use dns_name::{NoMemory, Octets};
@@ -45,25 +46,6 @@ fn spells_fields(
     Ok(pos == stop)
 }
 
-/// The octets of the message from `at` up to `stop` where they are these bytes, and else a copy.
-fn octets_of(
-    message: &MessageBytes<'_>,
-    bytes: &[u8],
-    at: usize,
-    stop: usize,
-) -> Result<Octets, NoMemory>
-    requires readable { IsReadable message.now }
-    requires rises { at ≤ stop }
-    requires stop { stop ≤ length message.now.bytes.now }
-    ensures { IfOk result (λ o. o ≡ bytes.now) }
-{
-    if Octets::MOST_IN_PLACE < bytes.len() && bytes == &message.bytes[at..stop] {
-        message.octets.part(at, stop)
-    } else {
-        Octets::from_slice(message.alloc, bytes)
-    }
-}
-
 /// The rdata from `at` up to `stop` in the shape of its type, names spelled out, or `None` where it hasn't that shape. Where it
 /// stands in the message as it is, it is a part of the message.
 #[tactic(auto, unfolding(crate::specs::RdataAt::shaped_at))]
@@ -83,10 +65,13 @@ fn shaped_of(
     ensures known { AreKnown message.now.bytes.now names.new }
 {
     let shape = fields_of(RecordType(record_type));
-    let is_spelled = spells_fields(message, names, room, shape, at, stop)?;
-    if is_spelled && room.len() <= Rdata::MAX_LEN {
-        let octets = octets_of(message, room.as_slice(), at, stop)?;
-        Ok(Some(Rdata::from_octets(octets)))
+    if stop - at <= Rdata::MAX_LEN && is_spelled(message.bytes, shape, at, stop) {
+        let octets = message.octets.part(at, stop)?;
+        return Ok(Some(Rdata::from_octets(octets)));
+    }
+    let has_shape = spells_fields(message, names, room, shape, at, stop)?;
+    if has_shape && room.len() <= Rdata::MAX_LEN {
+        Ok(Some(Rdata::from_slice(message.alloc, room.as_slice())?))
     } else {
         Ok(None)
     }
