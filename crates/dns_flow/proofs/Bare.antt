@@ -36,11 +36,11 @@ pub trail_bare : (answer : Option (List MarkedSet)) → option_map bare (option_
 trail_bare None = refl
 trail_bare (Some ms) = ap Some (bare_chainless ms)
 
-answer_bare : (got : GotValue) → option_map bare (answer_in (bare_got got)) ≡ option_map bare (answer_in got)
+pub answer_bare : (got : GotValue) → option_map bare (answer_in (bare_got got)) ≡ option_map bare (answer_in got)
 answer_bare (Answer answer) = answer_twice answer
 answer_bare (Probe probe) = refl
 
-probe_bare : (got : GotValue) → probe_in (bare_got got) ≡ probe_in got
+pub probe_bare : (got : GotValue) → probe_in (bare_got got) ≡ probe_in got
 probe_bare (Answer answer) = refl
 probe_bare (Probe probe) = refl
 

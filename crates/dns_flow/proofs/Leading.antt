@@ -39,7 +39,7 @@ leads_more g told (first ∷ asks) p r ask made h is fits =
 
 -- ---- further steps
 
-stays_if : (g : StepContext) (more : List AskedValue) (q : Question) (judged : Bool) (made : AskRef)
+pub stays_if : (g : StepContext) (more : List AskedValue) (q : Question) (judged : Bool) (made : AskRef)
     → (if judged then is_ask g.limits.depth g.earlier (g.depth + 1) q made else is_plain_ask g.earlier g.depth q made) ≡ true
     → ((if judged then is_ask g.limits.depth (g.earlier ++ more) (g.depth + 1) q made else is_plain_ask (g.earlier ++ more) g.depth q made) ≡ true)
     × ((if judged then Answer (option_map (map chainless) (finished_answer (g.earlier ++ more) made)) else Probe (probe_by (g.earlier ++ more) q.owner made))

@@ -91,7 +91,7 @@ pub led_ending : (g : StepContext) (told : Told) (sets : List MarkedSet)
     → Led g told (start_ending g.limits g.query told sets) [] (start_ending g.limits g.query told sets)
 led_ending g told sets = led_nowhere g told (start_ending g.limits g.query told sets) (ending_stands g.judge g.limits g.query told sets)
 
-asks_alone : (n : NeedValue) (ask : Ask) → bare_need n ≡ Asks ask → n ≡ Asks ask
+pub asks_alone : (n : NeedValue) (ask : Ask) → bare_need n ≡ Asks ask → n ≡ Asks ask
 asks_alone (SetEnds c) ask h = cc
 asks_alone (StepEnds o) ask h = cc
 asks_alone (Asks a) ask h = h
@@ -120,17 +120,17 @@ led_stays g more told begin asks phase way =
 
 -- ---- the end of a set
 
-record EndsAs (n : NeedValue) (judged : MarkedSet) : Type 0 where
-  set : ChainedSet
-  is : n ≡ SetEnds set
-  same : set.judged ≡ judged
+pub record EndsAs (n : NeedValue) (judged : MarkedSet) : Type 0 where
+  pub set : ChainedSet
+  pub is : n ≡ SetEnds set
+  pub same : set.judged ≡ judged
 
 judged_in : MarkedSet → NeedValue → MarkedSet
 judged_in other (SetEnds c) = c.judged
 judged_in other (StepEnds o) = other
 judged_in other (Asks ask) = other
 
-ends_as : (n : NeedValue) (c : ChainedSet) → bare_need n ≡ bare_need (SetEnds c) → EndsAs n c.judged
+pub ends_as : (n : NeedValue) (c : ChainedSet) → bare_need n ≡ bare_need (SetEnds c) → EndsAs n c.judged
 unfolding judged_in
 ends_as (SetEnds d) c h = record { set = d; is = refl; same = ap (judged_in c.judged) h }
 ends_as (StepEnds o) c h = cc

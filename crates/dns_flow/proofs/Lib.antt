@@ -7,3 +7,8 @@ pub mod Tries
 pub mod Rows
 pub mod Standing
 pub mod Led
+pub mod Founds
+pub mod Caused
+pub mod CauseLed
+pub mod CauseNets
+pub mod FoundRows

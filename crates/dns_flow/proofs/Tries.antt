@@ -99,14 +99,14 @@ pub is_asking : (q : Question) (set : RrSet) (r : Rr) → is_skipped q set r ≡
 is_asking q set r kept = asking_by q set r (rrsig_of r) refl kept
 
 -- the verdict that the answer of a trail gives
-trail_verdict : (g : StepContext) (set : RrSet) (r : Rr) (made : AskRef)
+pub trail_verdict : (g : StepContext) (set : RrSet) (r : Rr) (made : AskRef)
     → (chained_verdict g.judge set r (option_map (map chainless) (finished_answer g.earlier made))).verdict ≡ verdict_of g.judge set r (finished_answer g.earlier made)
 trail_verdict g set r made =
     chained_verdict-bare g.judge set r (option_map (map chainless) (finished_answer g.earlier made))
     ∙ ap (verdict_of g.judge set r) (trail_bare (finished_answer g.earlier made))
 
 -- what needs the next ask
-next_need : (placed : PlacedSet) (vs : List ChainedVerdict) (r : Rr) (question : Question) → slice_get (first_signatures placed.set) (length vs) ≡ Some r
+pub next_need : (placed : PlacedSet) (vs : List ChainedVerdict) (r : Rr) (question : Question) → slice_get (first_signatures placed.set) (length vs) ≡ Some r
     → ask_of placed.set r ≡ Some question → turn (Trying placed vs) ≡ Asks (judged_ask question)
 unfolding turn
 next_need placed vs r question at asks =

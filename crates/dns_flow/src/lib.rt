@@ -3,6 +3,7 @@
 #![tactic(auto)]
 
 mod asks;
+mod causes;
 mod endings;
 mod phases;
 mod searching;
@@ -11,6 +12,7 @@ mod signatures;
 mod turning;
 
 pub use asks::{Ask, Got, probe_of};
+pub use causes::{cause_after, found_of, start_cause};
 pub use endings::start_ending;
 pub use phases::{Need, Phase, Seeker};
 pub use sets::start_set;

@@ -86,8 +86,12 @@ pub(crate) fn signature_need(
     }
 }
 
-// The question for the keys of the signer of the signature at a place.
-fn question_at(alloc: Global, set: &RecordSet, place: usize) -> Result<Option<Query>, NoMemory>
+/// The question for the keys of the signer of the signature at a place.
+pub(crate) fn question_at(
+    alloc: Global,
+    set: &RecordSet,
+    place: usize,
+) -> Result<Option<Query>, NoMemory>
     ensures { IfOk result (λ q. q ≡ option_and_then (ask_of set.now) (slice_get (first_of set.now) place)) }
 {
     let Some(sig) = first_signatures(set).get(place) else {

@@ -18,7 +18,7 @@ use Rattle.dns_rules.specs.ProofErrors.{ProofErrorValue}
 use Rattle.dns_marks.specs.Misfits.{misfit}
 use Rattle.dns_marks.specs.KeySignatures.{validity_at, proof_read, signature_proof, is_put, calls_by_key, calls_unless, calls_read}
 use Rattle.dns_marks.specs.SignatureKeys.{is_proving}
-use Rattle.dns_marks.specs.Proofs.{proved_by, proved_with}
+use Rattle.dns_proof.specs.Proofs.{proved_by, proved_with}
 
 -- ---- a key or a signature that can't be read
 

@@ -16,7 +16,7 @@ use Rattle.dns_rules.specs.Marks as marks
 use Rattle.dns_rules.specs.Derivation.{proof_eq}
 use Rattle.dns_rules.specs.ProofErrors.{RrsetProofValue}
 use Rattle.dns_marks.specs.SetMarks.{first_proof, deciding_proof}
-use Rattle.dns_marks.specs.Proofs.{proved_by, excused}
+use Rattle.dns_proof.specs.Proofs.{proved_by, excused}
 use Rattle.dns_marks.specs.SignatureKeys.{judge_at, is_proving, are_insecure, proof_by_keys, verdict_by_mark, proof_verdict}
 
 -- all keys have this mark

@@ -1,5 +1,4 @@
 pub mod Misfits
-pub mod Proofs
 pub mod Dnskeys
 pub mod Tested
 pub mod KeySignatures

@@ -8,7 +8,7 @@ ghost use Rattle.dns_rules.specs.KeySets.{needs_ds, keys_outcome, outcome_by_ver
 ghost use Rattle.dns_trust.specs.Judge.{judge_of};
 ghost use Rattle.dns_proof.specs.Kinds.{want_of_memory};
 ghost use Rattle.dns_marks.specs.KeyMarks.{keys_mark};
-ghost use Rattle.dns_marks.specs.Proofs.{proved_by as proved_under};
+ghost use Rattle.dns_proof.specs.Proofs.{proved_by as proved_under};
 ghost use Rattle.dns_marks.specs.ZoneVerdicts.{zone_verdict_value};
 ghost use Rattle.dns_marks.specs.declared.key_marks.KeysMark.TheVariants.{Done};
 

@@ -1,7 +1,7 @@
 ghost use Rattle.std.specs.Prelude.{◌≡◌, None, min, slice_get};
 ghost use Rattle.dns_model.specs.SoundAnswers.{ttl_of};
 ghost use Rattle.dns_trust.specs.SetSignatures.{IsRead};
-ghost use Rattle.dns_marks.specs.Proofs.{proved_by as proved_under, proved_with as proved_with_ttl, proved_whole as proved_by_keys, excused as excused_by_keys};
+ghost use Rattle.dns_proof.specs.Proofs.{proved_by as proved_under, proved_with as proved_with_ttl, proved_whole as proved_by_keys, excused as excused_by_keys};
 
 use crate::tested::Tested;
 use dns_model::Proof;

@@ -10,4 +10,5 @@ pub mod Delegated
 pub mod Beside
 pub mod ByDs
 pub mod ByZone
+pub mod ByRow
 pub mod Shown

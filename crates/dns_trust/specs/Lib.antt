@@ -13,3 +13,4 @@ pub mod Steps
 pub mod KeysMarks
 pub mod Unsigned
 pub mod Searching
+pub mod ZoneRows

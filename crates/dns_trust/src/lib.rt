@@ -19,6 +19,7 @@ mod unsigned;
 mod usable;
 mod validity;
 mod verdict;
+mod zone_rows;
 
 pub use anchors::TrustAnchors;
 pub use counted::counted_keys;
@@ -39,3 +40,4 @@ pub use unsigned::{shows_unsigned_cut, unsigned_set, zone_mark};
 pub use usable::{KeyFault, is_usable, key_fault};
 pub use validity::RrsigValidity;
 pub use verdict::{Verdict, chained_verdict, is_skipped_read, key_query, may_be_signed};
+pub use zone_rows::{ZoneRow, zone_row};

@@ -129,13 +129,15 @@ fn is_insecure_without_ds(zone: &Name, sets: &[ChainedSet]) -> bool
     sets.iter().any(|set| leaves_insecure(zone, &set.judged))
 }
 
-fn has_supported<V: Verifier>(verifier: &V, records: &[Record]) -> bool
+/// Some record is a DS that is supported.
+pub(crate) fn has_supported<V: Verifier>(verifier: &V, records: &[Record]) -> bool
     ensures { result ≡ list_any (is_supported (V.answers verifier.now)) records.now }
 {
     records.iter().any(|read| is_supported_ds(verifier, read))
 }
 
-fn has_readable(records: &[Record]) -> bool
+/// Some record can be read as a DS.
+pub(crate) fn has_readable(records: &[Record]) -> bool
     ensures { result ≡ list_any is_readable records.now }
 {
     records.iter().any(is_readable_ds)

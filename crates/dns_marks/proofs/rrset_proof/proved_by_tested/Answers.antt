@@ -1,7 +1,7 @@
 use Rattle.std.proofs.Common.{None, ap, ◌∙◌}
 use Rattle.std.specs.Prelude.{min, slice_get}
 use Rattle.dns_model.specs.SoundAnswers.{ttl_of}
-use Rattle.dns_marks.specs.Proofs.{proved_with}
+use Rattle.dns_proof.specs.Proofs.{proved_with}
 use Rattle.dns_marks.proofs.CallLemmas.{proved_as_read}
 use Rattle.dns_marks.proofs.rrset_proof.proved_by_tested.Goals as goal
 

@@ -1,0 +1,317 @@
+//! Why a set isn't Secure, as its asks come to something, and what is found of it (RFC 4035, 4.3, 5.2 and 5.3).
+
+ghost use Rattle.std.specs.Prelude.{◌≡◌, List, None, Some, IfOk, slice_get};
+ghost use Rattle.std.specs.Option.{option_and_then, option_map};
+ghost use Rattle.dns_model.specs.declared.trail.AskRef.{AskRef};
+ghost use Rattle.dns_model.specs.SoundAnswers.{PlacedSet, Told};
+ghost use Rattle.dns_rules.specs.Asking.{ask_of};
+ghost use Rattle.dns_rules.specs.ChainedSets.{bare};
+ghost use Rattle.dns_rules.specs.Delegations.{zone_verdict};
+ghost use Rattle.dns_rules.specs.Derivation.{StepContext};
+ghost use Rattle.dns_rules.specs.MarkedSets.{decider as decider_of};
+ghost use Rattle.dns_rules.specs.ProofErrors as cause;
+ghost use Rattle.dns_rules.specs.Unsigned.{ns_question};
+ghost use Rattle.dns_proof.specs.Kinds.{kind_value};
+ghost use Rattle.dns_proof.specs.Proofs.{ttl_by as ttl_under};
+ghost use Rattle.dns_trust.specs.Judge.{judge_of};
+ghost use Rattle.dns_trust.specs.Searching.{probe_value};
+ghost use Rattle.dns_trust.specs.Verdicts.{listed};
+ghost use Rattle.dns_flow.specs.Causes.{cause_after as cause_by, found_of as found_in, start_cause as cause_begins, is_net as is_failed_ask, after_seen as seen_cause, after_try as cause_by_try, keys_cause as cause_by_ds, unsigned_cause as cause_by_zone, is_signed_row, unsigned_row_cause as cause_of_unsigned};
+ghost use Rattle.dns_flow.specs.CauseRows.{cause_row, caused};
+ghost use Rattle.dns_flow.specs.Leads.{bare_phase, led_to};
+ghost use Rattle.dns_flow.specs.Phases.{NeedValue, answer_in as answer_of, probe_in, first_signatures as first_of, start_set as set_begins};
+ghost use Rattle.dns_flow.specs.Values.{got_value, phase_value};
+
+use crate::asks::Got;
+use crate::phases::{Phase, Seeker, set_of};
+use crate::signatures::question_at;
+use dns_evidence::{ChainedSet, MarkedSet, Verifier, decider};
+use dns_model::Proof;
+use dns_name::{Name, NoMemory};
+use dns_proof::{ProofError, ProofErrorKind, RrsetProof};
+use dns_rdata::Rrsig;
+use dns_record::{DNSClass, Record, RecordSet};
+use dns_trust::{
+    Judge, NsProbe, ZoneRow, ds_query, is_key_set, needs_zone, ns_query, set_start, zone_row,
+};
+use std::alloc::Global;
+
+/// The cause with which a set begins: of a key set no key was found, of an unsigned one no zone, and of another no
+/// signature was asked for. From there exactly the asks that lead a set to its mark lead to the cause that the row of the
+/// tables names.
+#[tactic(auto, using(crate::proofs::Caused::set_caused), unfolding(crate::specs::Causes::start_cause))]
+pub fn start_cause(set: &RecordSet) -> Result<ProofErrorKind, NoMemory>
+    ensures begins { IfOk result (λ k. kind_value k ≡ cause_begins set.now) }
+    ensures rows { (g : StepContext) (told : Told) (placed : PlacedSet) (asks : List AskRef) (end : NeedValue)
+        → led_to g told asks (set_begins g.judge g.query told placed) ≡ Some end
+        → cause_row g placed asks ≡ Some (caused g told asks (bare_phase (set_begins g.judge g.query told placed))
+        (cause_begins placed.set)) }
+{
+    if is_key_set(set) {
+        let name = set.name.try_clone()?;
+        return Ok(ProofErrorKind::DnskeyNotFound { name });
+    }
+    if needs_zone(set) {
+        let name = set_start(set)?;
+        return Ok(ProofErrorKind::DsRecordShouldExist { name });
+    }
+    not_present(set)
+}
+
+// The set has no signature that could be asked for.
+fn not_present(set: &RecordSet) -> Result<ProofErrorKind, NoMemory>
+    ensures { IfOk result (λ k. kind_value k ≡ cause.RrsigsNotPresent set.now.owner set.now.rtype) }
+{
+    let name = set.name.try_clone()?;
+    Ok(ProofErrorKind::RrsigsNotPresent {
+        name,
+        record_type: set.record_type,
+    })
+}
+
+// No signature proves the set.
+fn unverified(set: &RecordSet) -> Result<ProofErrorKind, NoMemory>
+    ensures { IfOk result (λ k. kind_value k ≡ cause.RrsigsUnverified set.now.owner set.now.rtype) }
+{
+    let name = set.name.try_clone()?;
+    Ok(ProofErrorKind::RrsigsUnverified {
+        name,
+        record_type: set.record_type,
+    })
+}
+
+/// The cause after what an ask of a phase came to.
+#[tactic(auto, unfolding(crate::specs::Causes::cause_after))]
+pub fn cause_after<V: Verifier>(
+    alloc: Global,
+    judge: &Judge<'_, V>,
+    phase: &Phase,
+    got: &Got,
+    cause: ProofErrorKind,
+) -> Result<ProofErrorKind, NoMemory>
+    ensures { IfOk result (λ k. kind_value k ≡ cause_by (judge_of V.answers judge.now) (phase_value phase.now)
+        (got_value got.now) (kind_value cause)) }
+{
+    let none = None;
+    match phase {
+        Phase::Marked(_) => Ok(cause),
+        Phase::NeedsDs(placed) => {
+            keys_cause(alloc, judge.verifier, set_of(placed), answer_in(got, &none))
+        }
+        Phase::Trying(placed, verdicts) => {
+            let answer = answer_in(got, &none);
+            after_try(alloc, set_of(placed), verdicts.len(), answer, cause)
+        }
+        Phase::AtName(_, class, name) => after_seen(*class, name, seen_in(got), cause),
+        Phase::AtZone(Seeker::Set(placed), class, zone) => {
+            let answer = answer_in(got, &none);
+            unsigned_cause(alloc, judge.verifier, set_of(placed), *class, zone, answer)
+        }
+        Phase::AtZone(Seeker::Ending, _, _) => Ok(cause),
+        Phase::Concluded(_) => Ok(cause),
+    }
+}
+
+// The answer, where the reply was to be judged; `none` where it was only to be seen.
+fn answer_in<'a>(got: &'a Got, none: &'a Option<Vec<ChainedSet>>) -> &'a Option<Vec<ChainedSet>>
+    requires { none.now ≡ None }
+    ensures { listed result.now ≡ answer_of (got_value got.now) }
+{
+    match got {
+        Got::Answer(answer) => answer,
+        Got::Probe(_) => none,
+    }
+}
+
+// What was seen, where the reply was only to be seen.
+fn seen_in(got: &Got) -> NsProbe
+    ensures { probe_value result ≡ probe_in (got_value got.now) }
+{
+    match got {
+        Got::Answer(_) => NsProbe::Failed,
+        Got::Probe(probe) => *probe,
+    }
+}
+
+// By the DS verdict of a key set's owner.
+#[tactic(auto, using(crate::proofs::Founds::cause_of_row))]
+fn keys_cause<V: Verifier>(
+    alloc: Global,
+    verifier: &V,
+    set: &RecordSet,
+    answer: &Option<Vec<ChainedSet>>,
+) -> Result<ProofErrorKind, NoMemory>
+    ensures { IfOk result (λ k. kind_value k ≡ cause_by_ds set.now (zone_verdict (V.answers verifier.now)
+        set.now.class set.now.owner (option_map bare (listed answer.now)))) }
+{
+    let row = zone_row(alloc, verifier, set.dns_class, &set.name, answer)?;
+    if is_signed(row) {
+        no_dnskey(set)
+    } else {
+        row_cause(set.dns_class, &set.name, row)
+    }
+}
+
+// There are DS records, and no key proves the set by them.
+fn no_dnskey(set: &RecordSet) -> Result<ProofErrorKind, NoMemory>
+    ensures { IfOk result (λ k. kind_value k ≡ cause.DsRecordsButNoDnskey set.now.owner) }
+{
+    let name = set.name.try_clone()?;
+    Ok(ProofErrorKind::DsRecordsButNoDnskey { name })
+}
+
+// By the verdict on the zone of an unsigned set.
+#[tactic(auto, using(crate::proofs::Founds::cause_of_row))]
+fn unsigned_cause<V: Verifier>(
+    alloc: Global,
+    verifier: &V,
+    set: &RecordSet,
+    class: DNSClass,
+    zone: &Name,
+    answer: &Option<Vec<ChainedSet>>,
+) -> Result<ProofErrorKind, NoMemory>
+    ensures { IfOk result (λ k. kind_value k ≡ cause_by_zone set.now (zone_verdict (V.answers verifier.now)
+        class.0 zone.now (option_map bare (listed answer.now)))) }
+{
+    let row = zone_row(alloc, verifier, class, zone, answer)?;
+    if is_signed(row) {
+        not_present(set)
+    } else {
+        row_cause(class, zone, row)
+    }
+}
+
+// The row says that the zone is signed.
+fn is_signed(row: ZoneRow) -> bool
+    ensures { result ≡ is_signed_row row }
+{
+    match row {
+        ZoneRow::Signed => true,
+        ZoneRow::Unanswered => false,
+        ZoneRow::Unsupported => false,
+        ZoneRow::ShownAbsent => false,
+        ZoneRow::NotShown => false,
+    }
+}
+
+// The cause that the row of a zone's DS verdict names, where the zone isn't signed.
+fn row_cause(class: DNSClass, zone: &Name, row: ZoneRow) -> Result<ProofErrorKind, NoMemory>
+    ensures { IfOk result (λ k. kind_value k ≡ cause_of_unsigned class.0 zone.now row) }
+{
+    match row {
+        ZoneRow::Unanswered => {
+            let name = zone.try_clone()?;
+            let query = ds_query(name, class);
+            Ok(ProofErrorKind::Net { query })
+        }
+        ZoneRow::Unsupported => Ok(ProofErrorKind::UnknownKeyAlgorithm),
+        ZoneRow::ShownAbsent => {
+            let name = zone.try_clone()?;
+            Ok(ProofErrorKind::DsResponseInsecure { name })
+        }
+        ZoneRow::Signed => should_exist(zone),
+        ZoneRow::NotShown => should_exist(zone),
+    }
+}
+
+// Neither a DS set of the zone nor its absence is shown.
+fn should_exist(zone: &Name) -> Result<ProofErrorKind, NoMemory>
+    ensures { IfOk result (λ k. kind_value k ≡ cause.DsRecordShouldExist zone.now) }
+{
+    let name = zone.try_clone()?;
+    Ok(ProofErrorKind::DsRecordShouldExist { name })
+}
+
+// By the ask of the signature at a place: the first ask that failed stays the cause.
+fn after_try(
+    alloc: Global,
+    set: &RecordSet,
+    place: usize,
+    answer: &Option<Vec<ChainedSet>>,
+    cause: ProofErrorKind,
+) -> Result<ProofErrorKind, NoMemory>
+    ensures { IfOk result (λ k. kind_value k ≡ cause_by_try (kind_value cause) set.now
+        (option_and_then (ask_of set.now) (slice_get (first_of set.now) place)) (listed answer.now)) }
+{
+    if is_net(&cause) {
+        return Ok(cause);
+    }
+    if answer.is_some() {
+        return unverified(set);
+    }
+    match question_at(alloc, set, place)? {
+        Some(query) => Ok(ProofErrorKind::Net { query }),
+        None => unverified(set),
+    }
+}
+
+// An ask failed.
+fn is_net(cause: &ProofErrorKind) -> bool
+    ensures { result ≡ is_failed_ask (kind_value cause.now) }
+{
+    matches!(cause, ProofErrorKind::Net { .. })
+}
+
+// By what was seen of a name's NS records.
+fn after_seen(
+    class: DNSClass,
+    name: &Name,
+    seen: NsProbe,
+    cause: ProofErrorKind,
+) -> Result<ProofErrorKind, NoMemory>
+    ensures { IfOk result (λ k. kind_value k
+        ≡ seen_cause (kind_value cause) (ns_question class.0 name.now) (probe_value seen)) }
+{
+    match seen {
+        NsProbe::Found => Ok(cause),
+        NsProbe::Absent => Ok(cause),
+        NsProbe::Failed => {
+            let query = ns_query(name, class)?;
+            Ok(ProofErrorKind::Net { query })
+        }
+    }
+}
+
+/// What is found of a judged set at a moment, in seconds since 1970: Secure, with the ttl that the signature leaves that
+/// decided, if one did; Insecure by a signature; or an error, with this cause.
+#[tactic(auto, unfolding(crate::specs::Causes::found_of))]
+pub fn found_of(
+    now: u64,
+    judged: &MarkedSet,
+    cause: ProofErrorKind,
+) -> Result<RrsetProof, ProofError>
+    ensures { result ≡ found_in now judged.now (kind_value cause) }
+{
+    if judged.mark == Proof::Secure {
+        return Ok(RrsetProof {
+            proof: Proof::Secure,
+            adjusted_ttl: ttl_left(now, judged),
+            rrsig_index: judged.sig,
+        });
+    }
+    if judged.sig.is_some() {
+        return Ok(RrsetProof {
+            proof: judged.mark,
+            adjusted_ttl: None,
+            rrsig_index: judged.sig,
+        });
+    }
+    Err(ProofError::new(judged.mark, cause))
+}
+
+// The ttl that the signature leaves that decided.
+fn ttl_left(now: u64, judged: &MarkedSet) -> Option<u32>
+    ensures { result ≡ option_map (ttl_under now judged.now.set) (decider_of judged.now) }
+{
+    match decider(judged) {
+        Some(sig) => Some(ttl_by(now, &judged.set, sig)),
+        None => None,
+    }
+}
+
+// The ttl that a signature leaves to a set.
+fn ttl_by(now: u64, set: &RecordSet, sig: &Record) -> u32
+    ensures { result ≡ ttl_under now set.now sig.now }
+{
+    set.first_ttl().min(Rrsig::ttl_left_by(sig, now))
+}
