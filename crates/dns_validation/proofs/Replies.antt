@@ -29,7 +29,8 @@ heard_is (Err (seen.ForeignClassRecord owner class rtype)) = refl
 heard_is (Err seen.Truncated) = refl
 heard_is (Err seen.NoMemory) = refl
 
-pub heard_message : (reply : Reply) (m : MessageValue) (empty : Bool) → received_value reply ≡ Message m empty → heard_from reply ≡ Records (told_by m) empty
+pub heard_message : (reply : Reply) (m : MessageValue) (empty : Bool) → received_value reply ≡ Message m empty
+    → heard_from reply ≡ Records (told_by m) empty
 heard_message reply m empty is = heard_is reply ∙ ap heard_of is
 
 pub heard_fault : (reply : Reply) (error : ErrorValue) → received_value reply ≡ Failed error → heard_from reply ≡ Fault

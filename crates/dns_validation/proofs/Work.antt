@@ -9,11 +9,13 @@ use Rattle.dns_model.specs.Names.{Labels}
 use Rattle.dns_model.specs.Records.{Rr, Question}
 use Rattle.dns_model.specs.Chains.{Judge}
 use Rattle.dns_model.specs.SoundAnswers.{Told, PlacedSet, told_by}
-use Rattle.dns_model.specs.Trails.{AskedValue}
+use Rattle.dns_model.specs.Trails.{AskedValue, JudgedSetValue}
 use Rattle.dns_rules.specs.Asking.{Limits, ask_of}
+use Rattle.dns_rules.specs.CacheEntries.{EntryValue}
 use Rattle.dns_rules.specs.ChainedSets.{ChainedSet, ChainedVerdict, bare, chained_verdict}
 use Rattle.dns_rules.specs.MarkedSets.{MarkedSet}
 use Rattle.dns_rules.specs.Marks.{is_proved, is_skipped}
+use Rattle.dns_rules.specs.ProofErrors.{ProofErrorKindValue}
 use Rattle.dns_rules.specs.Outcome.{Outcome, Given, NeedsZone, Denied, outcome_of}
 use Rattle.dns_rules.specs.Unsigned.{question_start}
 use Rattle.dns_handle.specs.Errors.{Reply}
@@ -22,7 +24,7 @@ use Rattle.dns_flow.specs.declared.phases.Seeker.{Seeker}
 use Rattle.dns_flow.specs.declared.phases.Seeker.TheVariants.{Set, Ending}
 use Rattle.dns_flow.specs.Leads.{entry_of}
 use Rattle.dns_flow.specs.Phases.{PhaseValue, Marked, NeedsDs, Trying, AtName, AtZone, Concluded, NeedValue, SetEnds, StepEnds, Asks, GotValue, Answer, found, search_at, first_signatures, unasked, try_from, after_signature, signature_need, start_by, start_ending, turn, after}
-use Rattle.dns_validation.specs.Machine.{Terms, SoFar, OpenValue, StateValue, limit_of, limits_of, first_left, next_phase, set_ended, answered, give, none_open, step_ended, nothing_got, refusal, asked_by, turned, tick}
+use Rattle.dns_validation.specs.Machine.{Terms, SoFar, OpenValue, SeekingValue, MadeValue, StateValue, limit_of, limits_of, first_left, next_in, with_set, answered, give, none_open, step_ended, nothing_got, refusal, asked_by, turned, tick}
 use Rattle.dns_validation.specs.Steps.{given_sets}
 use Rattle.dns_validation.specs.Runs.{is_none, moves}
 
@@ -59,14 +61,16 @@ little (AtName seeker class name) = little_seeker seeker
 little (AtZone seeker class zone) = little_seeker seeker
 little (Concluded o) = omega arith
 
-found_work : (q : Question) (told : Told) (seeker : Seeker) (mark : Proof) → phase_work (found q told seeker mark) < 1 + seeker_work seeker
+found_work : (q : Question) (told : Told) (seeker : Seeker) (mark : Proof)
+    → phase_work (found q told seeker mark) < 1 + seeker_work seeker
 unfolding phase_work seeker_work
 found_work q told (Set placed) mark = omega arith
 found_work q told Ending mark = omega arith
 
 -- ---- the ending is the last item
 
-search_work : (q : Question) (told : Told) (class : ℕ) (name : Labels) → phase_work (search_at q told Ending class name) ≤ 2
+search_work : (q : Question) (told : Told) (class : ℕ) (name : Labels)
+    → phase_work (search_at q told Ending class name) ≤ 2
 unfolding phase_work seeker_work
 search_work q told class [] = omega arith
 search_work q told class (label ∷ name) = omega arith
@@ -77,7 +81,8 @@ start_work q told (Given denial) = omega arith
 start_work q told NeedsZone = search_work q told q.class (question_start q)
 start_work q told (Denied p) = omega arith
 
-ending_work : (limits : Limits) (q : Question) (told : Told) (sets : List MarkedSet) → phase_work (start_ending limits q told sets) ≤ 2
+ending_work : (limits : Limits) (q : Question) (told : Told) (sets : List MarkedSet)
+    → phase_work (start_ending limits q told sets) ≤ 2
 unfolding start_ending
 ending_work limits q told sets = start_work q told (outcome_of limits q told sets)
 
@@ -96,16 +101,23 @@ try_work : (q : Question) (placed : PlacedSet) (vs : List ChainedVerdict) (rs : 
     → phase_work (try_from q placed vs rs) ≤ 4 + (length (first_signatures placed.set) - length vs)
 unfolding try_from phase_work
 try_work q placed vs [] = omega arith
-try_work q placed vs (r ∷ rs) = either q placed vs rs (is_skipped q placed.set r) (try_work q placed (vs ++ unasked ∷ []) rs)
+try_work q placed vs (r ∷ rs) =
+    either q placed vs rs (is_skipped q placed.set r) (try_work q placed (vs ++ unasked ∷ []) rs)
   where
     either : (q : Question) (placed : PlacedSet) (vs : List ChainedVerdict) (rs : List Rr) (b : Bool)
-        → phase_work (try_from q placed (vs ++ unasked ∷ []) rs) ≤ 4 + (length (first_signatures placed.set) - length (vs ++ unasked ∷ []))
-        → phase_work (if b then try_from q placed (vs ++ unasked ∷ []) rs else Trying placed vs) ≤ 4 + (length (first_signatures placed.set) - length vs)
+        → phase_work
+        (try_from q placed (vs ++ unasked ∷ []) rs) ≤ 4
+        + (length (first_signatures placed.set) - length (vs ++ unasked ∷ []))
+        → phase_work
+        (if b then try_from q placed (vs ++ unasked ∷ []) rs else Trying placed vs) ≤ 4
+        + (length (first_signatures placed.set) - length vs)
     either q placed vs rs true h = let one = length_push vs unasked in omega arith
     either q placed vs rs false h = omega arith
 
-verdict_work : (q : Question) (placed : PlacedSet) (vs : List ChainedVerdict) (v : ChainedVerdict) (b : Bool) (p : PhaseValue)
-    → phase_work p ≤ 4 + (length (first_signatures placed.set) - length (vs ++ v ∷ [])) → length vs < length (first_signatures placed.set)
+verdict_work : (q : Question) (placed : PlacedSet) (vs : List ChainedVerdict) (v : ChainedVerdict) (b : Bool)
+    (p : PhaseValue)
+    → phase_work p ≤ 4 + (length (first_signatures placed.set) - length (vs ++ v ∷ []))
+    → length vs < length (first_signatures placed.set)
     → (c : ChainedSet) → phase_work (if b then Marked c else p) < 4 + (length (first_signatures placed.set) - length vs)
 unfolding phase_work
 verdict_work q placed vs v true p h within c = omega arith
@@ -116,17 +128,21 @@ slice_get_within [] n x h = cc
 slice_get_within (y ∷ xs) zero x h = omega arith
 slice_get_within (y ∷ xs) (suc n) x h = let k = slice_get_within xs n x h in omega arith
 
-signature_work : (j : Judge) (q : Question) (placed : PlacedSet) (vs : List ChainedVerdict) (answer : Option (List ChainedSet)) (o : Option Rr) (ask : Ask)
-    → slice_get (first_signatures placed.set) (length vs) ≡ o → signature_need placed vs (option_and_then (ask_of placed.set) o) ≡ Asks ask
+signature_work : (j : Judge) (q : Question) (placed : PlacedSet) (vs : List ChainedVerdict)
+    (answer : Option (List ChainedSet)) (o : Option Rr) (ask : Ask)
+    → slice_get (first_signatures placed.set) (length vs) ≡ o
+    → signature_need placed vs (option_and_then (ask_of placed.set) o) ≡ Asks ask
     → phase_work (after_signature j q placed vs answer o) < 4 + (length (first_signatures placed.set) - length vs)
 signature_work j q placed vs answer None ask is asks = cc
 signature_work j q placed vs answer (Some r) ask is asks =
     let v = chained_verdict j placed.set r answer in
-    verdict_work q placed vs v (is_proved v.verdict) (try_from q placed (vs ++ v ∷ []) (drop (length vs + 1) (first_signatures placed.set)))
+    verdict_work q placed vs v (is_proved v.verdict)
+    (try_from q placed (vs ++ v ∷ []) (drop (length vs + 1) (first_signatures placed.set)))
     (try_work q placed (vs ++ v ∷ []) (drop (length vs + 1) (first_signatures placed.set)))
     (slice_get_within (first_signatures placed.set) (length vs) r is) _
 
-judged_is : (ask : Ask) (b : Bool) (q : Question) → (let a : Ask = record { query = q; judged = b } in a) ≡ ask → nothing_got ask.judged ≡ nothing_got b
+judged_is : (ask : Ask) (b : Bool) (q : Question) → (let a : Ask = record { query = q; judged = b } in a) ≡ ask
+    → nothing_got ask.judged ≡ nothing_got b
 judged_is ask b q is = ap (λ (a : Ask). nothing_got a.judged) (sym is)
 
 asks_same : (a b : Ask) → Asks a ≡ Asks b → a ≡ b
@@ -141,7 +157,8 @@ refused_work j q told (Trying placed vs) ask asks =
     signature_work j q placed vs _ (slice_get (first_signatures placed.set) (length vs)) ask refl asks
 refused_work j q told (AtName seeker class name) ask asks =
     let no = judged_is ask false _ (asks_same _ ask asks) in
-    subst (λ got. phase_work (after j q told (AtName seeker class name) got) < 1 + seeker_work seeker) (sym no) (found_work q told seeker _)
+    subst (λ got. phase_work (after j q told (AtName seeker class name) got) < 1 + seeker_work seeker) (sym no)
+    (found_work q told seeker _)
 refused_work j q told (AtZone seeker class zone) ask asks = found_work q told seeker _
 refused_work j q told (Concluded o) ask asks = cc
 
@@ -157,22 +174,13 @@ steps_work (f ∷ outer) = step_work f + steps_work outer
 pub work : StateValue → ℕ
 work s = steps_work s.steps + (if is_none s.pending then 1 else 0)
 
-item_work : (t : Terms) (s : SoFar) (left : List PlacedSet) (p : PhaseValue) (c : ChainedSet) → turn p ≡ SetEnds c
-    → 13 * (length (drop 1 left) + 1) + phase_work (next_phase t s (first_left left)) < 13 * (length left + 1) + phase_work p
-item_work t s [] p c ends = let a = ending_work (limits_of t) s.query (told_by s.message) (bare s.sets) in let b = set_work p c ends in omega arith
-item_work t s (placed ∷ left) p c ends = let a = little (next_phase t s (Some placed)) in omega arith
-
-set_less : (t : Terms) (f : OpenValue) (c : ChainedSet) → turn f.phase ≡ SetEnds c → step_work (set_ended t f.so_far f.asked c) < step_work f
-unfolding step_work
-set_less t f c ends =
-    let s : SoFar = record f.so_far { sets = f.so_far.sets ++ c ∷ []; entries = f.so_far.entries ++ entry_of c.judged f.asked ∷ [] } in
-    item_work t s f.so_far.left f.phase c ends
-
-answered_more : (j : Judge) (made : AskRef) (got : GotValue) (f : OpenValue) → step_work (answered j made got f) ≤ step_work f + 12
+answered_more : (j : Judge) (made : AskRef) (got : GotValue) (f : OpenValue)
+    → step_work (answered j made got f) ≤ step_work f + 12
 unfolding step_work
 answered_more j made got f = let a = little (answered j made got f).phase in omega arith
 
-given_more : (j : Judge) (made : AskRef) (got : GotValue) (steps : List OpenValue) → steps_work (give j made got steps) ≤ steps_work steps + 12
+given_more : (j : Judge) (made : AskRef) (got : GotValue) (steps : List OpenValue)
+    → steps_work (give j made got steps) ≤ steps_work steps + 12
 unfolding steps_work
 given_more j made got [] = omega arith
 given_more j made got (f ∷ outer) = let a = answered_more j made got f in omega arith
@@ -184,39 +192,88 @@ some_work f = omega arith
 refused_less : (j : Judge) (made : AskRef) (ask : Ask) (f : OpenValue) → turn f.phase ≡ Asks ask
     → step_work (answered j made (nothing_got ask.judged) f) < step_work f
 unfolding step_work
-refused_less j made ask f asks = let a = refused_work j f.so_far.query (told_by f.so_far.message) f.phase ask asks in omega arith
+refused_less j made ask f asks =
+    let a = refused_work j f.so_far.query (told_by f.so_far.message) f.phase ask asks in omega arith
 
 -- ---- a turn
 
-abbrev resting : List AskedValue → List OpenValue → ℕ → Option Reply → StateValue
-resting closed steps n ended = record { closed = closed; steps = steps; pending = None; sends = n; ended = ended }
+abbrev resting : List AskedValue → List OpenValue → ℕ → List MadeValue → List EntryValue → Option Reply → StateValue
+resting closed steps n made kept ended = record {
+  closed = closed;
+  steps = steps;
+  seeking = None;
+  pending = None;
+  sends = n;
+  made = made;
+  kept = kept;
+  ended = ended;
+}
 
-ended_less : (t : Terms) (f : OpenValue) (outer : List OpenValue) (closed : List AskedValue) (n : ℕ) (e : Option Reply) (o : Outcome)
-    → work (step_ended t f.so_far f.asked o (resting closed outer n e)) < work (resting closed (f ∷ outer) n e)
+module _ (t : Terms) (f : OpenValue) (outer : List OpenValue) (closed : List AskedValue) (n : ℕ) (made : List MadeValue)
+    (kept : List EntryValue) (e : Option Reply) (c : ChainedSet) (entry : JudgedSetValue)
+    (cause : Option ProofErrorKindValue) where
+  -- a set ends: the next one waits, or the ending begins, which has less to do than a set
+  next_less : (left : List PlacedSet) → turn f.phase ≡ SetEnds c
+      → work (next_in t (with_set f.so_far c entry cause) (first_left left) (resting closed outer n made kept e))
+      < work (resting closed (f ∷ outer) n made kept e)
+  unfolding work steps_work step_work
+  next_less [] ends =
+      let a = ending_work (limits_of t) f.so_far.query (told_by f.so_far.message) (bare (f.so_far.sets ++ c ∷ [])) in
+      let b = set_work f.phase c ends in omega arith
+  next_less (placed ∷ left) ends = omega arith
+
+ended_less : (t : Terms) (f : OpenValue) (outer : List OpenValue) (closed : List AskedValue) (n : ℕ)
+    (made : List MadeValue) (kept : List EntryValue)
+    (e : Option Reply) (o : Outcome)
+    → work (step_ended t f.so_far f.asked o (resting closed outer n made kept e)) < work
+    (resting closed (f ∷ outer) n made kept e)
 unfolding work steps_work
-ended_less t f [] closed n e o = let a = some_work f in omega arith
-ended_less t f (g ∷ outer) closed n e o =
+ended_less t f [] closed n made kept e o = let a = some_work f in omega arith
+ended_less t f (g ∷ outer) closed n made kept e o =
     let a = some_work f in
     let b = answered_more t.judge (Step (length closed)) (Answer (given_sets o f.so_far.sets)) g in omega arith
 
-asked_less : (t : Terms) (f : OpenValue) (outer : List OpenValue) (closed : List AskedValue) (n : ℕ) (e : Option Reply) (o : Option AskRef) (ask : Ask)
-    → turn f.phase ≡ Asks ask → work (asked_by t.judge o ask f (resting closed outer n e)) < work (resting closed (f ∷ outer) n e)
-unfolding work steps_work
-asked_less t f outer closed n e None ask asks = omega arith
-asked_less t f outer closed n e (Some r) ask asks = let a = refused_less t.judge r ask f asks in omega arith
+module _ (t : Terms) (f : OpenValue) (outer : List OpenValue) (closed : List AskedValue) (n : ℕ) (made : List MadeValue)
+    (kept : List EntryValue) (e : Option Reply) where
+  asked_less : (o : Option AskRef) (ask : Ask) → turn f.phase ≡ Asks ask
+      → work (asked_by t.judge o ask f (resting closed outer n made kept e)) < work
+      (resting closed (f ∷ outer) n made kept e)
+  unfolding work steps_work
+  asked_less None ask asks = omega arith
+  asked_less (Some r) ask asks = let a = refused_less t.judge r ask f asks in omega arith
 
-need_less : (t : Terms) (f : OpenValue) (outer : List OpenValue) (closed : List AskedValue) (n : ℕ) (e : Option Reply) (need : NeedValue)
-    → turn f.phase ≡ need → work (turned t f (resting closed outer n e) need) < work (resting closed (f ∷ outer) n e)
-unfolding work steps_work
-need_less t f outer closed n e (SetEnds c) is = let a = set_less t f c is in omega arith
-need_less t f outer closed n e (StepEnds o) is = ended_less t f outer closed n e o
-need_less t f outer closed n e (Asks ask) is = asked_less t f outer closed n e (refusal (limit_of t) n f.so_far.depth ask.judged) ask is
+need_less : (t : Terms) (f : OpenValue) (outer : List OpenValue) (closed : List AskedValue) (n : ℕ)
+    (made : List MadeValue) (kept : List EntryValue)
+    (e : Option Reply) (need : NeedValue) → turn f.phase ≡ need
+    → work (turned t f (resting closed outer n made kept e) need) < work (resting closed (f ∷ outer) n made kept e)
+need_less t f outer closed n made kept e (SetEnds c) is =
+    next_less t f outer closed n made kept e c (entry_of c.judged f.asked) f.cause f.so_far.left is
+need_less t f outer closed n made kept e (StepEnds o) is = ended_less t f outer closed n made kept e o
+need_less t f outer closed n made kept e (Asks ask) is =
+    asked_less t f outer closed n made kept e (refusal (limit_of t) n f.so_far.depth ask.judged) ask is
 
-turn_less : (t : Terms) (pending : Option Ask) (steps : List OpenValue) (closed : List AskedValue) (n : ℕ) (e : Option Reply) → (is_none pending && not (none_open steps)) ≡ true
-    → (let s : StateValue = record { closed = closed; steps = steps; pending = pending; sends = n; ended = e } in work (tick t s) < work s)
-turn_less t None [] closed n e on = cc
-turn_less t None (f ∷ outer) closed n e on = need_less t f outer closed n e (turn f.phase) refl
-turn_less t (Some ask) steps closed n e on = cc
+module _ (t : Terms) where
+  turn_less : (pending : Option Ask) (seeking : Option SeekingValue) (steps : List OpenValue)
+      (closed : List AskedValue) (n : ℕ)
+      (made : List MadeValue) (kept : List EntryValue) (e : Option Reply)
+      → (is_none pending && (is_none seeking && not (none_open steps))) ≡ true
+      → (let s : StateValue =
+      record {
+        closed =
+            closed;
+        steps = steps;
+        seeking = seeking;
+        pending = pending;
+        sends = n;
+        made = made;
+        kept = kept;
+        ended = e;
+      } in
+      work (tick t s) < work s)
+  turn_less None None [] closed n made kept e on = cc
+  turn_less None None (f ∷ outer) closed n made kept e on = need_less t f outer closed n made kept e (turn f.phase) refl
+  turn_less None (Some k) steps closed n made kept e on = cc
+  turn_less (Some ask) seeking steps closed n made kept e on = cc
 
 pub less_tick : (t : Terms) (s : StateValue) → moves s ≡ true → work (tick t s) < work s
-less_tick t s on = turn_less t s.pending s.steps s.closed s.sends s.ended on
+less_tick t s on = turn_less t s.pending s.seeking s.steps s.closed s.sends s.made s.kept s.ended on

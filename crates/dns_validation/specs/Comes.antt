@@ -6,6 +6,7 @@ use Rattle.dns_model.specs.SoundAnswers.{PlacedSet, told_by}
 use Rattle.dns_model.specs.Trails.{AskedValue, JudgedSetValue}
 use Rattle.dns_rules.specs.Asking.{most_sends, judged_part}
 use Rattle.dns_rules.specs.ChainedSets.{ChainedSet, bare, stands}
+use Rattle.dns_rules.specs.CacheEntries.{EntryValue}
 use Rattle.dns_rules.specs.Derivation.{StepContext, entries_hold, with_entries}
 use Rattle.dns_rules.specs.DerivationParts.{asks_of_sets, steps_at}
 use Rattle.dns_rules.specs.Outcome.{foreign_record}
@@ -54,11 +55,11 @@ pub record IsJudgement (g : StepContext) (placed : List PlacedSet) (sets : List 
   pub stand : AllByRecursion (λ c. stands g.judge c ≡ true) sets
 
 -- by what the sets of the step for the query are judged
-abbrev pub top_context : Terms → List AskedValue → StepContext
-top_context t steps = record { judge = t.judge; limits = limits_of t; cached = []; earlier = steps; query = t.query; depth = 0 }
+abbrev pub top_context : Terms → List EntryValue → List AskedValue → StepContext
+top_context t cached steps = record { judge = t.judge; limits = limits_of t; cached = cached; earlier = steps; query = t.query; depth = 0 }
 
 -- the reply to the first send, and how its sets were judged by the other sends, each of which is a step before the last one
-pub record FoundBy (t : Terms) (sends : List Sent) (found : Findings) : Type 0 where
+pub record FoundBy (t : Terms) (cached : List EntryValue) (sends : List Sent) (found : Findings) : Type 0 where
   pub first : Sent
   pub others : List Sent
   pub are : sends ≡ first ∷ others
@@ -67,19 +68,19 @@ pub record FoundBy (t : Terms) (sends : List Sent) (found : Findings) : Type 0 w
   pub own : foreign_record t.query (told_by found.message) ≡ None
   pub count : ℕ
   pub few : count ≤ most_sends
-  pub part : TrailPart t.judge (limits_of t) [] [] found.steps (asks_of_sets found.entries ++ found.excuse) 1 count
+  pub part : TrailPart t.judge (limits_of t) cached [] found.steps (asks_of_sets found.entries ++ found.excuse) 1 count
   pub along : StepsOf t (steps_at found.steps (Some part.order)) others
-  pub judged : IsJudgement (top_context t found.steps) (judged_part 0 (told_by found.message)) found.sets found.entries
-  pub concluded : IsStepEnd (top_context t found.steps) (told_by found.message) (bare found.sets) found.outcome found.excuse
+  pub judged : IsJudgement (top_context t cached found.steps) (judged_part 0 (told_by found.message)) found.sets found.entries
+  pub concluded : IsStepEnd (top_context t cached found.steps) (told_by found.message) (bare found.sets) found.outcome found.excuse
 
 -- why a validation answers as it does after these sends
-pub data Comes (t : Terms) (sends : List Sent) : Reply → Type 0 where
+pub data Comes (t : Terms) (cached : List EntryValue) (sends : List Sent) : Reply → Type 0 where
   -- an error without a message is passed on
   Passes : (error : ErrorValue) (sent : Sent) → sends ≡ sent ∷ [] → IsFirst t sent → received_value sent.reply ≡ Failed error
-      → Comes t sends (Err error)
+      → Comes t cached sends (Err error)
   -- a record of another class is named
   Names : (reply : Reply) (sent : Sent) (m : MessageValue) (r : Rr) → sends ≡ sent ∷ [] → IsFirst t sent → (empty : Bool)
       → received_value sent.reply ≡ Message m empty → foreign_record t.query (told_by m) ≡ Some r
-      → reply ≡ Err (seen.ForeignClassRecord r.owner r.class r.rtype) → Comes t sends reply
+      → reply ≡ Err (seen.ForeignClassRecord r.owner r.class r.rtype) → Comes t cached sends reply
   -- the sets of the message are judged, and make the answer
-  Judges : (reply : Reply) (found : Findings) → FoundBy t sends found → reply ≡ judged_answer t.now t.query found → Comes t sends reply
+  Judges : (reply : Reply) (found : Findings) → FoundBy t cached sends found → reply ≡ judged_answer t.now t.query found → Comes t cached sends reply

@@ -7,4 +7,7 @@ pub mod AnswerParts
 pub mod Terms
 pub mod Validations
 pub mod Runs
+pub mod Left
+pub mod LastKept
+pub mod MadePlaces
 pub mod Comes

@@ -1,5 +1,9 @@
 -- The runs of a validation: what it asked and heard, in the order of its sends, and what it comes to (RFC 4035, 4.3 and 5).
-use Rattle.std.specs.Prelude.{ℕ, ◌≡◌, Bool, true, false, not, if◌then◌else◌, ◌&&◌, List, [], ◌∷◌, ◌++◌, Option, None, Some, Err}
+use Rattle.std.specs.Prelude.{ℕ, ◌≡◌, ◌⊎◌, Bool, true, false, not, if◌then◌else◌, ◌&&◌, List, [], ◌∷◌, ◌++◌, Option, None, Some, Err, IfSome}
+use Rattle.dns_model.specs.declared.trail.MarkOrigin.TheVariants.{Cache}
+use Rattle.dns_rules.specs.CacheKeys.{key_of, key_eq}
+use Rattle.dns_rules.specs.CacheEntries.{EntryValue}
+use Rattle.dns_cache.specs.declared.acceptance.Acceptance.{Acceptance}
 use Rattle.dns_handle.specs.Errors as seen
 use Rattle.dns_handle.specs.Errors.{Reply}
 use Rattle.dns_handle.specs.Requests.{RequestValue}
@@ -7,9 +11,14 @@ use Rattle.dns_validation.specs.Received.{is_out_of_memory}
 use Rattle.dns_handle.specs.declared.request.DnsRequestOptions.{DnsRequestOptions}
 use Rattle.dns_flow.specs.declared.asks.Ask.{Ask}
 use Rattle.dns_validation.specs.Requests.{request_for}
-use Rattle.dns_validation.specs.Machine.{Terms, OpenValue, StateValue, begin, none_open, ask_depth, tick, heard}
+use Rattle.dns_validation.specs.Machine.{Terms, OpenValue, SeekingValue, StateValue, begin, none_open, ask_depth, tick, heard, found, given_out, origin_of, serving}
 
 -- ---- a run
+
+-- one of a list
+abbrev pub IsIn : {X : Type 0} → X → List X → Type 0
+IsIn x [] = ⊥
+IsIn x (y ∷ ys) = (x ≡ y) ⊎ IsIn x ys
 
 -- one send: the ask and its request, how deep it is, and the reply
 pub record Sent : Type 0 where
@@ -36,16 +45,25 @@ abbrev pub is_none : {X : Type 0} → Option X → Bool
 is_none None = true
 is_none (Some x) = false
 
--- it doesn't wait for a reply, and has an open step
+-- it waits neither for a reply nor for what was kept of a set, and has an open step
 abbrev pub moves : StateValue → Bool
-moves s = is_none s.pending && not (none_open s.steps)
+moves s = is_none s.pending && (is_none s.seeking && not (none_open s.steps))
 
--- from its begin on, by turns and replies; a reply is never want of memory
-pub data Run (t : Terms) : List Sent → StateValue → Type 0 where
-  Begun : (s : StateValue) → s ≡ begin t.query → Run t [] s
-  Ticked : (sends : List Sent) (s u : StateValue) → Run t sends s → moves s ≡ true → u ≡ tick t s → Run t sends u
-  Heard : (sends all : List Sent) (s u : StateValue) (ask : Ask) (reply : Reply) → Run t sends s → s.pending ≡ Some ask
-      → is_out_of_memory reply ≡ false → all ≡ sends ++ sent_now t s ask reply ∷ [] → u ≡ heard t s reply → Run t all u
+-- what was kept and serves the set that waits is among these entries, unless this validation gave it out
+abbrev pub IsAmong : Terms → List EntryValue → StateValue → SeekingValue → Option (EntryValue × Acceptance) → Type 0
+IsAmong t cached s seeking given =
+    IfSome (serving t.judge seeking.placed given) (λ e.
+    (key_eq (key_of seeking.so_far.query seeking.placed.set) e.key ≡ true) × (origin_of s.made e ≡ Cache → IsIn e cached))
+
+-- from its begin on, by turns, replies, and entries that were kept, those among these that were kept before it; a reply is never want of memory
+pub data Run (t : Terms) (cached : List EntryValue) : List Sent → StateValue → Type 0 where
+  Begun : (s : StateValue) → s ≡ begin t.query → Run t cached [] s
+  Ticked : (sends : List Sent) (s u : StateValue) → Run t cached sends s → moves s ≡ true → u ≡ tick t s → Run t cached sends u
+  Heard : (sends all : List Sent) (s u : StateValue) (ask : Ask) (reply : Reply) → Run t cached sends s → s.pending ≡ Some ask
+      → is_out_of_memory reply ≡ false → all ≡ sends ++ sent_now t s ask reply ∷ [] → u ≡ heard t s reply → Run t cached all u
+  Sought : (sends : List Sent) (s u : StateValue) (seeking : SeekingValue) (given : Option (EntryValue × Acceptance)) → Run t cached sends s
+      → s.seeking ≡ Some seeking → IsAmong t cached s seeking given → u ≡ found t given s → Run t cached sends u
+  Given : (sends : List Sent) (s u : StateValue) → Run t cached sends s → u ≡ given_out s → Run t cached sends u
 
 -- turns alone
 pub data Turns (t : Terms) : StateValue → StateValue → Type 0 where
@@ -54,9 +72,11 @@ pub data Turns (t : Terms) : StateValue → StateValue → Type 0 where
 
 -- ---- what it comes to
 
--- memory ran out: it asks nothing, and answers that
+-- memory ran out: it wants nothing and gives nothing out, and answers that
 pub record IsOut (s : StateValue) : Type 0 where
   pub asks : s.pending ≡ None
+  pub seeks : s.seeking ≡ None
+  pub keeps : s.kept ≡ []
   pub moves : moves s ≡ false
   pub ended : s.ended ≡ Some (Err seen.NoMemory)
 
@@ -69,4 +89,16 @@ pub record HasHeard (t : Terms) (old : StateValue) (reply : Reply) (new : StateV
 -- whatever it has heard so far, it now has heard this reply too
 abbrev pub GoesOn : Terms → StateValue → Reply → StateValue → Type 0
 GoesOn t old reply new =
-    (sends : List Sent) (ask : Ask) → old.pending ≡ Some ask → Run t sends old → Run t (sends ++ sent_now t old ask reply ∷ []) new
+    (cached : List EntryValue) (sends : List Sent) (ask : Ask) → old.pending ≡ Some ask → Run t cached sends old
+    → Run t cached (sends ++ sent_now t old ask reply ∷ []) new
+
+-- it took what was kept of the set that waits, and turned as far as it goes
+pub record HasTaken (t : Terms) (old : StateValue) (given : Option (EntryValue × Acceptance)) (new : StateValue) : Type 0 where
+  pub turns : Turns t (found t given old) new
+  pub settled : moves new ≡ false
+
+-- whatever it has heard so far, and whatever was kept before it
+abbrev pub TakesOn : Terms → StateValue → Option (EntryValue × Acceptance) → StateValue → Type 0
+TakesOn t old given new =
+    (cached : List EntryValue) (sends : List Sent) (seeking : SeekingValue) → old.seeking ≡ Some seeking → IsAmong t cached old seeking given
+    → Run t cached sends old → Run t cached sends new

@@ -11,5 +11,6 @@ terms_of answers context = record {
   request = context.request;
   options = context.options;
   iterations = context.iterations;
+  ranges = context.ranges;
   now = context.judge.moment;
 }

@@ -11,6 +11,7 @@ ghost use Rattle.dns_validation.specs.Steps.{given_sets};
 
 use crate::answers::{JudgedReply, answer_of};
 use crate::context::Context;
+use crate::keeping::keep;
 use crate::open_step::StepSoFar;
 use crate::state::{State, add_step, none_open};
 use crate::steps::{StepEnd, ended, ending_of, records_of};
@@ -32,6 +33,7 @@ pub(crate) fn end_step<V: Verifier>(
     ensures { OnOk result (state.new ≡ step_ended (terms_of V.answers context.now) so_far excuse.items
         (outcome_value outcome) state.old) }
 {
+    keep(context, state, &so_far)?;
     if none_open(state) {
         end_last(context, state, so_far, excuse, outcome)
     } else {
@@ -58,6 +60,7 @@ fn end_nested<V: Verifier>(
         left: _,
         sets,
         entries,
+        causes: _,
     } = so_far;
     let end = StepEnd {
         reply: records_of(received),
@@ -97,6 +100,7 @@ fn end_last<V: Verifier>(
         left: _,
         sets,
         entries,
+        causes: _,
     } = so_far;
     let reply = JudgedReply {
         query,

@@ -1,6 +1,7 @@
 ghost use Rattle.std.specs.Prelude.{◌≡◌};
 ghost use Rattle.dns_rules.specs.Asking.{depth_limit};
 
+use dns_cache::TtlRanges;
 use dns_evidence::{IterationLimits, Limits};
 use dns_handle::{DnsRequest, DnsRequestOptions};
 use dns_record::Query;
@@ -19,6 +20,8 @@ pub(crate) struct Context<'a, V> {
     pub(crate) options: DnsRequestOptions,
     /// How many iterations of the hash of NSEC3 records count.
     pub(crate) iterations: IterationLimits,
+    /// For how long what is found is kept.
+    pub(crate) ranges: TtlRanges,
 }
 
 /// How deep the asks go: at most as deep as the options say, and never deeper than 255.

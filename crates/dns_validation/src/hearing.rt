@@ -19,7 +19,7 @@ use crate::answers::foreign_error;
 use crate::context::Context;
 use crate::open_step::open_step;
 use crate::receiving::{Received, ReceivedMessage, receive};
-use crate::state::{State, add_step, put};
+use crate::state::{State, add_step};
 use crate::steps::{StepEnd, by_fault, ended, foreign_of, only_seen, records_of};
 use dns_evidence::{Ending, Verifier};
 use dns_flow::{Ask, Got, probe_of as probe_in};
@@ -140,8 +140,7 @@ fn hear_own<V: Verifier>(
         state.ended = Some(Err(error));
         return Ok(());
     }
-    let step = open_step(context, query, 0, received)?;
-    put(state, step)
+    open_step(context, state, query, 0, received)
 }
 
 // Hears the reply to a judged ask of a step.
@@ -177,10 +176,7 @@ fn hear_nested<V: Verifier>(
             let reply = records_of(received);
             end_bare(context, state, query, depth, StepEnd { reply, ending })
         }
-        None => {
-            let step = open_step(context, query, depth, received)?;
-            put(state, step)
-        }
+        None => open_step(context, state, query, depth, received),
     }
 }
 

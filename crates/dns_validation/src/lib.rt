@@ -6,6 +6,8 @@ mod answers;
 mod closing;
 mod context;
 mod hearing;
+mod keeping;
+mod made;
 mod open_step;
 mod receiving;
 mod requests;
@@ -14,4 +16,4 @@ mod steps;
 mod validation;
 
 pub use requests::{asking_options_of, checked, request_for};
-pub use validation::{Asking, Validation};
+pub use validation::{Asking, Validation, Wanted};

@@ -1,22 +1,27 @@
 //! A step that is open: its sets are judged one after another, and then its ending is found.
 
-ghost use Rattle.std.specs.Prelude.{◌≡◌, ◌++◌, ◌∷◌, [], IfOk, OnOk, drop};
+ghost use Rattle.std.specs.Prelude.{◌≡◌, IfOk, OnOk, drop};
 ghost use Rattle.dns_model.specs.SoundAnswers.{told_by};
 ghost use Rattle.dns_flow.specs.Phases.{after as after_of};
 ghost use Rattle.dns_flow.specs.Values.{got_value, phase_value};
 ghost use Rattle.dns_trust.specs.Judge.{judge_of};
 ghost use Rattle.dns_validation.specs.Terms.{terms_of};
+ghost use Rattle.std.specs.Option.{option_map};
+ghost use Rattle.dns_proof.specs.Kinds.{kind_value};
+ghost use Rattle.dns_flow.specs.Causes.{cause_after as cause_by};
 ghost use Rattle.dns_flow.specs.Leads.{entry_of};
-ghost use Rattle.dns_validation.specs.Machine.{first_left, next_phase, next_item as next_item_of, opened, set_ended as set_ended_of, answered as answered_by};
+ghost use Rattle.dns_validation.specs.Machine.{first_left, ending_item as ending_item_of, set_item as set_item_of, opened, went_on, with_set, answered as answered_by};
 
 use crate::context::{Context, limits_of};
 use crate::receiving::ReceivedMessage;
+use crate::state::{State, put};
 use crate::steps::entry_for;
 use dns_evidence::{ChainedSet, JudgedSet, PlacedSet, Verifier};
-use dns_flow::{Got, Phase, after, start_ending, start_set};
+use dns_flow::{Got, Phase, after, cause_after, start_cause, start_ending, start_set};
 use dns_grouping::judged_part;
-use dns_model::AskRef;
+use dns_model::{AskRef, MarkOrigin};
 use dns_name::NoMemory;
+use dns_proof::ProofErrorKind;
 use dns_record::Query;
 use std::marker::Model;
 
@@ -30,10 +35,14 @@ pub(crate) struct StepSoFar {
     pub(crate) left: Vec<PlacedSet>,
     pub(crate) sets: Vec<ChainedSet>,
     pub(crate) entries: Vec<JudgedSet>,
+    /// Why each set isn't Secure; None where it was served.
+    pub(crate) causes: Vec<Option<ProofErrorKind>>,
 }
 
 impl Model for StepSoFar {
-    ghost use Rattle.std.specs.Prelude.{reverse};
+    ghost use Rattle.std.specs.Prelude.{map, reverse};
+    ghost use Rattle.std.specs.Option.{option_map};
+    ghost use Rattle.dns_proof.specs.Kinds.{kind_value};
     ghost use Rattle.dns_validation.specs.Machine.{SoFar};
 
     ghost Value = { SoFar };
@@ -46,6 +55,7 @@ impl Model for StepSoFar {
       left = reverse s.left.items;
       sets = s.sets.items;
       entries = s.entries.items;
+      causes = map (option_map kind_value) s.causes.items;
     } };
 }
 
@@ -57,26 +67,46 @@ pub(crate) struct OpenStep {
     /// What the set, or the ending, asked.
     pub(crate) asked: Vec<AskRef>,
     pub(crate) phase: Phase,
+    /// Why the set isn't Secure, so far; None for an ending.
+    pub(crate) cause: Option<ProofErrorKind>,
+}
+
+/// A set whose turn has come: what was kept of it is sought.
+#[derive(Drop)]
+pub(crate) struct Seeking {
+    pub(crate) so_far: Box<StepSoFar>,
+    pub(crate) placed: PlacedSet,
+}
+
+impl Model for Seeking {
+    ghost use Rattle.dns_validation.specs.Machine.{SeekingValue};
+
+    ghost Value = { SeekingValue };
+
+    ghost view = { λ s. record { so_far = s.so_far.value; placed = s.placed } };
 }
 
 impl Model for OpenStep {
+    ghost use Rattle.std.specs.Option.{option_map};
     ghost use Rattle.dns_flow.specs.Values.{phase_value};
+    ghost use Rattle.dns_proof.specs.Kinds.{kind_value};
     ghost use Rattle.dns_validation.specs.Machine.{OpenValue};
 
     ghost Value = { OpenValue };
 
-    ghost view = { λ s. record { so_far = s.so_far.value; asked = s.asked.items; phase = phase_value s.phase } };
+    ghost view = { λ s. record { so_far = s.so_far.value; asked = s.asked.items; phase = phase_value s.phase; cause = option_map kind_value s.cause } };
 }
 
 /// A step opens.
 pub(crate) fn open_step<V: Verifier>(
     context: &Context<'_, V>,
+    state: &mut State,
     query: Query,
     depth: u16,
     received: ReceivedMessage,
-) -> Result<OpenStep, NoMemory>
-    ensures { IfOk result (λ s. s ≡ opened (terms_of V.answers context.now) query depth received.message
-        received.empty) }
+) -> Result<(), NoMemory>
+    ensures { OnOk result (state.new ≡ opened (terms_of V.answers context.now) query depth received.message
+        received.empty state.old) }
 {
     let alloc = context.alloc;
     let mut left = judged_part(alloc, depth, &received.message)?;
@@ -88,26 +118,31 @@ pub(crate) fn open_step<V: Verifier>(
         left,
         sets: Vec::new(alloc),
         entries: Vec::new(alloc),
+        causes: Vec::new(alloc),
     };
     let so_far = Box::new(alloc, so_far)?;
-    next_item(context, so_far)
+    go_on(context, state, so_far)
 }
 
-// The next set of a step begins, or its ending.
-fn next_item<V: Verifier>(
+/// The next set of a step waits for what was kept of it, or its ending begins.
+pub(crate) fn go_on<V: Verifier>(
     context: &Context<'_, V>,
+    state: &mut State,
     so_far: Box<StepSoFar>,
-) -> Result<OpenStep, NoMemory>
-    ensures { IfOk result (λ s. s ≡ next_item_of (terms_of V.answers context.now) so_far.value) }
+) -> Result<(), NoMemory>
+    ensures { OnOk result (state.new ≡ went_on (terms_of V.answers context.now) so_far.value state.old) }
 {
     let mut so_far = so_far;
-    let next = next_set(&mut so_far);
-    let phase = phase_of(context, &so_far, next)?;
-    Ok(OpenStep {
-        so_far,
-        asked: Vec::new(context.alloc),
-        phase,
-    })
+    match next_set(&mut so_far) {
+        Some(placed) => {
+            state.seeking = Some(Seeking { so_far, placed });
+            Ok(())
+        }
+        None => {
+            let step = ending_item(context, so_far)?;
+            put(state, step)
+        }
+    }
 }
 
 // The next set that isn't judged.
@@ -118,62 +153,82 @@ fn next_set(so_far: &mut StepSoFar) -> Option<PlacedSet>
     so_far.left.pop()
 }
 
-// The phase in which a set begins; where there is none, that of the ending.
-fn phase_of<V: Verifier>(
+// The ending of a step begins.
+fn ending_item<V: Verifier>(
     context: &Context<'_, V>,
-    so_far: &StepSoFar,
-    next: Option<PlacedSet>,
-) -> Result<Phase, NoMemory>
-    ensures { IfOk result (λ p. phase_value p ≡ next_phase (terms_of V.answers context.now) so_far.now next) }
+    so_far: Box<StepSoFar>,
+) -> Result<OpenStep, NoMemory>
+    ensures { IfOk result (λ s. s ≡ ending_item_of (terms_of V.answers context.now) so_far.value) }
 {
-    let StepSoFar {
-        query,
-        received,
-        sets,
-        ..
-    } = so_far;
-    match next {
-        Some(placed) => start_set(
-            context.alloc,
-            &context.judge,
-            query,
-            &received.message,
-            placed,
-        ),
-        None => start_ending(
-            context.alloc,
-            &limits_of(context),
-            query,
-            &received.message,
-            sets,
-        ),
-    }
+    let phase = start_ending(
+        context.alloc,
+        &limits_of(context),
+        &so_far.query,
+        &so_far.received.message,
+        &so_far.sets,
+    )?;
+    Ok(OpenStep {
+        so_far,
+        asked: Vec::new(context.alloc),
+        phase,
+        cause: None,
+    })
+}
+
+/// A set of a step begins by the rules.
+pub(crate) fn set_item<V: Verifier>(
+    context: &Context<'_, V>,
+    so_far: Box<StepSoFar>,
+    placed: PlacedSet,
+) -> Result<OpenStep, NoMemory>
+    ensures { IfOk result (λ s. s ≡ set_item_of (terms_of V.answers context.now) so_far.value placed) }
+{
+    let cause = start_cause(&placed.set)?;
+    let phase = start_set(
+        context.alloc,
+        &context.judge,
+        &so_far.query,
+        &so_far.received.message,
+        placed,
+    )?;
+    Ok(OpenStep {
+        so_far,
+        asked: Vec::new(context.alloc),
+        phase,
+        cause: Some(cause),
+    })
 }
 
 /// The set of a step is judged.
 pub(crate) fn set_ended<V: Verifier>(
     context: &Context<'_, V>,
+    state: &mut State,
     so_far: Box<StepSoFar>,
     asked: Vec<AskRef>,
+    cause: Option<ProofErrorKind>,
     set: ChainedSet,
-) -> Result<OpenStep, NoMemory>
-    ensures { IfOk result (λ s. s ≡ set_ended_of (terms_of V.answers context.now) so_far.value asked.items set) }
+) -> Result<(), NoMemory>
+    ensures { OnOk result (state.new ≡ went_on (terms_of V.answers context.now)
+        (with_set so_far.value set (entry_of set.judged asked.items) (option_map kind_value cause)) state.old) }
 {
     let mut so_far = so_far;
-    add_set(&mut so_far, asked, set)?;
-    next_item(context, so_far)
+    let entry = entry_for(&set.judged, MarkOrigin::Table, asked)?;
+    add_set(&mut so_far, set, entry, cause)?;
+    go_on(context, state, so_far)
 }
 
-// Adds a judged set and its entry.
-fn add_set(so_far: &mut StepSoFar, asked: Vec<AskRef>, set: ChainedSet) -> Result<(), NoMemory>
-    ensures { OnOk result (so_far.new ≡ record so_far.old {
-      sets = so_far.old.sets ++ set ∷ [];
-      entries = so_far.old.entries ++ entry_of set.judged asked.items ∷ [];
-    }) }
+/// Adds a judged set, its entry and its cause.
+pub(crate) fn add_set(
+    so_far: &mut StepSoFar,
+    set: ChainedSet,
+    entry: JudgedSet,
+    cause: Option<ProofErrorKind>,
+) -> Result<(), NoMemory>
+    ensures { OnOk result (so_far.new ≡ with_set so_far.old set entry (option_map kind_value cause)) }
 {
-    let entry = entry_for(&set.judged, asked)?;
     so_far.sets.push(set)?;
     so_far.entries.push(entry)?;
+    so_far.causes.push(cause)?;
     Ok(())
 }
 
@@ -190,15 +245,37 @@ pub(crate) fn answered<V: Verifier>(
         so_far,
         asked,
         phase,
+        cause,
     } = step;
     let mut asked = asked;
     asked.push(ask)?;
+    let cause = next_cause(context, &phase, &got, cause)?;
     let phase = after_answer(context, &so_far, phase, got)?;
     Ok(OpenStep {
         so_far,
         asked,
         phase,
+        cause,
     })
+}
+
+// The cause of a set at work, after what its ask came to.
+fn next_cause<V: Verifier>(
+    context: &Context<'_, V>,
+    phase: &Phase,
+    got: &Got,
+    cause: Option<ProofErrorKind>,
+) -> Result<Option<ProofErrorKind>, NoMemory>
+    ensures { IfOk result (λ o. option_map kind_value o ≡ option_map (cause_by (judge_of V.answers context.now.judge)
+        (phase_value phase.now) (got_value got.now)) (option_map kind_value cause)) }
+{
+    match cause {
+        Some(cause) => {
+            let next = cause_after(context.alloc, &context.judge, phase, got, cause)?;
+            Ok(Some(next))
+        }
+        None => Ok(None),
+    }
 }
 
 // The phase to which an answer leads.

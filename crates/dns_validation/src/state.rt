@@ -11,14 +11,17 @@ ghost use Rattle.dns_validation.specs.Runs.{moves as moves_on, Turns};
 
 use crate::closing::end_step;
 use crate::context::{Context, limit_of};
-use crate::open_step::{OpenStep, answered, set_ended};
+use crate::made::MadeList;
+use crate::open_step::{OpenStep, Seeking, answered, set_ended};
 use crate::steps::next_number;
+use dns_cache::Entry;
 use dns_evidence::{Asked, MOST_SENDS, Verifier};
 use dns_flow::{Ask, Got, Need, turn};
 use dns_handle::{DnsResponse, NetError};
 use dns_model::AskRef;
 use dns_name::NoMemory;
 use dns_trust::NsProbe;
+use std::collections::VecDeque;
 use std::marker::Model;
 
 /// How far a validation has come.
@@ -28,10 +31,16 @@ pub(crate) struct State {
     pub(crate) closed: Vec<Asked>,
     /// The open steps, the innermost last.
     pub(crate) steps: Vec<OpenStep>,
+    /// The set that waits for what was kept of it, of a step inside all of these.
+    pub(crate) seeking: Option<Seeking>,
     /// The ask that waits for its reply.
     pub(crate) pending: Option<Ask>,
     /// How many replies were heard.
     pub(crate) sends: usize,
+    /// What was given out to be kept.
+    pub(crate) made: MadeList,
+    /// What is still to be given out, the first one first.
+    pub(crate) kept: VecDeque<Entry>,
     /// The answer with which it has come to its end.
     pub(crate) ended: Option<Result<DnsResponse, NetError>>,
 }
@@ -47,17 +56,20 @@ impl Model for State {
     ghost view = { λ s. record {
       closed = s.closed.items;
       steps = reverse s.steps.items;
+      seeking = s.seeking;
       pending = s.pending;
       sends = s.sends;
+      made = s.made;
+      kept = s.kept.items;
       ended = option_map reply_of s.ended;
     } };
 }
 
-/// It doesn't wait for a reply, and has an open step.
+/// It waits neither for a reply nor for what was kept of a set, and has an open step.
 pub(crate) fn moves(state: &State) -> bool
     ensures { result ≡ moves_on state.now }
 {
-    state.pending.is_none() && !none_open(state)
+    state.pending.is_none() && state.seeking.is_none() && !none_open(state)
 }
 
 /// No step is open.
@@ -179,12 +191,10 @@ fn turn_step<V: Verifier>(
         so_far,
         asked,
         phase,
+        cause,
     } = step;
     match turn(context.alloc, phase)? {
-        Need::SetEnds(set) => {
-            let step = set_ended(context, so_far, asked, set)?;
-            put(state, step)
-        }
+        Need::SetEnds(set) => set_ended(context, state, so_far, asked, cause, set),
         Need::StepEnds(outcome) => {
             let so_far = Box::into_inner(so_far);
             end_step(context, state, so_far, asked, outcome)
@@ -194,6 +204,7 @@ fn turn_step<V: Verifier>(
                 so_far,
                 asked,
                 phase,
+                cause,
             };
             make_ask(context, state, step, ask)
         }

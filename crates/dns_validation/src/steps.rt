@@ -91,9 +91,13 @@ pub(crate) fn records_of(received: ReceivedMessage) -> Reply
     })
 }
 
-/// The entry of a set that the rules judged by these asks.
-pub(crate) fn entry_for(set: &MarkedSet, asked: Vec<AskRef>) -> Result<JudgedSet, NoMemory>
-    ensures { IfOk result (λ entry. entry ≡ entry_of set.now asked.items) }
+/// The entry of a set with its mark's origin and these asks.
+pub(crate) fn entry_for(
+    set: &MarkedSet,
+    origin: MarkOrigin,
+    asked: Vec<AskRef>,
+) -> Result<JudgedSet, NoMemory>
+    ensures { IfOk result (λ entry. entry ≡ record (entry_of set.now asked.items) { origin = origin }) }
 {
     let owner = set.set.name.try_clone()?;
     Ok(JudgedSet {
@@ -101,7 +105,7 @@ pub(crate) fn entry_for(set: &MarkedSet, asked: Vec<AskRef>) -> Result<JudgedSet
         owner,
         record_type: set.set.record_type,
         mark: set.mark,
-        origin: MarkOrigin::Table,
+        origin,
         sig: set.sig,
         asked,
     })

@@ -1,19 +1,23 @@
 ghost use Rattle.std.specs.Prelude.{◌≡◌, ◌⊎◌, false, [], List, None, IfOk, OnOk, IfSome, IsSome};
 ghost use Rattle.dns_handle.specs.Replies.{reply_of};
+ghost use Rattle.dns_rules.specs.CacheEntries.{EntryValue};
 ghost use Rattle.dns_handle.specs.Requests.{first_question};
 ghost use Rattle.dns_trust.specs.Judge.{judge_of};
 ghost use Rattle.dns_validation.specs.Machine.{begin as begin_of, none_open as none_open_in};
 ghost use Rattle.dns_validation.specs.Requests.{asking_request, checked_request};
 ghost use Rattle.dns_validation.specs.Comes.{Comes};
-ghost use Rattle.dns_validation.specs.Runs.{Sent, Run, IsOut, HasHeard, GoesOn, moves as moves_on, request_at};
+ghost use Rattle.dns_validation.specs.Runs.{Sent, Run, IsOut, HasHeard, HasTaken, GoesOn, TakesOn, moves as moves_on, request_at};
 ghost use Rattle.std.specs.Option.{option_map};
 ghost use Rattle.dns_validation.specs.Terms.{terms_of};
-ghost use Rattle.dns_validation.specs.Validations.{asking_at};
+ghost use Rattle.dns_validation.specs.Validations.{asking_at, wanted_in as wanted_of};
 
 use crate::context::Context;
 use crate::hearing::hear;
+use crate::keeping::{find, next_kept};
+use crate::made::MadeList;
 use crate::requests::{checked, request_for};
 use crate::state::{State, none_open, settle};
+use dns_cache::{Acceptance, CacheKey, Entry, TtlRanges};
 use dns_evidence::{IterationLimits, Verifier};
 use dns_flow::Ask;
 use dns_handle::{DnsRequest, DnsRequestOptions, DnsResponse, NetError};
@@ -21,6 +25,7 @@ use dns_name::NoMemory;
 use dns_record::Query;
 use dns_trust::Judge;
 use std::alloc::Global;
+use std::collections::VecDeque;
 
 /// The validation of a query (RFC 4035, 5): it says what it asks, is told the reply to that, and goes on, until it has its answer.
 /// It holds no handle.
@@ -28,6 +33,15 @@ use std::alloc::Global;
 pub struct Validation<'a, V> {
     context: Context<'a, V>,
     state: State,
+}
+
+/// What a validation wants.
+#[derive(Drop)]
+pub enum Wanted {
+    /// The reply to an ask.
+    Reply(Asking),
+    /// What was kept of the set with this key.
+    Entry(CacheKey),
 }
 
 /// What a validation asks.
@@ -40,7 +54,9 @@ pub struct Asking {
 }
 
 impl<'a, V: Verifier> Validation<'a, V> {
-    ghost use Rattle.dns_validation.specs.Validations.{terms_in, state_of, terms_by, asking_in as asking_of};
+    ghost use Rattle.dns_validation.specs.Left.{IsLeft};
+    ghost use Rattle.dns_validation.specs.Machine.{first_kept, given_out};
+    ghost use Rattle.dns_validation.specs.Validations.{terms_in, state_of, terms_by, wanted_in};
 
     /// Begins with a query. Its own request is sent for it, as that of each judged ask: with EDNS and DO, AD set and CD clear. The
     /// only error is want of memory. NSEC3 records prove something up to so many iterations of their hash.
@@ -50,15 +66,16 @@ impl<'a, V: Verifier> Validation<'a, V> {
         query: Query,
         options: DnsRequestOptions,
         iterations: IterationLimits,
+        ranges: TtlRanges,
     ) -> Result<Validation<'a, V>, NoMemory>
         ensures terms { IfOk result (λ v. terms_in V.answers v
-            ≡ terms_by (judge_of V.answers judge.entry) query (asking_request query options) options iterations
+            ≡ terms_by (judge_of V.answers judge.entry) query (asking_request query options) options iterations ranges
             judge.entry.moment) }
         ensures begins { IfOk result (λ v. state_of v ≡ begin_of query) }
-        ensures run { IfOk result (λ v. Run (terms_in V.answers v) [] (state_of v)) }
+        ensures run { IfOk result (λ v. (cached : List EntryValue) → Run (terms_in V.answers v) cached [] (state_of v)) }
     {
         let request = request_for(alloc, &query, &options, true)?;
-        begin(alloc, judge, query, request, options, iterations)
+        begin(alloc, judge, query, request, options, iterations, ranges)
     }
 
     /// Begins with a query and the request that is sent for it, with EDNS and DO, AD set and CD clear: else as it is given. The
@@ -69,29 +86,30 @@ impl<'a, V: Verifier> Validation<'a, V> {
         query: Query,
         request: DnsRequest,
         iterations: IterationLimits,
+        ranges: TtlRanges,
     ) -> Result<Validation<'a, V>, NoMemory>
         requires asked { first_question request ≡ Some query }
         ensures terms { IfOk result (λ v. terms_in V.answers v
-            ≡ terms_by (judge_of V.answers judge.entry) query (checked_request request) request.options iterations
+            ≡ terms_by (judge_of V.answers judge.entry) query (checked_request request) request.options iterations ranges
             judge.entry.moment) }
         ensures begins { IfOk result (λ v. state_of v ≡ begin_of query) }
-        ensures run { IfOk result (λ v. Run (terms_in V.answers v) [] (state_of v)) }
+        ensures run { IfOk result (λ v. (cached : List EntryValue) → Run (terms_in V.answers v) cached [] (state_of v)) }
     {
         let options = request.options;
         let request = checked(alloc, request);
-        begin(alloc, judge, query, request, options, iterations)
+        begin(alloc, judge, query, request, options, iterations, ranges)
     }
 
-    /// What it asks; None where it has come to its end, also where memory runs out for the request. Before the answer, it asks the
-    /// same again.
-    pub fn next(&mut self) -> Option<Asking>
+    /// What it wants; None where it has come to its end, also where memory runs out for the request. Before the answer, it wants the
+    /// same again. Whatever it gives out to be kept before is to be kept before it is told what was kept of a set.
+    pub fn next(&mut self) -> Option<Wanted>
         ensures terms { terms_in V.answers self.new ≡ terms_in V.answers self.old }
-        ensures asks { IsOut (state_of self.new) ⊎ (result ≡ asking_of (terms_in V.answers self.old) (state_of self.old)) }
+        ensures asks { IsOut (state_of self.new) ⊎ (result ≡ wanted_in (terms_in V.answers self.old) (state_of self.old)) }
         ensures same { IsOut (state_of self.new) ⊎ (state_of self.new ≡ state_of self.old) }
         ensures out { IsOut (state_of self.new) → result ≡ None }
     {
-        match next_ask(&self.context, &self.state) {
-            Ok(asked) => asked,
+        match next_wanted(&self.context, &self.state) {
+            Ok(wanted) => wanted,
             Err(_) => {
                 run_out(&self.context, &mut self.state);
                 None
@@ -112,15 +130,39 @@ impl<'a, V: Verifier> Validation<'a, V> {
         take(&self.context, &mut self.state, reply);
     }
 
+    /// Takes what was kept of the set that it asked for, if anything was, with whose acceptance its chain has, and goes on. The entry has the
+    /// key that was asked for, and `Kept` is true. Want of memory ends it. Where no set waits, it lets the entry go.
+    pub fn found(&mut self, given: Option<(Entry, Acceptance)>)
+        ensures terms { terms_in V.answers self.new ≡ terms_in V.answers self.old }
+        ensures idle { (state_of self.old).seeking ≡ None → state_of self.new ≡ state_of self.old }
+        ensures taken { IsSome (state_of self.old).seeking → IsOut (state_of self.new)
+            ⊎ HasTaken (terms_in V.answers self.old) (state_of self.old) given (state_of self.new) }
+        ensures run { IsOut (state_of self.new)
+            ⊎ TakesOn (terms_in V.answers self.old) (state_of self.old) given (state_of self.new) }
+    {
+        take_entry(&self.context, &mut self.state, given);
+    }
+
+    /// The next of what it gives out to be kept, in the order in which its steps ended; None where nothing is left.
+    pub fn kept(&mut self) -> Option<Entry>
+        ensures terms { terms_in V.answers self.new ≡ terms_in V.answers self.old }
+        ensures gives { result ≡ first_kept (state_of self.old).kept }
+        ensures leaves { state_of self.new ≡ given_out (state_of self.old) }
+        ensures left { IfSome result (λ e. (cached : List EntryValue) (sends : List Sent)
+            → Run (terms_in V.answers self.old) cached sends (state_of self.old) → IsLeft (terms_in V.answers self.old) sends e) }
+    {
+        next_kept(&mut self.state)
+    }
+
     /// The answer of a validation that has come to its end, as a lookup gives it: by a trail of exactly the sends of its run. None
     /// where it still waits for a reply.
     pub fn into_answer(self) -> Option<Result<DnsResponse, NetError>>
         ensures answer { option_map reply_of result ≡ (state_of self.entry).ended }
-        ensures comes { IfSome result (λ r. (sends : List Sent)
-            → Run (terms_in V.answers self.entry) sends (state_of self.entry)
-            → Comes (terms_in V.answers self.entry) sends (reply_of r)) }
-        ensures ends { (sends : List Sent) → Run (terms_in V.answers self.entry) sends (state_of self.entry)
-            → (state_of self.entry).pending ≡ None → moves_on (state_of self.entry) ≡ false → IsSome result }
+        ensures comes { IfSome result (λ r. (cached : List EntryValue) (sends : List Sent)
+            → Run (terms_in V.answers self.entry) cached sends (state_of self.entry)
+            → Comes (terms_in V.answers self.entry) cached sends (reply_of r)) }
+        ensures ends { (cached : List EntryValue) (sends : List Sent) → Run (terms_in V.answers self.entry) cached sends (state_of self.entry)
+            → (state_of self.entry).pending ≡ None → (state_of self.entry).seeking ≡ None → moves_on (state_of self.entry) ≡ false → IsSome result }
     {
         let Validation { context: _, state } = self;
         answer_in(state)
@@ -135,6 +177,7 @@ fn begin<'a, V: Verifier>(
     request: DnsRequest,
     options: DnsRequestOptions,
     iterations: IterationLimits,
+    ranges: TtlRanges,
 ) -> Result<Validation<'a, V>, NoMemory>
     ensures context { IfOk result (λ v. v.context
         ≡ record {
@@ -144,9 +187,10 @@ fn begin<'a, V: Verifier>(
           request = request;
           options = options;
           iterations = iterations;
+          ranges = ranges;
         }) }
     ensures begins { IfOk result (λ v. v.state ≡ begin_of query) }
-    ensures run { IfOk result (λ v. Run (terms_of V.answers v.context) [] v.state) }
+    ensures run { IfOk result (λ v. (cached : List EntryValue) → Run (terms_of V.answers v.context) cached [] v.state) }
 {
     let asked = query.try_clone()?;
     let state = first_state(alloc, asked);
@@ -157,6 +201,7 @@ fn begin<'a, V: Verifier>(
         request,
         options,
         iterations,
+        ranges,
     };
     Ok(Validation { context, state })
 }
@@ -172,10 +217,63 @@ fn first_state(alloc: Global, query: Query) -> State
     State {
         closed: Vec::new(alloc),
         steps: Vec::new(alloc),
+        seeking: None,
         pending: Some(ask),
         sends: 0,
+        made: MadeList::new(alloc),
+        kept: VecDeque::new(alloc),
         ended: None,
     }
+}
+
+// What a validation wants.
+fn next_wanted<V: Verifier>(
+    context: &Context<'_, V>,
+    state: &State,
+) -> Result<Option<Wanted>, NoMemory>
+    ensures { IfOk result (λ w. w ≡ wanted_of (terms_of V.answers context.now) state.now) }
+{
+    match &state.seeking {
+        Some(seeking) => {
+            let key = CacheKey::of(&seeking.so_far.query, &seeking.placed.set)?;
+            Ok(Some(Wanted::Entry(key)))
+        }
+        None => match next_ask(context, state)? {
+            Some(asking) => Ok(Some(Wanted::Reply(asking))),
+            None => Ok(None),
+        },
+    }
+}
+
+// Takes what was kept, unless no set waits for it.
+fn take_entry<V: Verifier>(
+    context: &Context<'_, V>,
+    state: &mut State,
+    given: Option<(Entry, Acceptance)>,
+)
+    ensures idle { state.old.seeking ≡ None → state.new ≡ state.old }
+    ensures taken { IsSome state.old.seeking → IsOut state.new
+        ⊎ HasTaken (terms_of V.answers context.now) state.old given state.new }
+{
+    if state.seeking.is_none() {
+        return;
+    }
+    match find_on(context, state, given) {
+        Ok(()) => {}
+        Err(_) => run_out(context, state),
+    }
+}
+
+// Takes what was kept, and turns as far as it goes.
+fn find_on<V: Verifier>(
+    context: &Context<'_, V>,
+    state: &mut State,
+    given: Option<(Entry, Acceptance)>,
+) -> Result<(), NoMemory>
+    ensures { OnOk result (HasTaken (terms_of V.answers context.now) state.old given state.new) }
+{
+    find(context, state, given)?;
+    settle(context, state)
 }
 
 // What a validation asks.
@@ -244,8 +342,11 @@ fn run_out<V>(context: &Context<'_, V>, state: &mut State)
     *state = State {
         closed: Vec::new(alloc),
         steps: Vec::new(alloc),
+        seeking: None,
         pending: None,
         sends: state.sends,
+        made: MadeList::new(alloc),
+        kept: VecDeque::new(alloc),
         ended: Some(Err(NetError::NoMemory)),
     };
 }
@@ -257,8 +358,11 @@ fn answer_in(state: State) -> Option<Result<DnsResponse, NetError>>
     let State {
         closed: _,
         steps: _,
+        seeking: _,
         pending: _,
         sends: _,
+        made: _,
+        kept: _,
         ended,
     } = state;
     ended

@@ -9,7 +9,8 @@ turns-init g c = Here _ _ refl
 
 pub turns-smaller : goal.turns-smaller
 turns-smaller g c =
-    less_turn (terms_of g.V.Verifier.answers c.args.context.now) c.turns.state c.turn_once.new.state (sym c.moves.ensures ∙ c.turns-test.true)
+    less_turn (terms_of g.V.Verifier.answers c.args.context.now) c.turns.state c.turn_once.new.state
+    (sym c.moves.ensures ∙ c.turns-test.true)
     c.in_ok-turn_once.ensures
 
 pub turns-preserved : goal.turns-preserved

@@ -1,0 +1,292 @@
+//! What was kept and serves a set, and what a step that has ended leaves to be kept (RFC 4035, 4.5, 4.7 and 5.3.3).
+
+ghost use Rattle.std.specs.Prelude.{◌≡◌, None, Some, IfOk, OnOk, length, map};
+ghost use Rattle.std.specs.Option.{option_map};
+ghost use Rattle.dns_model.specs.SoundAnswers.{is_secure as is_secure_mark};
+ghost use Rattle.dns_rules.specs.Serving.{links_of as links_in};
+ghost use Rattle.dns_evidence.specs.Link.{link_value};
+ghost use Rattle.dns_proof.specs.Kinds.{kind_value};
+ghost use Rattle.dns_trust.specs.Judge.{judge_of};
+ghost use Rattle.dns_flow.specs.Causes.{found_of as found_in, is_net as is_net_in};
+ghost use Rattle.dns_validation.specs.Machine.{chain_of as chain_in, entry_if, entry_if_kept, first_kept, found as found_by, given_out, giving, holds_given as holds_in, is_kept as is_kept_in, keeping, leaving, origin_of as origin_in, served_entry, served_set as served_set_of, serving as serving_of, went_on, with_set};
+ghost use Rattle.dns_validation.specs.Terms.{terms_of};
+
+use crate::context::Context;
+use crate::made::made_by;
+use crate::open_step::{Seeking, StepSoFar, add_set, go_on, set_item};
+use crate::state::{State, put};
+use crate::steps::{entry_for, next_number};
+use dns_cache::{Acceptance, CacheKey, Entry};
+use dns_evidence::{Chain, ChainedSet, Link, MarkedSet, PlacedSet, Verifier, clone_links};
+use dns_flow::found_of;
+use dns_model::{MarkOrigin, Proof};
+use dns_name::NoMemory;
+use dns_proof::{ProofError, ProofErrorKind, RrsetProof};
+use dns_record::Query;
+use dns_serving::{mark_of, sig_of, still_holds};
+use std::alloc::Global;
+
+/// Takes what was kept of the set that waits, if anything was, with whose acceptance its chain has.
+pub(crate) fn find<V: Verifier>(
+    context: &Context<'_, V>,
+    state: &mut State,
+    given: Option<(Entry, Acceptance)>,
+) -> Result<(), NoMemory>
+    ensures { OnOk result (state.new ≡ found_by (terms_of V.answers context.now) given state.old) }
+{
+    let Some(seeking) = state.seeking.take() else {
+        return Ok(());
+    };
+    let Seeking { so_far, placed } = seeking;
+    match serving(context, &placed, given)? {
+        Some(entry) => serve(context, state, so_far, placed, entry),
+        None => {
+            let step = set_item(context, so_far, placed)?;
+            put(state, step)
+        }
+    }
+}
+
+// The entry, where it serves the set.
+fn serving<V: Verifier>(
+    context: &Context<'_, V>,
+    placed: &PlacedSet,
+    given: Option<(Entry, Acceptance)>,
+) -> Result<Option<Entry>, NoMemory>
+    ensures { IfOk result (λ o. o ≡ serving_of (judge_of V.answers context.now.judge) placed.now given) }
+{
+    let Some((entry, acceptance)) = given else {
+        return Ok(None);
+    };
+    if holds_given(context, placed, &entry, acceptance)? {
+        Ok(Some(entry))
+    } else {
+        Ok(None)
+    }
+}
+
+// Whether what was found before holds of the set: another verifier's acceptance counts for nothing where it says Secure.
+fn holds_given<V: Verifier>(
+    context: &Context<'_, V>,
+    placed: &PlacedSet,
+    entry: &Entry,
+    acceptance: Acceptance,
+) -> Result<bool, NoMemory>
+    ensures { IfOk result (λ b. b ≡ holds_in acceptance (judge_of V.answers context.now.judge) placed.now entry.now) }
+{
+    match acceptance {
+        Acceptance::Kept => still_holds(context.alloc, &context.judge, placed, entry),
+        Acceptance::Unknown => still_holds(context.alloc, &context.judge, placed, entry),
+        Acceptance::Other => Ok(!is_secure(mark_of(&entry.result))),
+    }
+}
+
+fn is_secure(mark: Proof) -> bool
+    ensures { result ≡ is_secure_mark mark }
+{
+    match mark {
+        Proof::Secure => true,
+        _ => false,
+    }
+}
+
+// The set is served.
+fn serve<V: Verifier>(
+    context: &Context<'_, V>,
+    state: &mut State,
+    so_far: Box<StepSoFar>,
+    placed: PlacedSet,
+    entry: Entry,
+) -> Result<(), NoMemory>
+    ensures { OnOk result (state.new ≡ went_on (terms_of V.answers context.now)
+        (with_set so_far.value (served_set_of placed entry)
+        (served_entry (origin_in state.old.made entry) (served_set_of placed entry)) None) state.old) }
+{
+    let origin = state.made.origin_of(&entry);
+    let set = served_set(context.alloc, placed, entry);
+    let served = entry_for(&set.judged, origin, Vec::new(context.alloc))?;
+    let mut so_far = so_far;
+    add_set(&mut so_far, set, served, None)?;
+    go_on(context, state, so_far)
+}
+
+// The set with the mark that was kept, and its chain where it is Secure.
+fn served_set(alloc: Global, placed: PlacedSet, entry: Entry) -> ChainedSet
+    ensures { result ≡ served_set_of placed entry }
+{
+    let PlacedSet { section, set } = placed;
+    let mark = mark_of(&entry.result);
+    let judged = MarkedSet {
+        section,
+        set,
+        mark,
+        sig: sig_of(&entry.result),
+    };
+    let chain = if is_secure(mark) {
+        links_of(alloc, entry)
+    } else {
+        Vec::new(alloc)
+    };
+    ChainedSet { judged, chain }
+}
+
+// The links of its chain.
+fn links_of(alloc: Global, entry: Entry) -> Vec<Link>
+    ensures { map link_value result.items ≡ links_in entry.chain }
+{
+    let Entry {
+        key: _,
+        expires: _,
+        result: _,
+        chain,
+    } = entry;
+    match chain {
+        Some(chain) => links_in_chain(chain),
+        None => Vec::new(alloc),
+    }
+}
+
+fn links_in_chain(chain: Chain) -> Vec<Link>
+    ensures { map link_value result.items ≡ chain.links }
+{
+    let Chain { section: _, links } = chain;
+    links
+}
+
+/// A step ends, the next by its number, and leaves what the rules found of its sets to be kept.
+pub(crate) fn keep<V: Verifier>(
+    context: &Context<'_, V>,
+    state: &mut State,
+    so_far: &StepSoFar,
+) -> Result<(), NoMemory>
+    ensures { OnOk result (state.new ≡ keeping (terms_of V.answers context.now) (length state.old.closed) so_far.now state.old) }
+{
+    let number = next_number(&state.closed)?;
+    keep_sets(
+        context,
+        state,
+        number,
+        &so_far.query,
+        &so_far.sets,
+        &so_far.causes,
+    )
+}
+
+// Leaves what was found of some sets.
+fn keep_sets<V: Verifier>(
+    context: &Context<'_, V>,
+    state: &mut State,
+    number: u32,
+    query: &Query,
+    mut sets: &[ChainedSet],
+    mut causes: &[Option<ProofErrorKind>],
+) -> Result<(), NoMemory>
+    ensures { OnOk result (state.new ≡ leaving (terms_of V.answers context.now) number query.now sets.entry.now
+        (map (option_map kind_value) causes.entry.now) state.old) }
+{
+    'sets: while let Some((set, sets_left)) = sets.split_first() {
+        let Some((cause, causes_left)) = causes.split_first() else {
+            return Ok(());
+        };
+        keep_set(context, state, number, query, set, cause)?;
+        sets = sets_left;
+        causes = causes_left;
+    }
+    Ok(())
+}
+
+// Leaves what was found of one set.
+fn keep_set<V: Verifier>(
+    context: &Context<'_, V>,
+    state: &mut State,
+    number: u32,
+    query: &Query,
+    set: &ChainedSet,
+    cause: &Option<ProofErrorKind>,
+) -> Result<(), NoMemory>
+    ensures { OnOk result (state.new ≡ giving number (entry_if (terms_of V.answers context.now) query.now
+        (set.now, option_map kind_value cause.now)) state.old) }
+{
+    let Some(cause) = cause else {
+        return Ok(());
+    };
+    let cause = cause.try_clone()?;
+    match entry_of(context, query, set, cause)? {
+        Some(entry) => give_out(state, number, entry),
+        None => Ok(()),
+    }
+}
+
+// What is kept of a set that isn't Secure for this cause, if it isn't; nothing where an ask failed.
+#[tactic(auto, using(crate::proofs::KeepLemmas::entry_backed))]
+fn entry_of<V: Verifier>(
+    context: &Context<'_, V>,
+    query: &Query,
+    set: &ChainedSet,
+    cause: ProofErrorKind,
+) -> Result<Option<Entry>, NoMemory>
+    ensures { IfOk result (λ o. o ≡ entry_if_kept (terms_of V.answers context.now) query.now set.now
+        (found_in context.now.judge.moment set.now.judged (kind_value cause))) }
+{
+    let found = found_of(context.judge.moment, &set.judged, cause);
+    if !is_kept(&found) {
+        return Ok(None);
+    }
+    let key = CacheKey::of(query, &set.judged.set)?;
+    let chain = chain_of(set)?;
+    let ranges = &context.ranges;
+    let expires = ranges.expires(context.judge.moment, &set.judged.set, &found, &chain);
+    Ok(Some(Entry::new(key, expires, found, chain)))
+}
+
+// What is found is kept, but for an ask that failed.
+fn is_kept(found: &Result<RrsetProof, ProofError>) -> bool
+    ensures { result ≡ is_kept_in found.now }
+{
+    match found {
+        Ok(_) => true,
+        Err(error) => !is_net(&error.kind),
+    }
+}
+
+// An ask failed.
+fn is_net(kind: &ProofErrorKind) -> bool
+    ensures { result ≡ is_net_in (kind_value kind.now) }
+{
+    match kind {
+        ProofErrorKind::Net { .. } => true,
+        _ => false,
+    }
+}
+
+// The chain of a Secure set.
+fn chain_of(set: &ChainedSet) -> Result<Option<Chain>, NoMemory>
+    ensures { IfOk result (λ c. c ≡ chain_in set.now) }
+{
+    if !is_secure(set.judged.mark) {
+        return Ok(None);
+    }
+    let links = clone_links(&set.chain)?;
+    Ok(Some(Chain {
+        section: set.judged.section,
+        links,
+    }))
+}
+
+// An entry is to be given out, and is known as made by the step with a number.
+fn give_out(state: &mut State, number: u32, entry: Entry) -> Result<(), NoMemory>
+    ensures { OnOk result (state.new ≡ giving number (Some entry) state.old) }
+{
+    let made = made_by(number, &entry)?;
+    state.made.push(made)?;
+    state.kept.push_back(entry)?;
+    Ok(())
+}
+
+/// The next of what is to be given out.
+pub(crate) fn next_kept(state: &mut State) -> Option<Entry>
+    ensures gives { result ≡ first_kept state.old.kept }
+    ensures leaves { state.new ≡ given_out state.old }
+{
+    state.kept.pop_front()
+}
