@@ -2,7 +2,10 @@
 //! and trails, and what finds a key's, a signature's or a set's mark by itself (RFC 4035, 5); and what a caller needs to name beside them.
 #![tactic(auto)]
 
-pub use dns_cache::{BOGUS_CACHE_TTL, CacheKey, Entry};
+pub use dns_cache::{
+    Acceptance, AcceptedBy, BOGUS_CACHE_TTL, CacheKey, DefaultCache, Entry, ListCache,
+    LruValidationCache, TtlRange, TtlRanges, ValidationCache,
+};
 pub use dns_chain_check::{accepted_chain, check_chain, is_trusted};
 pub use dns_evidence::{
     Chain, IterationLimits, Limits, Link, LinkSignature, Listed, Steps, Trail, Verifier,
@@ -20,4 +23,4 @@ pub use dns_proof::{ProofError, ProofErrorKind, RrsetProof};
 pub use dns_record::{DNSClass, Query, Record, RecordSet, RecordType};
 pub use dns_trail::{check_trail, is_in_order};
 pub use dns_trust::{Judge, RrsigValidity, TrustAnchors};
-pub use dns_validation::{Asking, Validation};
+pub use dns_validation::{Asking, Validation, Wanted};

@@ -3,6 +3,7 @@ use Rattle.std.proofs.Common.{◌≡◌, ◌≢◌, Bool, true, false, List, [],
 use Rattle.dns_model.specs.Records.{Question, MessageValue}
 use Rattle.dns_model.specs.SoundAnswers.{told_by}
 use Rattle.dns_model.specs.Trails.{AskedValue}
+use Rattle.dns_rules.specs.CacheEntries.{EntryValue}
 use Rattle.dns_rules.specs.Marking.{cleared_message}
 use Rattle.dns_rules.specs.Outcome.{foreign_record}
 use Rattle.dns_handle.specs.Errors as seen
@@ -15,7 +16,8 @@ use Rattle.dns_validation.specs.Steps.{Findings}
 use Rattle.dns_validation.specs.Machine.{Terms}
 use Rattle.dns_validation.specs.Runs.{Sent}
 use Rattle.dns_validation.specs.Comes.{IsFirst, IsStepOf, StepsOf, FoundBy, Comes, Passes as PassesBy, Names as NamesBy, Judges as JudgesBy}
-use Rattle.dns_lookup.specs.Calls.{Sending, Asking, Requesting}
+use Rattle.dns_lookup.specs.Caching.{ServeFrom}
+use Rattle.dns_lookup.specs.Calls.{CacheUse, Sending, Asking, Requesting}
 use Rattle.dns_lookup.specs.Sends.{SendOf, SendsAlong}
 use Rattle.dns_lookup.specs.Fronts.{MakesSend, MakesSends}
 use Rattle.dns_lookup.specs.Answering.{call_by, Found, AnswersLookup, Passes, Names, Judges}
@@ -32,7 +34,8 @@ record Receives (reply : Reply) (m : MessageValue) (empty : Bool) : Type 0 where
 message_same : (m n : MessageValue) (empty other : Bool) → Message m empty ≡ Message n other → (m ≡ n) × (empty ≡ other)
 message_same m n empty other h = (cc, cc)
 
-receives : (reply : Reply) (m : MessageValue) (empty : Bool) → received_value reply ≡ Message m empty → Receives reply m empty
+receives : (reply : Reply) (m : MessageValue) (empty : Bool) → received_value reply ≡ Message m empty
+    → Receives reply m empty
 receives (Ok response) m empty is =
     let same = message_same (cleared_message response.message) m false empty is in
     record { from = response.message; is = refl; cleared = sym same.0; none = sym same.1 }
@@ -57,9 +60,9 @@ receives (Err seen.Truncated) m empty is = cc
 receives (Err seen.NoMemory) m empty is = cc
 
 -- an error that has no message
-record Silent (reply : Reply) (error : ErrorValue) : Type 0 where
-  is : reply ≡ Err error
-  none : received_message (Err error) ≡ None
+pub record Silent (reply : Reply) (error : ErrorValue) : Type 0 where
+  pub is : reply ≡ Err error
+  pub none : received_message (Err error) ≡ None
 
 failed_same : (a b : ErrorValue) → Failed a ≡ Failed b → a ≡ b
 failed_same a b h = cc
@@ -69,7 +72,7 @@ silent_as e error h none =
     let same = failed_same e error h in
     record { is = ap (λ x. Err x) same; none = subst (λ x. received_message (Err x) ≡ None) same none }
 
-silent : (reply : Reply) (error : ErrorValue) → received_value reply ≡ Failed error → Silent reply error
+pub silent : (reply : Reply) (error : ErrorValue) → received_value reply ≡ Failed error → Silent reply error
 silent (Ok response) error h = cc
 silent (Err (seen.Dns (seen.NoRecordsFound missing))) error h = cc
 silent (Err (seen.Dns (seen.Nsec asked response proof))) error h = cc
@@ -83,7 +86,8 @@ silent (Err (seen.Proto e)) error h = silent_as (seen.Proto e) error h refl
 silent (Err (seen.Io kind)) error h = silent_as (seen.Io kind) error h refl
 silent (Err seen.Timeout) error h = silent_as seen.Timeout error h refl
 silent (Err seen.QueryCaseMismatch) error h = silent_as seen.QueryCaseMismatch error h refl
-silent (Err (seen.ForeignClassRecord owner class rtype)) error h = silent_as (seen.ForeignClassRecord owner class rtype) error h refl
+silent (Err (seen.ForeignClassRecord owner class rtype)) error h =
+    silent_as (seen.ForeignClassRecord owner class rtype) error h refl
 silent (Err seen.Truncated) error h = silent_as seen.Truncated error h refl
 silent (Err seen.NoMemory) error h = silent_as seen.NoMemory error h refl
 
@@ -93,15 +97,18 @@ remembered reply kept = λ is. true≢false (sym (ap is_out_of_memory is) ∙ ke
 -- ---- the sends
 
 -- the first one
-first_made : {H : Type 0} (meanings : handle.Ghosts H) (t : Terms) (a b : H) (sent : Sent) → IsFirst t sent → MakesSend meanings t.now a sent b
+first_made : {H : Type 0} (meanings : handle.Ghosts H) (t : Terms) (a b : H) (sent : Sent) → IsFirst t sent
+    → MakesSend meanings t.now a sent b
     → Requesting meanings t.request t.now a (judged_ask t.query) b sent.reply
 first_made meanings t a b sent first made =
     subst (λ r. Sending meanings r (Some t.query) t.now a b sent.reply) first.request
     (subst (λ (x : Ask). Sending meanings sent.request (Some x.query) t.now a b sent.reply) first.ask made)
 
 -- where it is the only one
-one_made : {H : Type 0} (meanings : handle.Ghosts H) (t : Terms) (old new : H) (sends : List Sent) (sent : Sent) → sends ≡ sent ∷ [] → IsFirst t sent
-    → MakesSends meanings t.now old sends new → Requesting meanings t.request t.now old (judged_ask t.query) new sent.reply
+one_made : {H : Type 0} (meanings : handle.Ghosts H) (t : Terms) (old new : H) (sends : List Sent) (sent : Sent)
+    → sends ≡ sent ∷ [] → IsFirst t sent
+    → MakesSends meanings t.now old sends new
+    → Requesting meanings t.request t.now old (judged_ask t.query) new sent.reply
 one_made meanings t old new sends sent are first way =
     let one = subst (λ xs. MakesSends meanings t.now old xs new) are way in
     first_made meanings t old new sent first (subst (λ h. MakesSend meanings t.now old sent h) one.2 one.1)
@@ -110,10 +117,12 @@ abbrev ask_with : Question → Bool → Ask
 ask_with q judged = record { query = q; judged = judged }
 
 -- the send of a step
-step_made : {H : Type 0} (meanings : handle.Ghosts H) (t : Terms) (a b : H) (step : AskedValue) (sent : Sent) → IsStepOf t step sent
+step_made : {H : Type 0} (meanings : handle.Ghosts H) (t : Terms) (a b : H) (step : AskedValue) (sent : Sent)
+    → IsStepOf t step sent
     → MakesSend meanings t.now a sent b → SendOf (Asking meanings t.options t.now) a step b
 step_made meanings t a b step sent of made =
-    let same : sent.ask ≡ ask_with step.query step.judged = ap (λ q. ask_with q sent.ask.judged) of.query ∙ ap (ask_with step.query) of.judged in
+    let same : sent.ask ≡ ask_with step.query step.judged =
+    ap (λ q. ask_with q sent.ask.judged) of.query ∙ ap (ask_with step.query) of.judged in
     let asked = subst (λ r. Sending meanings r (Some sent.ask.query) t.now a b sent.reply) of.request made in
     record {
       reply = sent.reply;
@@ -122,7 +131,8 @@ step_made meanings t a b step sent of made =
       remembered = remembered sent.reply of.kept;
     }
 
-along_of : {H : Type 0} (meanings : handle.Ghosts H) (t : Terms) (a b : H) (steps : List AskedValue) (sends : List Sent) → StepsOf t steps sends
+along_of : {H : Type 0} (meanings : handle.Ghosts H) (t : Terms) (a b : H) (steps : List AskedValue) (sends : List Sent)
+    → StepsOf t steps sends
     → MakesSends meanings t.now a sends b → SendsAlong (Asking meanings t.options t.now) a steps b
 along_of meanings t a b [] [] of here = here
 along_of meanings t a b [] (sent ∷ sends) of way = absurd of
@@ -132,9 +142,11 @@ along_of meanings t a b (step ∷ steps) (sent ∷ sends) of way =
 
 -- ---- the answer
 
-found_of : {H : Type 0} (meanings : handle.Ghosts H) (t : Terms) (old new : H) (sends : List Sent) (found : Findings) → FoundBy t sends found
-    → MakesSends meanings t.now old sends new → Found meanings (call_by t old new) found
-found_of meanings t old new sends found f way =
+found_of : {H : Type 0} (meanings : handle.Ghosts H) (t : Terms) (old new : H) (cached : List EntryValue)
+    (kept : CacheUse) (sends : List Sent) (found : Findings) → ServeFrom kept.before t.now cached
+    → FoundBy t cached sends found
+    → MakesSends meanings t.now old sends new → Found meanings (call_by t kept old new) found
+found_of meanings t old new cached kept sends found served f way =
     let made = subst (λ xs. MakesSends meanings t.now old xs new) f.are way in
     let h = receives f.first.reply found.message found.empty f.received in
     record {
@@ -147,6 +159,8 @@ found_of meanings t old new sends found f way =
       cleared = h.cleared;
       empty = h.none;
       own = f.own;
+      cached = cached;
+      kept = served;
       part = f.part;
       along = along_of meanings t made.0 new _ f.others f.along made.2;
       judged = f.judged;
@@ -154,24 +168,31 @@ found_of meanings t old new sends found f way =
       few = f.few;
     }
 
-pub comes_answers : {H : Type 0} (meanings : handle.Ghosts H) (t : Terms) (old new : H) (sends : List Sent) {answer : Reply} → Comes t sends answer
-    → MakesSends meanings t.now old sends new → AnswersLookup meanings (call_by t old new) answer
-comes_answers meanings t old new sends (PassesBy error sent are first is) way =
+pub comes_answers : {H : Type 0} (meanings : handle.Ghosts H) (t : Terms) (old new : H) (cached : List EntryValue)
+    (kept : CacheUse) (sends : List Sent) {answer : Reply}
+    → ServeFrom kept.before t.now cached → Comes t cached sends answer → MakesSends meanings t.now old sends new
+    → AnswersLookup meanings (call_by t kept old new) answer
+comes_answers meanings t old new cached kept sends served (PassesBy error sent are first is) way =
     let none = silent sent.reply error is in
-    Passes error (subst (λ r. Requesting meanings t.request t.now old (judged_ask t.query) new r) none.is (one_made meanings t old new sends sent are first way)) none.none
+    Passes error
+    (subst (λ r. Requesting meanings t.request t.now old (judged_ask t.query) new r) none.is
+    (one_made meanings t old new sends sent are first way)) none.none
     (λ memory. remembered sent.reply first.kept (none.is ∙ ap (λ e. Err e) memory))
-comes_answers meanings t old new sends (NamesBy answer sent m r are first empty is foreign named) way =
+comes_answers meanings t old new cached kept sends served
+    (NamesBy answer sent m r are first empty is foreign named) way =
     let h = receives sent.reply m empty is in
     Names sent.reply answer h.from r (one_made meanings t old new sends sent are first way) h.is
     (ap (λ x. foreign_record t.query (told_by x)) (sym h.cleared) ∙ foreign) named
-comes_answers meanings t old new sends (JudgesBy answer found f is) way =
-    Judges answer found (found_of meanings t old new sends found f way) is
+comes_answers meanings t old new cached kept sends served (JudgesBy answer found f is) way =
+    Judges answer found (found_of meanings t old new cached kept sends found served f way) is
 
 -- it took a send
 some_one : (sends others : List Sent) (sent : Sent) → sends ≡ sent ∷ others → sends ≡ [] → ⊥
 some_one sends others sent are none = cc
 
-pub comes_some : (t : Terms) (sends : List Sent) {answer : Reply} → Comes t sends answer → sends ≡ [] → ⊥
-comes_some t sends (PassesBy error sent are first is) none = some_one sends [] sent are none
-comes_some t sends (NamesBy answer sent m r are first empty is foreign named) none = some_one sends [] sent are none
-comes_some t sends (JudgesBy answer found f is) none = some_one sends f.others f.first f.are none
+pub comes_some : (t : Terms) (cached : List EntryValue) (sends : List Sent) {answer : Reply}
+    → Comes t cached sends answer → sends ≡ [] → ⊥
+comes_some t cached sends (PassesBy error sent are first is) none = some_one sends [] sent are none
+comes_some t cached sends (NamesBy answer sent m r are first empty is foreign named) none =
+    some_one sends [] sent are none
+comes_some t cached sends (JudgesBy answer found f is) none = some_one sends f.others f.first f.are none

@@ -15,6 +15,7 @@ decides g told (Insecure kind) = λ h. cc
 decides g told (Bogus kind) = λ h. cc
 
 -- no search is left
-pub never_searched : (g : StepContext) (told : Told) (sets : List MarkedSet) (o : Outcome) (excuse : List AskRef) → IsStepEnd g told sets o excuse → o ≢ NeedsZone
+pub never_searched : (g : StepContext) (told : Told) (sets : List MarkedSet) (o : Outcome) (excuse : List AskRef)
+    → IsStepEnd g told sets o excuse → o ≢ NeedsZone
 never_searched g told sets o excuse (Settled by settled none) = settled
 never_searched g told sets o excuse (LeftToZone zone left found by) = λ is. decides g told zone (sym by ∙ is)

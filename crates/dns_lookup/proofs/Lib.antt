@@ -1,3 +1,15 @@
+pub mod ListedLemmas
+pub mod OriginLemmas
+pub mod AddLemmas
+pub mod TurnLemmas
+pub mod WorkLemmas
+pub mod HitLemmas
+pub mod FirstLemmas
+pub mod FoundFirstLemmas
+pub mod KeptFirstLemmas
+pub mod InsertLemmas
+pub mod ServeLemmas
+pub mod ServingLoop
 pub mod SendLemmas
 pub mod FrontLemmas
 pub mod ComesLemmas

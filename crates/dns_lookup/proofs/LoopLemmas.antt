@@ -1,139 +1,114 @@
 -- A lookup's loop: it goes along a run of its validation, until that has its answer or memory runs out.
-use Rattle.std.proofs.Common.{ℕ, ◌+◌, ◌-◌, ◌≡◌, ◌≤◌, ◌<◌, ◌⊎◌, Bool, true, false, List, [], ◌∷◌, ◌++◌, length, Option, None, Some, Result, Ok, Err, refl, sym, ap, subst, ◌∙◌, arith, inl, inr}
+use Rattle.std.proofs.Common.{ℕ, false, ◌+◌, ◌-◌, ◌≡◌, ◌≤◌, ◌<◌, ◌⊎◌, List, [], ◌∷◌, ◌++◌, length, Option, None, Some, Result, Ok, Err, refl, sym, ap, subst, ◌∙◌, arith, inl, inr}
 use Rattle.std.specs.Option.{option_map, IfSome, IsSome}
 use Rattle.std.proofs.lemmas.List.{length_push}
-use Rattle.dns_model.specs.declared.trail.AskRef.{AskRef}
-use Rattle.dns_model.specs.Records.{Rr, Question, MessageValue}
-use Rattle.dns_model.specs.Chains.{Judge}
-use Rattle.dns_model.specs.SoundAnswers.{ResponseValue, told_by}
+use Rattle.dns_model.specs.Counts.{RoseBy}
+use Rattle.dns_model.specs.Records.{Question}
+use Rattle.dns_model.specs.SoundAnswers.{ResponseValue}
 use Rattle.dns_rules.specs.Asking.{most_sends}
-use Rattle.dns_rules.specs.Outcome.{Outcome, foreign_record}
+use Rattle.dns_rules.specs.CacheEntries.{EntryValue}
 use Rattle.dns_handle.specs.Errors as seen
-use Rattle.dns_handle.specs.Errors.{Reply, ErrorValue}
+use Rattle.dns_handle.specs.Errors.{Reply, ErrorValue, Dns, Nsec}
 use Rattle.dns_handle.specs.ErrorKinds.{is_no_memory}
 use Rattle.dns_handle.specs.Handles.{OrUnsent}
 use Rattle.dns_handle.specs.Replies.{reply_of, error_of}
-use Rattle.dns_handle.specs.Requests.{first_question}
+use Rattle.dns_handle.specs.Requests.{RequestValue, first_question}
 use Rattle.dns_handle.specs.declared.error.NetError.{NetError}
 use Rattle.dns_handle.specs.declared.error.NetError.TheVariants.{NoMemory}
 use Rattle.dns_handle.specs.declared.handle.DnsHandle as handle
 use Rattle.dns_handle.proofs.ErrorLemmas.{told_no_memory}
 use Rattle.dns_flow.specs.declared.asks.Ask.{Ask}
-use Rattle.dns_flow.specs.Phases.{NeedValue, SetEnds, StepEnds, Asks, turn}
-use Rattle.dns_validation.specs.Received.{ReceivedValue, Message, Failed, received_value}
-use Rattle.dns_validation.specs.Machine.{Terms, SoFar, OpenValue, StateValue, begin, limit_of, none_open, step_ended, refusal, asked_by, turned, turn_in, depth_below, heard_own, heard_nested, heard_by, no_more_waiting, heard_in, heard}
-use Rattle.dns_validation.specs.Runs.{Sent, sent_now, request_in, Run, Begun, moves, Turns, Here, Onward, IsOut, HasHeard}
+use Rattle.dns_validation.specs.Machine.{Terms, SeekingValue, StateValue, begin, none_open, heard as hears}
+use Rattle.dns_validation.specs.Runs.{Sent, sent_now, request_in, Run, Begun, Heard, moves, IsOut, HasHeard}
 use Rattle.dns_validation.specs.Comes.{Comes}
-use Rattle.dns_validation.specs.Validations.{asking_at, asking_in}
+use Rattle.dns_validation.specs.Validations.{asking_at}
 use Rattle.dns_validation.specs.declared.validation.Asking.{Asking}
 use Rattle.dns_validation.proofs.RunLemmas.{goes_on}
 use Rattle.dns_lookup.specs.Answering.{call_by, AnswersLookup}
+use Rattle.dns_lookup.specs.Caching.{ServeFrom, UsesCache, KeepsLast}
 use Rattle.dns_lookup.specs.Calls.{Sending}
-use Rattle.dns_lookup.specs.Fronts.{MakesSend, MakesSends, IsFront, SendsOfTerms}
-use Rattle.dns_lookup.specs.LookupAnswers.{UnlessNoMemory}
+use Rattle.dns_lookup.specs.Driving.{CacheState, served_in, reply_served, TopServed, FirstServed, NotYet, use_between, AreMade, AllComeFrom, IsOn, IsLost, Stops, ServedTo, ServesOn}
+use Rattle.dns_lookup.specs.Fronts.{MakesSend, MakesSends, LosesSend, IsFront, SendsOfTerms}
+use Rattle.dns_lookup.specs.LookupAnswers.{OfAnswer, UnlessNoMemory}
+use Rattle.dns_lookup.proofs.AddLemmas.{kept_none, kept_more}
 use Rattle.dns_lookup.proofs.ComesLemmas.{comes_answers, comes_some}
-use Rattle.dns_lookup.proofs.FrontLemmas.{AreSends, IsNext, run_next, made_more, sends_of, sends_of_some, or_unsent}
-
--- ---- each reply counts one send
-
-end_sends : (t : Terms) (f : SoFar) (asked : List AskRef) (o : Outcome) (s : StateValue) (steps : List OpenValue)
-    → (step_ended t f asked o (record s { steps = steps })).sends ≡ s.sends
-end_sends t f asked o s [] = refl
-end_sends t f asked o s (g ∷ outer) = refl
-
-ask_sends : (j : Judge) (o : Option AskRef) (ask : Ask) (f : OpenValue) (s : StateValue) → (asked_by j o ask f s).sends ≡ s.sends
-ask_sends j None ask f s = refl
-ask_sends j (Some r) ask f s = refl
-
-need_sends : (t : Terms) (f : OpenValue) (s : StateValue) (outer : List OpenValue) (need : NeedValue) → (turned t f (record s { steps = outer }) need).sends ≡ s.sends
-need_sends t f s outer (SetEnds c) = refl
-need_sends t f s outer (StepEnds o) = end_sends t f.so_far f.asked o s outer
-need_sends t f s outer (Asks ask) = ask_sends t.judge (refusal (limit_of t) s.sends f.so_far.depth ask.judged) ask f (record s { steps = outer })
-
-turn_sends : (t : Terms) (s : StateValue) (steps : List OpenValue) → (turn_in t s steps).sends ≡ s.sends
-turn_sends t s [] = refl
-turn_sends t s (f ∷ outer) = need_sends t f s outer (turn f.phase)
-
-turns_sends : (t : Terms) (s u : StateValue) → Turns t s u → u.sends ≡ s.sends
-turns_sends t _ _ (Here s u is) = ap (λ (x : StateValue). x.sends) is
-turns_sends t _ _ (Onward s m u turns on is) = ap (λ (x : StateValue). x.sends) is ∙ turn_sends t m m.steps ∙ turns_sends t s m turns
-
-own_sends : (t : Terms) (s : StateValue) (q : Question) (m : MessageValue) (empty : Bool) (o : Option Rr) → (heard_own t s q m empty o).sends ≡ s.sends
-own_sends t s q m empty None = refl
-own_sends t s q m empty (Some r) = refl
-
-nested_sends : (t : Terms) (s : StateValue) (q : Question) (depth : ℕ) (m : MessageValue) (empty : Bool) (o : Option Rr)
-    → (heard_nested t s q depth m empty o).sends ≡ s.sends
-nested_sends t s q depth m empty None = refl
-nested_sends t s q depth m empty (Some r) = refl
-
-reply_sends : (t : Terms) (s : StateValue) (q : Question) (judged : Bool) (o : Option ℕ) (received : ReceivedValue)
-    → (heard_by t s q judged o received).sends ≡ s.sends
-reply_sends t s q true None (Failed error) = refl
-reply_sends t s q true None (Message m empty) = own_sends t s q m empty (foreign_record q (told_by m))
-reply_sends t s q true (Some depth) (Failed error) = refl
-reply_sends t s q true (Some depth) (Message m empty) = nested_sends t s q (depth + 1) m empty (foreign_record q (told_by m))
-reply_sends t s q false None received = refl
-reply_sends t s q false (Some depth) (Failed error) = refl
-reply_sends t s q false (Some depth) (Message m empty) = refl
-
-waiting_sends : (t : Terms) (s : StateValue) (o : Option Ask) (ask : Ask) (received : ReceivedValue) → o ≡ Some ask
-    → (heard_in t s received o).sends ≡ s.sends + 1
-waiting_sends t s None ask received is = cc
-waiting_sends t s (Some q) ask received is = reply_sends t (no_more_waiting s) q.query q.judged (depth_below s.steps) received
-
-heard_sends : (t : Terms) (s u : StateValue) (ask : Ask) (reply : Reply) → s.pending ≡ Some ask → HasHeard t s reply u → u.sends ≡ s.sends + 1
-heard_sends t s u ask reply is h =
-    turns_sends t (heard t s reply) u h.turns ∙ waiting_sends t s s.pending ask (received_value reply) is
+use Rattle.dns_lookup.proofs.FirstLemmas.{heard_first_set, waiting_still}
+use Rattle.dns_lookup.proofs.FoundFirstLemmas.{end_first}
+use Rattle.dns_lookup.proofs.KeptFirstLemmas.{begun_kept, heard_kept, keeps_last}
+use Rattle.dns_lookup.proofs.HitLemmas.{rose_none, rose_fewer, begun_served, heard_served, end_served}
+use Rattle.dns_lookup.proofs.FrontLemmas.{AreSends, IsNext, run_next, made_more, sends_of, sends_of_some, or_unsent, live_before, serves_before}
+use Rattle.dns_lookup.proofs.OriginLemmas.{come_none}
+use Rattle.dns_lookup.proofs.TurnLemmas.{known_heard, heard_sends, run_counts}
 
 -- ---- a lookup so far
 
--- the handle has gone along a run
-pub record OnRun {H : Type 0} (meanings : handle.Ghosts H) (t : Terms) (old : H) (s : StateValue) (new : H) : Type 0 where
+-- the handle and the cache have gone along a run
+pub record OnRun {H : Type 0} (meanings : handle.Ghosts H) (t : Terms) (old : H) (before : CacheState) (s : StateValue)
+    (new : H) (now : CacheState) : Type 0 where
   pub sends : List Sent
-  pub run : Run t sends s
+  pub on : IsOn t before sends s now
   pub made : MakesSends meanings t.now old sends new
   pub are : AreSends t sends
-  pub count : s.sends ≡ length sends
   pub few : length sends ≤ most_sends
-  pub settled : moves s ≡ false
 
 -- or memory ran out behind a front of one
-pub record RanOut {H : Type 0} (meanings : handle.Ghosts H) (t : Terms) (old : H) (s : StateValue) (new : H) : Type 0 where
-  pub out : IsOut s
-  pub front : IsFront meanings t old new (Err seen.NoMemory)
-  pub sends : SendsOfTerms meanings t old new ⊎ (old ≡ new)
+pub record RanOut {H : Type 0} (meanings : handle.Ghosts H) (t : Terms) (old : H) (before : CacheState) (s : StateValue)
+    (new : H) (now : CacheState) : Type 0 where
+  pub cached : List EntryValue
+  pub served : ServeFrom before.told t.now cached
+  pub sends : List Sent
+  pub state : StateValue
+  pub run : Run t cached sends state
+  pub middle : H
+  pub made : MakesSends meanings t.now old sends middle
+  pub rest : (middle ≡ new) ⊎ LosesSend meanings t state middle new (Err seen.NoMemory)
+  pub by : SendsOfTerms meanings t old new ⊎ (old ≡ new)
+  pub lost : IsLost t before cached sends s now
 
-pub record Going {H : Type 0} (meanings : handle.Ghosts H) (t u : Terms) (old : H) (s : StateValue) (new : H) : Type 0 where
+pub record Going {H : Type 0} (meanings : handle.Ghosts H) (t u : Terms) (old : H) (before : CacheState)
+    (s : StateValue) (new : H) (now : CacheState) : Type 0 where
   pub terms : u ≡ t
   pub later : meanings.faults old ≤ meanings.faults new
-  pub at : OnRun meanings t old s new ⊎ RanOut meanings t old s new
+  pub at : OnRun meanings t old before s new now ⊎ RanOut meanings t old before s new now
 
-pub going_begun : {H : Type 0} (meanings : handle.Ghosts H) (t : Terms) (old : H) (s : StateValue) → s ≡ begin t.query → Going meanings t t old s old
-going_begun meanings t old s is = record {
-  terms = refl;
-  later = omega arith;
-  at = inl (record {
-    sends = [];
-    run = Begun s is;
-    made = refl;
-    are = tt;
-    count = ap (λ (x : StateValue). x.sends) is;
-    few = omega arith;
-    settled = ap moves is;
-  });
-}
+module _ {H : Type 0} (meanings : handle.Ghosts H) (t : Terms) (old : H) (before : CacheState) where
+  pub going_begun : (s : StateValue) → s ≡ begin t.query → Going meanings t t old before s old before
+  going_begun s is = record {
+    terms = refl;
+    later = omega arith;
+    at = inl (record {
+      sends = [];
+      on = record {
+        cached = live_before before.told t.now;
+        served = serves_before before.told t.now;
+        run = Begun s is;
+        settled = ap moves is;
+        left = kept_none t (live_before before.told t.now) [] before.told;
+        come = subst (λ (x : StateValue). AllComeFrom x.made x.kept before.told before.told) (sym is)
+            (come_none [] [] before.told);
+        made = subst (λ (x : StateValue). AreMade x.made x.kept) (sym is) tt;
+        hits = subst (λ n. RoseBy n before.hits before.hits) (sym (ap served_in is ∙ begun_served t.query))
+            (rose_none before.hits);
+        first = subst (λ x. FirstServed t before.told x before.told) (sym is)
+            (NotYet refl refl refl (record { made = refl; kept = refl; told = refl }));
+        last = begun_kept t s before.told is;
+      };
+      made = refl;
+      are = tt;
+      few = omega arith;
+    });
+  }
 
 -- ---- it asks
 
 -- what it asks, behind a run so far
-pub record AsksNext {H : Type 0} (meanings : handle.Ghosts H) (t : Terms) (old : H) (s m : StateValue) (middle : H) (asking : Asking) : Type 0 where
-  pub on : OnRun meanings t old s middle
+pub record AsksNext {H : Type 0} (meanings : handle.Ghosts H) (t : Terms) (old : H) (before : CacheState)
+    (m : StateValue) (middle : H) (now : CacheState) (asking : Asking) : Type 0 where
+  pub at : OnRun meanings t old before m middle now
   pub ask : Ask
-  pub waits : s.pending ≡ Some ask
-  pub same : m ≡ s
-  pub request : asking.request ≡ request_in t s.steps ask
-  pub next : IsNext t s on.sends ask
+  pub waits : m.pending ≡ Some ask
+  pub request : asking.request ≡ request_in t m.steps ask
+  pub next : IsNext t m at.sends ask
 
 some_same : (a b : Asking) → Some a ≡ Some b → a ≡ b
 some_same a b h = cc
@@ -144,238 +119,478 @@ record Pending (t : Terms) (s : StateValue) (asking : Asking) : Type 0 where
   request : asking.request ≡ request_in t s.steps ask
 
 pending_by : (t : Terms) (s : StateValue) (asking : Asking) (o : Option Ask) → s.pending ≡ o
-    → option_map (asking_at t.request t.options (none_open s.steps)) o ≡ Some asking → Pending t s asking
+    → Some asking ≡ option_map (asking_at t.request t.options (none_open s.steps)) o → Pending t s asking
 pending_by t s asking None is asks = cc
 pending_by t s asking (Some ask) is asks =
-    record { ask = ask; waits = is; request = sym (ap (λ (a : Asking). a.request) (some_same (asking_at t.request t.options (none_open s.steps) ask) asking asks)) }
+    let same = some_same asking (asking_at t.request t.options (none_open s.steps) ask) asks in
+    record { ask = ask; waits = is; request = ap (λ (a : Asking). a.request) same }
 
-not_out : (o : Option Asking) (asking : Asking) (m : StateValue) → o ≡ Some asking → (IsOut m → o ≡ None) → IsOut m → ⊥
-not_out o asking m is none out = let no = none out in cc
+pub no_asking : (asking : Asking) → Some asking ≡ None → ⊥
+no_asking asking h = cc
 
-out_rests : {H : Type 0} (meanings : handle.Ghosts H) (t : Terms) (old : H) (s : StateValue) (new : H) (ask : Ask) → RanOut meanings t old s new → s.pending ≡ Some ask → ⊥
-out_rests meanings t old s new ask ran is = let none = ran.out.asks in cc
+module _ {H : Type 0} (meanings : handle.Ghosts H) (t : Terms) (old : H) (before : CacheState) where
+  -- it was served from the cache, and asks
+  asks_on : (E : Type 0) (s m : StateValue) (middle : H) (now after : CacheState) (asking : Asking)
+      → first_question t.request ≡ Some t.query → (run : OnRun meanings t old before s middle now)
+      → ServedTo {E = E} t before run.sends (Ok (Some asking)) m after
+      → AsksNext meanings t old before m middle after asking
+  asks_on E s m middle now after asking asks run (inr lost) = absurd (no_asking asking lost.1)
+  asks_on E s m middle now after asking asks run (inl w) =
+      let p = pending_by t m asking m.pending refl w.asks in
+      record {
+        at = record { sends = run.sends; on = w.on; made = run.made; are = run.are; few = run.few };
+        ask = p.ask;
+        waits = p.waits;
+        request = p.request;
+        next = run_next t w.on.cached m run.sends p.ask asks w.on.run p.waits;
+      }
 
-pub asks_next : {H : Type 0} (meanings : handle.Ghosts H) (t u : Terms) (old middle : H) (s m : StateValue) (o : Option Asking) (asking : Asking)
-    → first_question t.request ≡ Some t.query → Going meanings t u old s middle → IsOut m ⊎ (o ≡ asking_in u s) → IsOut m ⊎ (m ≡ s)
-    → (IsOut m → o ≡ None) → o ≡ Some asking → AsksNext meanings t old s m middle asking
-asks_next meanings t u old middle s m o asking asks going (inl out) same none is = absurd (not_out o asking m is none out)
-asks_next meanings t u old middle s m o asking asks going (inr by) (inl out) none is = absurd (not_out o asking m is none out)
-asks_next meanings t u old middle s m o asking asks going (inr by) (inr same) none is =
-    let here : asking_in t s ≡ Some asking = subst (λ x. asking_in x s ≡ Some asking) going.terms (sym by ∙ is) in
-    let p = pending_by t s asking s.pending refl here in
-    elim going.at [
-      | inl on ↦ record { on = on; ask = p.ask; waits = p.waits; same = same; request = p.request; next = run_next t s on.sends p.ask asks on.run p.waits }
-      | inr ran ↦ absurd (out_rests meanings t old s middle p.ask ran p.waits)
-    ]
+  pub asks_next : {E : Type 0} (u : Terms) (middle : H) (s m : StateValue) (now after : CacheState) (asking : Asking)
+      → first_question t.request ≡ Some t.query → Going meanings t u old before s middle now
+      → ServesOn {E = E} u s now (Ok (Some asking)) m after → AsksNext meanings t old before m middle after asking
+  asks_next {E = E} u middle s m now after asking asks going serves =
+      let here = subst (λ x. ServesOn {E = E} x s now (Ok (Some asking)) m after) going.terms serves in
+      elim going.at [
+        | inl run ↦ asks_on E s m middle now after asking asks run (here.goes before run.sends run.on)
+        | inr ran ↦ absurd (no_asking asking ((here.rests before ran.cached ran.sends ran.lost).1))
+      ]
 
--- the send of what it asks
-send_made : {H : Type 0} (meanings : handle.Ghosts H) (t : Terms) (old : H) (s m : StateValue) (middle new : H) (asking : Asking) (reply : Reply)
-    → (a : AsksNext meanings t old s m middle asking) → (now : ℕ) → t.now ≡ now
-    → Sending meanings asking.request (first_question asking.request) now middle new reply → MakesSend meanings t.now middle (sent_now t s a.ask reply) new
-send_made meanings t old s m middle new asking reply a now at made =
-    let here = subst (λ n. Sending meanings asking.request (first_question asking.request) n middle new reply) (sym at) made in
-    let by = subst (λ r. Sending meanings r (first_question r) t.now middle new reply) a.request here in
-    subst (λ o. Sending meanings (request_in t s.steps a.ask) o t.now middle new reply) a.next.asks by
+  -- a reply is waited for
+  waited : (m : StateValue) (middle : H) (now : CacheState) (asking : Asking)
+      → AsksNext meanings t old before m middle now asking → IsSome m.pending
+  waited m middle now asking a = subst IsSome (sym a.waits) refl
 
--- ---- it goes on
+  -- ---- it goes on
 
-lost_send : {H : Type 0} (meanings : handle.Ghosts H) (t : Terms) (old : H) (s m n : StateValue) (middle new : H) (asking : Asking) (reply : Reply)
-    → (a : AsksNext meanings t old s m middle asking) → MakesSend meanings t.now middle (sent_now t s a.ask reply) new → IsOut n → RanOut meanings t old n new
-lost_send meanings t old s m n middle new asking reply a made out =
-    let one = sent_now t s a.ask reply in
-    let push = length_push a.on.sends one in
-    record {
-      out = out;
-      front = record {
-        sends = a.on.sends;
-        state = s;
-        run = a.on.run;
-        middle = middle;
-        made = a.on.made;
-        rest = inr (record { ask = a.ask; reply = reply; waits = a.waits; made = made; lost = refl });
-        came = inl refl;
-      };
-      sends = sends_of meanings t old new (a.on.sends ++ one ∷ []) (a.next.more reply a.on.are) (made_more meanings t.now old middle new a.on.sends one a.on.made made)
-          (omega (arith, push, a.on.count, a.next.few));
+  module _ (m : StateValue) (middle new : H) (now : CacheState) (asking : Asking) (reply : Reply)
+      (a : AsksNext meanings t old before m middle now asking) where
+    -- the send of what it asks
+    send_made : (moment : ℕ) → t.now ≡ moment
+        → Sending meanings asking.request (first_question asking.request) moment middle new reply
+        → MakesSend meanings t.now middle (sent_now t m a.ask reply) new
+    send_made moment at made =
+        let Made : RequestValue → Option Question → ℕ → Type 0 =
+        λ r o n. Sending meanings r o n middle new reply in
+        let here = subst (Made asking.request (first_question asking.request)) (sym at) made in
+        let by = subst (λ r. Made r (first_question r) t.now) a.request here in
+        subst (λ o. Made (request_in t m.steps a.ask) o t.now) a.next.asks by
+
+    -- the send and those before it
+    sent_by : MakesSend meanings t.now middle (sent_now t m a.ask reply) new → SendsOfTerms meanings t old new
+        ⊎ (old ≡ new)
+    sent_by made =
+        let one = sent_now t m a.ask reply in
+        let sends = a.at.sends in
+        let push = length_push sends one in
+        let count = run_counts t a.at.on.cached sends m a.at.on.run in
+        sends_of meanings t old new (sends ++ one ∷ []) (a.next.more reply a.at.are)
+        (made_more meanings t.now old middle new sends one a.at.made made) (omega (arith, push, count, a.next.few))
+
+    lost_send : (n : StateValue) → MakesSend meanings t.now middle (sent_now t m a.ask reply) new → IsOut n
+        → RanOut meanings t old before n new now
+    lost_send n made out = record {
+      cached = a.at.on.cached;
+      served = a.at.on.served;
+      sends = a.at.sends;
+      state = m;
+      run = a.at.on.run;
+      middle = middle;
+      made = a.at.made;
+      rest = inr (record { ask = a.ask; reply = reply; waits = a.waits; made = made; lost = refl });
+      by = sent_by made;
+      lost = record { out = out; left = a.at.on.left };
     }
 
-gone_on : {H : Type 0} (meanings : handle.Ghosts H) (t : Terms) (old : H) (s m n : StateValue) (middle new : H) (asking : Asking) (reply : Reply)
-    → (a : AsksNext meanings t old s m middle asking) → MakesSend meanings t.now middle (sent_now t s a.ask reply) new → HasHeard t s reply n
-    → OnRun meanings t old n new
-gone_on meanings t old s m n middle new asking reply a made heard =
-    let one = sent_now t s a.ask reply in
-    let push = length_push a.on.sends one in
-    let counted = heard_sends t s n a.ask reply a.waits heard in
-    record {
-      sends = a.on.sends ++ one ∷ [];
-      run = goes_on t s n reply heard a.on.sends a.ask a.waits a.on.run;
-      made = made_more meanings t.now old middle new a.on.sends one a.on.made made;
-      are = a.next.more reply a.on.are;
-      count = omega (arith, push, a.on.count, counted);
-      few = omega (arith, push, a.on.count, a.next.few);
-      settled = heard.settled;
-    }
+    gone_on : (n : StateValue) → MakesSend meanings t.now middle (sent_now t m a.ask reply) new → HasHeard t m reply n
+        → OnRun meanings t old before n new now
+    gone_on n made heard =
+        let one = sent_now t m a.ask reply in
+        let on = a.at.on in
+        let sends = a.at.sends in
+        let push = length_push sends one in
+        let count = run_counts t on.cached sends m on.run in
+        let still = waiting_still t on.cached sends m a.ask on.run a.waits in
+        let heard_run : Run t on.cached (sends ++ one ∷ []) (hears t m reply) =
+        Heard sends (sends ++ one ∷ []) m (hears t m reply) a.ask reply on.run a.waits heard.kept refl refl in
+        let known =
+        known_heard before.told now.told t m n reply heard (record { made = on.made; come = on.come }) in
+        record {
+          sends = sends ++ one ∷ [];
+          on = record {
+            cached = on.cached;
+            served = on.served;
+            run = goes_on t m n reply heard on.cached sends a.ask a.waits on.run;
+            settled = heard.settled;
+            left = kept_more t on.cached sends (one ∷ []) before.told now.told on.left;
+            come = known.come;
+            made = known.made;
+            hits = rose_fewer (served_in m) (served_in n) before.hits now.hits
+                (heard_served t m n reply still.0 still.1 heard) on.hits;
+            first = heard_first_set t on.cached sends before.told now.told m n a.ask reply on.run heard_run a.waits
+                heard on.first;
+            last = heard_kept t on.cached sends m n now.told a.ask reply on.run heard_run a.waits heard;
+          };
+          made = made_more meanings t.now old middle new sends one a.at.made made;
+          are = a.next.more reply a.at.are;
+          few = omega (arith, push, count, a.next.few);
+        }
 
--- a reply is waited for
-waited : {H : Type 0} (meanings : handle.Ghosts H) (t : Terms) (old : H) (s m : StateValue) (middle : H) (asking : Asking)
-    → AsksNext meanings t old s m middle asking → IsSome m.pending
-waited meanings t old s m middle asking a = subst (λ (x : StateValue). IsSome x.pending) (sym a.same) (subst IsSome (sym a.waits) refl)
+    pub going_on : (v w : Terms) (n : StateValue) → meanings.faults old ≤ meanings.faults middle → v ≡ t → w ≡ v
+        → (moment : ℕ) → t.now ≡ moment
+        → Sending meanings asking.request (first_question asking.request) moment middle new reply
+        → (IsSome m.pending → IsOut n ⊎ HasHeard v m reply n) → Going meanings t w old before n new now
+    going_on v w n later same answered moment at made heard =
+        let one = send_made moment at made in
+        record {
+          terms = answered ∙ same;
+          later = omega (arith, later, made.later);
+          at = elim (heard (waited m middle now asking a)) [
+            | inl out ↦ inr (lost_send n one out)
+            | inr h ↦ inl (gone_on n one (subst (λ x. HasHeard x m reply n) same h))
+          ];
+        }
 
-pub going_on : {H : Type 0} (meanings : handle.Ghosts H) (t u v w : Terms) (old : H) (s m n : StateValue) (middle new : H) (asking : Asking) (reply : Reply)
-    → AsksNext meanings t old s m middle asking → Going meanings t u old s middle → v ≡ u → w ≡ v
-    → (now : ℕ) → t.now ≡ now → Sending meanings asking.request (first_question asking.request) now middle new reply
-    → (IsSome m.pending → IsOut n ⊎ HasHeard v m reply n) → Going meanings t w old n new
-going_on meanings t u v w old s m n middle new asking reply a going next answered now at made heard =
-    let one = send_made meanings t old s m middle new asking reply a now at made in
-    let same : v ≡ t = next ∙ going.terms in
-    record {
-      terms = answered ∙ same;
-      later = omega (arith, going.later, made.later);
-      at = elim (heard (waited meanings t old s m middle asking a)) [
-        | inl out ↦ inr (lost_send meanings t old s m n middle new asking reply a one out)
-        | inr h ↦ inl (gone_on meanings t old s m n middle new asking reply a one
-            (subst (λ x. HasHeard t x reply n) a.same (subst (λ x. HasHeard x m reply n) same h)))
-      ];
-    }
+-- ---- how many sends are left
 
--- how many sends are left
-left_by : ℕ → Option Ask → ℕ
-left_by n None = 0
-left_by n (Some ask) = most_sends - n
+left_by : ℕ → Option Ask → Option SeekingValue → ℕ
+left_by n None None = 0
+left_by n None (Some k) = 1 + (most_sends - n)
+left_by n (Some ask) seeking = 1 + (most_sends - n)
 
+-- none where it wants nothing
 pub sends_left : StateValue → ℕ
-sends_left s = left_by s.sends s.pending
+sends_left s = left_by s.sends s.pending s.seeking
 
-left_some : (s : StateValue) (ask : Ask) → s.pending ≡ Some ask → sends_left s ≡ most_sends - s.sends
-unfolding sends_left left_by
-left_some s ask is = ap (left_by s.sends) is
+left_most : (n : ℕ) (pending : Option Ask) (seeking : Option SeekingValue)
+    → left_by n pending seeking ≤ 1 + (most_sends - n)
+unfolding left_by
+left_most n None None = omega arith
+left_most n None (Some k) = omega arith
+left_most n (Some ask) seeking = omega arith
 
-left_none : (s : StateValue) → s.pending ≡ None → sends_left s ≡ 0
-unfolding sends_left left_by
-left_none s is = ap (left_by s.sends) is
+left_none : (n : ℕ) (pending : Option Ask) (seeking : Option SeekingValue) → pending ≡ None → seeking ≡ None
+    → left_by n pending seeking ≡ 0
+unfolding left_by
+left_none n None None a b = refl
+left_none n None (Some k) a b = cc
+left_none n (Some ask) seeking a b = cc
 
-left_most : (s : StateValue) (o : Option Ask) → s.pending ≡ o → sends_left s ≤ most_sends - s.sends
-left_most s None is = let none = left_none s is in omega arith
-left_most s (Some ask) is = let some = left_some s ask is in omega arith
+left_wanted : (n : ℕ) (pending : Option Ask) (seeking : Option SeekingValue)
+    → (pending ≡ None → seeking ≡ None → ⊥) → left_by n pending seeking ≡ 1 + (most_sends - n)
+unfolding left_by
+left_wanted n None None never = absurd (never refl refl)
+left_wanted n None (Some k) never = refl
+left_wanted n (Some ask) seeking never = refl
 
-fewer_by : {H : Type 0} (meanings : handle.Ghosts H) (t u v : Terms) (old : H) (s m n : StateValue) (middle : H) (asking : Asking) (reply : Reply)
-    → AsksNext meanings t old s m middle asking → Going meanings t u old s middle → v ≡ u → IsOut n ⊎ HasHeard v m reply n → sends_left n < sends_left s
-fewer_by meanings t u v old s m n middle asking reply a going next (inl out) =
-    let here = left_some s a.ask a.waits in
-    let there = left_none n out.asks in
-    omega (arith, a.next.few)
-fewer_by meanings t u v old s m n middle asking reply a going next (inr h) =
-    let heard = subst (λ x. HasHeard t x reply n) a.same (subst (λ x. HasHeard x m reply n) (next ∙ going.terms) h) in
-    let counted = heard_sends t s n a.ask reply a.waits heard in
-    let here = left_some s a.ask a.waits in
-    let there = left_most n n.pending refl in
-    omega (arith, a.next.few)
+module _ {H : Type 0} (meanings : handle.Ghosts H) (t : Terms) (old : H) (before : CacheState)
+    (asking : Asking) (reply : Reply) (asks : first_question t.request ≡ Some t.query) where
+  fewer_by : (E : Type 0) (s m n : StateValue) (middle : H) (now after : CacheState)
+      → (run : OnRun meanings t old before s middle now)
+      → ServedTo {E = E} t before run.sends (Ok (Some asking)) m after → (s.pending ≡ None → s.seeking ≡ None → ⊥)
+      → (IsSome m.pending → IsOut n ⊎ HasHeard t m reply n) → sends_left n < sends_left s
+  unfolding sends_left
+  fewer_by E s m n middle now after run served wanted heard =
+      let a = asks_on meanings t old before E s m middle now after asking asks run served in
+      let here = left_wanted s.sends s.pending s.seeking wanted in
+      let count = run_counts t run.on.cached run.sends s run.on.run in
+      elim (heard (waited meanings t old before m middle after asking a)) [
+        | inl out ↦ (let none = left_none n.sends n.pending n.seeking out.asks out.seeks in omega (arith, here, none))
+        | inr h ↦ (let most = left_most n.sends n.pending n.seeking in
+            let one = heard_sends t m n a.ask reply a.waits h in
+            let same = same_sends served in
+            omega (arith, here, most, one, same, count, run.few, few served a))
+      ]
+    where
+      same_sends : ServedTo {E = E} t before run.sends (Ok (Some asking)) m after → m.sends ≡ length run.sends
+      same_sends (inl w) = run_counts t w.on.cached run.sends m w.on.run
+      same_sends (inr lost) = absurd (no_asking asking lost.1)
 
-pub fewer_left : {H : Type 0} (meanings : handle.Ghosts H) (t u v : Terms) (old : H) (s m n : StateValue) (middle : H) (asking : Asking) (reply : Reply)
-    → AsksNext meanings t old s m middle asking → Going meanings t u old s middle → v ≡ u → (IsSome m.pending → IsOut n ⊎ HasHeard v m reply n)
-    → sends_left n < sends_left s
-fewer_left meanings t u v old s m n middle asking reply a going next heard =
-    fewer_by meanings t u v old s m n middle asking reply a going next (heard (waited meanings t old s m middle asking a))
+      few : ServedTo {E = E} t before run.sends (Ok (Some asking)) m after
+          → AsksNext meanings t old before m middle after asking → m.sends < most_sends
+      few served a = a.next.few
+
+  pub fewer_left : {E : Type 0} (u v : Terms) (s m n : StateValue) (middle : H) (now after : CacheState)
+      → Going meanings t u old before s middle now → ServesOn {E = E} u s now (Ok (Some asking)) m after
+      → (s.pending ≡ None → s.seeking ≡ None → ⊥) → v ≡ t
+      → (IsSome m.pending → IsOut n ⊎ HasHeard v m reply n) → sends_left n < sends_left s
+  fewer_left {E = E} u v s m n middle now after going serves wanted same heard =
+      let here = subst (λ x. ServesOn {E = E} x s now (Ok (Some asking)) m after) going.terms serves in
+      let by = subst (λ x. IsSome m.pending → IsOut n ⊎ HasHeard x m reply n) same heard in
+      elim going.at [
+        | inl run ↦ fewer_by E s m n middle now after run (here.goes before run.sends run.on) wanted by
+        | inr ran ↦ absurd (no_asking asking ((here.rests before ran.cached ran.sends ran.lost).1))
+      ]
 
 -- ---- it ends
 
--- a run that asks nothing more
-pub record AtEnd {H : Type 0} (meanings : handle.Ghosts H) (t : Terms) (old : H) (s : StateValue) (new : H) : Type 0 where
-  pub on : OnRun meanings t old s new
+-- a run that wants nothing more
+pub record AtEnd {H : Type 0} (meanings : handle.Ghosts H) (t : Terms) (old : H) (before : CacheState) (s : StateValue)
+    (new : H) (now : CacheState) : Type 0 where
+  pub at : OnRun meanings t old before s new now
+  pub kept : s.kept ≡ []
   pub rests : s.pending ≡ None
+  pub sought : s.seeking ≡ None
 
-none_pending : (t : Terms) (s : StateValue) (o : Option Ask) → o ≡ s.pending
-    → option_map (asking_at t.request t.options (none_open s.steps)) o ≡ None → s.pending ≡ None
-none_pending t s None is asks = sym is
+none_pending : (t : Terms) (s : StateValue) (o : Option Ask) → s.pending ≡ o
+    → None ≡ option_map (asking_at t.request t.options (none_open s.steps)) o → s.pending ≡ None
+none_pending t s None is asks = is
 none_pending t s (Some ask) is asks = cc
 
--- memory ran out before a send
-unasked : {H : Type 0} (meanings : handle.Ghosts H) (t : Terms) (old : H) (s m : StateValue) (new : H) → OnRun meanings t old s new → IsOut m
-    → RanOut meanings t old m new
-unasked meanings t old s m new on out = record {
-  out = out;
-  front = record { sends = on.sends; state = s; run = on.run; middle = new; made = on.made; rest = inl refl; came = inl refl };
-  sends = sends_of meanings t old new on.sends on.are on.made on.few;
-}
+module _ {H : Type 0} (meanings : handle.Ghosts H) (t : Terms) (old : H) (before : CacheState) (s m : StateValue)
+    (new : H) (now after : CacheState) where
+  -- memory ran out between two sends
+  stopped : (run : OnRun meanings t old before s new now) → Stops t before run.sends m after
+      → RanOut meanings t old before m new after
+  stopped run h = record {
+    cached = h.behind.cached;
+    served = h.behind.served;
+    sends = run.sends;
+    state = h.behind.state;
+    run = h.behind.run;
+    middle = new;
+    made = run.made;
+    rest = inl refl;
+    by = sends_of meanings t old new run.sends run.are run.made run.few;
+    lost = record { out = h.out; left = h.behind.left };
+  }
 
-ends_out : {H : Type 0} (meanings : handle.Ghosts H) (t u : Terms) (old new : H) (s m : StateValue) → Going meanings t u old s new → IsOut m
-    → AtEnd meanings t old m new ⊎ RanOut meanings t old m new
-ends_out meanings t u old new s m going out =
-    elim going.at [
-      | inl on ↦ inr (unasked meanings t old s m new on out)
-      | inr ran ↦ inr (record { out = out; front = ran.front; sends = ran.sends })
-    ]
+  still_out : (ran : RanOut meanings t old before s new now) → IsLost t before ran.cached ran.sends m after
+      → RanOut meanings t old before m new after
+  still_out ran lost = record {
+    cached = ran.cached;
+    served = ran.served;
+    sends = ran.sends;
+    state = ran.state;
+    run = ran.run;
+    middle = ran.middle;
+    made = ran.made;
+    rest = ran.rest;
+    by = ran.by;
+    lost = lost;
+  }
 
-ends_still : {H : Type 0} (meanings : handle.Ghosts H) (t u : Terms) (old new : H) (s : StateValue) → Going meanings t u old s new → asking_in u s ≡ None
-    → AtEnd meanings t old s new ⊎ RanOut meanings t old s new
-ends_still meanings t u old new s going none =
-    let here : asking_in t s ≡ None = subst (λ x. asking_in x s ≡ None) going.terms none in
-    elim going.at [
-      | inl on ↦ inl (record { on = on; rests = none_pending t s s.pending refl here })
-      | inr ran ↦ inr ran
-    ]
+  ends_on : (E : Type 0) (run : OnRun meanings t old before s new now)
+      → ServedTo {E = E} t before run.sends (Ok None) m after
+      → AtEnd meanings t old before m new after ⊎ RanOut meanings t old before m new after
+  ends_on E run (inr lost) = inr (stopped run lost.0)
+  ends_on E run (inl w) =
+      inl (record {
+        at = record { sends = run.sends; on = w.on; made = run.made; are = run.are; few = run.few };
+        kept = w.rests;
+        rests = none_pending t m m.pending refl w.asks;
+        sought = w.sought;
+      })
 
-pub going_ends : {H : Type 0} (meanings : handle.Ghosts H) (t u : Terms) (old new : H) (s m : StateValue) (o : Option Asking) → Going meanings t u old s new
-    → IsOut m ⊎ (o ≡ asking_in u s) → IsOut m ⊎ (m ≡ s) → o ≡ None → AtEnd meanings t old m new ⊎ RanOut meanings t old m new
-going_ends meanings t u old new s m o going (inl out) same is = ends_out meanings t u old new s m going out
-going_ends meanings t u old new s m o going (inr by) (inl out) is = ends_out meanings t u old new s m going out
-going_ends meanings t u old new s m o going (inr by) (inr same) is =
-    subst (λ x. AtEnd meanings t old x new ⊎ RanOut meanings t old x new) (sym same) (ends_still meanings t u old new s going (sym by ∙ is))
+  pub going_ends : {E : Type 0} (u : Terms) → Going meanings t u old before s new now
+      → ServesOn {E = E} u s now (Ok None) m after
+      → AtEnd meanings t old before m new after ⊎ RanOut meanings t old before m new after
+  going_ends {E = E} u going serves =
+      let here = subst (λ x. ServesOn {E = E} x s now (Ok None) m after) going.terms serves in
+      elim going.at [
+        | inl run ↦ ends_on E run (here.goes before run.sends run.on)
+        | inr ran ↦ inr (still_out ran ((here.rests before ran.cached ran.sends ran.lost).0))
+      ]
 
 -- ---- the answer
 
 -- what the end of a loop makes of its answer
-pub record IsAnswered {H : Type 0} (meanings : handle.Ghosts H) (t : Terms) (old new : H) (answer : Result ResponseValue NetError) : Type 0 where
-  pub front : IsFront meanings t old new (reply_of answer)
+pub record IsAnswered {H : Type 0} (meanings : handle.Ghosts H) (t : Terms) (old new : H) (before now : CacheState)
+    (answer : Result ResponseValue NetError)
+    : Type 0 where
+  pub front : IsFront meanings t (use_between before now) old new (reply_of answer)
   pub sends : OrUnsent old new answer (SendsOfTerms meanings t old new)
-  pub lookup : UnlessNoMemory answer (AnswersLookup meanings (call_by t old new) (reply_of answer))
+  pub lookup : UnlessNoMemory answer
+      (AnswersLookup meanings (call_by t (use_between before now) old new) (reply_of answer))
+  pub cached : OfAnswer (reply_of answer) (λ a ending. UsesCache (call_by t (use_between before now) old new) a.trail)
 
 error_same : (a b : ErrorValue) → (let x : Reply = Err a in x) ≡ Err b → a ≡ b
 error_same a b h = cc
 
 memory_result : (answer : Result ResponseValue NetError) → reply_of answer ≡ Err seen.NoMemory → answer ≡ Err NoMemory
 memory_result (Ok a) is = cc
-memory_result (Err e) is = ap (λ x. Err x) (told_no_memory e (ap is_no_memory (error_same (error_of e) seen.NoMemory is)))
+memory_result (Err e) is =
+    ap (λ x. Err x) (told_no_memory e (ap is_no_memory (error_same (error_of e) seen.NoMemory is)))
 
 unless_fact : (answer : Result ResponseValue NetError) (Fact : Type 0) → Fact → UnlessNoMemory answer Fact
 unless_fact (Ok a) Fact fact = fact
 unless_fact (Err e) Fact fact = inr fact
 
-out_answered : {H : Type 0} (meanings : handle.Ghosts H) (t : Terms) (old new : H) (m : StateValue) (answer : Result ResponseValue NetError)
-    → RanOut meanings t old m new → reply_of answer ≡ Err seen.NoMemory → IsAnswered meanings t old new answer
-out_answered meanings t old new m answer ran is =
-    subst (IsAnswered meanings t old new) (sym (memory_result answer is)) (record {
-      front = ran.front;
-      sends = elim ran.sends [
-        | inl by ↦ inl by
-        | inr still ↦ inr (refl, sym still)
-      ];
+or_still : {H : Type 0} (meanings : handle.Ghosts H) (t : Terms) (old new : H) → SendsOfTerms meanings t old new
+    ⊎ (old ≡ new)
+    → OrUnsent old new (let r : Result ResponseValue NetError = Err NoMemory in r) (SendsOfTerms meanings t old new)
+or_still meanings t old new (inl by) = inl by
+or_still meanings t old new (inr still) = inr (refl, sym still)
+
+-- memory ran out while it was served
+module _ {H : Type 0} (meanings : handle.Ghosts H) (t : Terms) (old new : H) (before : CacheState) where
+  pub failed_answered : {E : Type 0} (u : Terms) (s m : StateValue) (now after : CacheState) (e : E)
+      (answer : Result ResponseValue NetError) → Going meanings t u old before s new now
+      → ServesOn {E = E} u s now (Err e) m after → answer ≡ Err NoMemory
+      → IsAnswered meanings t old new before after answer
+  failed_answered {E = E} u s m now after e answer going serves is =
+      let here = subst (λ x. ServesOn {E = E} x s now (Err e) m after) going.terms serves in
+      subst (IsAnswered meanings t old new before after) (sym is)
+      (elim going.at [
+        | inl run ↦ (let behind = here.goes before run.sends run.on in record {
+          front = record {
+            cached = behind.cached;
+            served = behind.served;
+            sends = run.sends;
+            state = behind.state;
+            run = behind.run;
+            middle = new;
+            made = run.made;
+            rest = inl refl;
+            came = inl refl;
+            added = behind.left;
+          };
+          sends = or_still meanings t old new (sends_of meanings t old new run.sends run.are run.made run.few);
+          lookup = inl refl;
+          cached = tt;
+        })
+        | inr ran ↦ record {
+          front = record {
+            cached = ran.cached;
+            served = ran.served;
+            sends = ran.sends;
+            state = ran.state;
+            run = ran.run;
+            middle = ran.middle;
+            made = ran.made;
+            rest = ran.rest;
+            came = inl refl;
+            added = here.rests before ran.cached ran.sends ran.lost;
+          };
+          sends = or_still meanings t old new ran.by;
+          lookup = inl refl;
+          cached = tt;
+        }
+      ])
+
+out_answered : {H : Type 0} (meanings : handle.Ghosts H) (t : Terms) (old new : H) (before : CacheState)
+    (m : StateValue) (now : CacheState)
+    (answer : Result ResponseValue NetError) → RanOut meanings t old before m new now
+    → reply_of answer ≡ Err seen.NoMemory
+    → IsAnswered meanings t old new before now answer
+out_answered meanings t old new before m now answer ran is =
+    subst (IsAnswered meanings t old new before now) (sym (memory_result answer is)) (record {
+      front = record {
+        cached = ran.cached;
+        served = ran.served;
+        sends = ran.sends;
+        state = ran.state;
+        run = ran.run;
+        middle = ran.middle;
+        made = ran.made;
+        rest = ran.rest;
+        came = inl refl;
+        added = ran.lost.left;
+      };
+      sends = or_still meanings t old new ran.by;
       lookup = inl refl;
+      cached = tt;
     })
 
-end_answered : {H : Type 0} (meanings : handle.Ghosts H) (t : Terms) (old new : H) (m : StateValue) (answer : Result ResponseValue NetError)
-    → (end : AtEnd meanings t old m new) → m.ended ≡ Some (reply_of answer) → Comes t end.on.sends (reply_of answer)
-    → IsAnswered meanings t old new answer
-end_answered meanings t old new m answer end ended comes =
-    let on = end.on in
-    record {
-      front = record { sends = on.sends; state = m; run = on.run; middle = new; made = on.made; rest = inl refl; came = inr ended };
-      sends = or_unsent old new answer (SendsOfTerms meanings t old new)
-          (sends_of_some meanings t old new on.sends on.are on.made on.few (comes_some t on.sends comes));
-      lookup = unless_fact answer (AnswersLookup meanings (call_by t old new) (reply_of answer)) (comes_answers meanings t old new on.sends comes on.made);
-    }
+-- how it used the cache
+uses_by : {H : Type 0} (t : Terms) (before now : CacheState) (old new : H) (reply : Reply)
+    → RoseBy (reply_served reply) before.hits now.hits
+    → OfAnswer reply (λ a ending. TopServed t before.told a.trail)
+    → OfAnswer reply (λ a ending. KeepsLast (call_by t (use_between before now) old new) a.trail)
+    → OfAnswer reply (λ a ending. UsesCache (call_by t (use_between before now) old new) a.trail)
+unfolding reply_served
+uses_by t before now old new (Ok a) rose top keeps = record {
+  hits = rose;
+  serves = λ step told placed last heard first may. top step told last heard placed first may;
+  keeps = keeps;
+}
+uses_by t before now old new (Err (Dns (Nsec asked a proof))) rose top keeps = record {
+  hits = rose;
+  serves = λ step told placed last heard first may. top step told last heard placed first may;
+  keeps = keeps;
+}
+uses_by t before now old new (Err error) rose top keeps = tt
 
-ended_same : (a : Reply) (b : Reply) (o : Option Reply) → Some a ≡ o → o ≡ Some b → a ≡ b
-ended_same a b o h k = cc
+end_uses : {H : Type 0} (t : Terms) (before : CacheState) (m : StateValue) (now : CacheState) (reply : Reply)
+    (sends : List Sent) → IsOn t before sends m now → m.kept ≡ [] → (old new : H)
+    → m.ended ≡ Some reply → OfAnswer reply (λ a ending. UsesCache (call_by t (use_between before now) old new) a.trail)
+end_uses t before m now reply sends on rests old new ended =
+    uses_by t before now old new reply
+    (rose_fewer (served_in m) (reply_served reply) before.hits now.hits (end_served m reply ended) on.hits)
+    (end_first t on.cached sends before.told now.told m reply on.run ended on.first)
+    (keeps_last t before now old new m reply rests ended on.last)
 
-pub answered_by : {H : Type 0} (meanings : handle.Ghosts H) (t v : Terms) (old new : H) (m : StateValue) (o : Option (Result ResponseValue NetError))
-    (answer : Result ResponseValue NetError) → AtEnd meanings t old m new ⊎ RanOut meanings t old m new → v ≡ t → o ≡ Some answer
-    → option_map reply_of o ≡ m.ended → IfSome o (λ r. (sends : List Sent) → Run v sends m → Comes v sends (reply_of r)) → IsAnswered meanings t old new answer
-answered_by meanings t v old new m None answer ends same is ended comes = cc
-answered_by meanings t v old new m (Some r) answer ends same is ended comes =
-    let one : r ≡ answer = cc in
-    subst (IsAnswered meanings t old new) one
-    (elim ends [
-      | inl end ↦ end_answered meanings t old new m r end (sym ended) (subst (λ x. (sends : List Sent) → Run x sends m → Comes x sends (reply_of r)) same comes end.on.sends end.on.run)
-      | inr ran ↦ out_answered meanings t old new m r ran (ended_same (reply_of r) (Err seen.NoMemory) m.ended ended ran.out.ended)
-    ])
+module _ {H : Type 0} (meanings : handle.Ghosts H) (t : Terms) (old new : H) (before : CacheState) (m : StateValue)
+    (now : CacheState) where
+  end_answered : (answer : Result ResponseValue NetError) → (end : AtEnd meanings t old before m new now)
+      → Comes t end.at.on.cached end.at.sends (reply_of answer) → m.ended ≡ Some (reply_of answer)
+      → IsAnswered meanings t old new before now answer
+  end_answered answer end comes ended =
+      let run = end.at in
+      record {
+        front = record {
+          cached = run.on.cached;
+          served = run.on.served;
+          sends = run.sends;
+          state = m;
+          run = run.on.run;
+          middle = new;
+          made = run.made;
+          rest = inl refl;
+          came = inr ended;
+          added = run.on.left;
+        };
+        sends = or_unsent old new answer (SendsOfTerms meanings t old new)
+            (sends_of_some meanings t old new run.sends run.are run.made run.few
+            (comes_some t run.on.cached run.sends comes));
+        lookup = unless_fact answer
+            (AnswersLookup meanings (call_by t (use_between before now) old new) (reply_of answer))
+            (comes_answers meanings t old new run.on.cached (use_between before now) run.sends run.on.served comes
+            run.made);
+        cached = end_uses t before m now (reply_of answer) run.sends run.on end.kept old new ended;
+      }
+
+  ended_same : (a b : Reply) (o : Option Reply) → Some a ≡ o → o ≡ Some b → a ≡ b
+  ended_same a b o h k = cc
+
+  none_is : {X : Type 0} (o : Option X) → o ≡ None → IsSome o → ⊥
+  none_is None none some = cc
+  none_is (Some x) none some = cc
+
+  never_none : (reply : Reply) → (let o : Option Reply = None in o) ≡ Some reply → ⊥
+  never_none reply h = cc
+
+  -- it has an answer
+  pub never_unanswered : (v : Terms) (o : Option (Result ResponseValue NetError))
+      → AtEnd meanings t old before m new now ⊎ RanOut meanings t old before m new now → v ≡ t → o ≡ None
+      → option_map reply_of o ≡ m.ended
+      → ((cached : List EntryValue) (sends : List Sent) → Run v cached sends m → m.pending ≡ None → m.seeking ≡ None
+      → moves m ≡ false → IsSome o) → ⊥
+  never_unanswered v o ends same none ended has =
+      let Has : Terms → Type 0 =
+      λ x. (cached : List EntryValue) (sends : List Sent) → Run x cached sends m → m.pending ≡ None
+      → m.seeking ≡ None → moves m ≡ false → IsSome o in
+      elim ends [
+        | inl end ↦ none_is o none
+            (subst Has same has end.at.on.cached end.at.sends end.at.on.run end.rests end.sought end.at.on.settled)
+        | inr ran ↦ never_none (Err seen.NoMemory)
+            (sym (ap (option_map reply_of) none) ∙ ended ∙ ran.lost.out.ended)
+      ]
+
+  pub answered_by : (v : Terms) (o : Option (Result ResponseValue NetError)) (answer : Result ResponseValue NetError)
+      → AtEnd meanings t old before m new now ⊎ RanOut meanings t old before m new now → v ≡ t → o ≡ Some answer
+      → option_map reply_of o ≡ m.ended
+      → IfSome o (λ r. (cached : List EntryValue) (sends : List Sent) → Run v cached sends m
+      → Comes v cached sends (reply_of r))
+      → IsAnswered meanings t old new before now answer
+  answered_by v None answer ends same is ended comes = cc
+  answered_by v (Some r) answer ends same is ended comes =
+      let one : r ≡ answer = cc in
+      let Comings : Terms → Type 0 =
+      λ x. (cached : List EntryValue) (sends : List Sent) → Run x cached sends m → Comes x cached sends (reply_of r) in
+      subst (IsAnswered meanings t old new before now) one
+      (elim ends [
+        | inl end ↦ end_answered r end
+            (subst Comings same comes end.at.on.cached end.at.sends end.at.on.run) (sym ended)
+        | inr ran ↦ out_answered meanings t old new before m now r ran
+            (ended_same (reply_of r) (Err seen.NoMemory) m.ended ended ran.lost.out.ended)
+      ])

@@ -20,7 +20,8 @@ first_asked options q true = refl
 first_asked options q false = refl
 
 -- a send of a request, by its first question
-pub sending_made : {H : Type 0} (meanings : handle.Ghosts H) (now : ℕ) (from to : H) (request : RequestValue) (asked : Option Question) (reply : Reply)
+pub sending_made : {H : Type 0} (meanings : handle.Ghosts H) (now : ℕ) (from to : H) (request : RequestValue)
+    (asked : Option Question) (reply : Reply)
     → first_question request ≡ asked → meanings.sent from (first_question request) to reply
     → meanings.requested from request now to reply → ReplyIsTold (meanings.told from) (first_question request) reply
     → IsLeft (meanings.told from) (first_question request) reply (meanings.told to)
@@ -40,7 +41,8 @@ sending_made meanings now from to request asked reply asks made carried told lef
     }
 
 -- what a reply's error was caused by
-pub caused : (before now : ℕ) (result : Result ResponseValue NetError) → HasCause before now result → IsCaused before now (reply_of result)
+pub caused : (before now : ℕ) (result : Result ResponseValue NetError) → HasCause before now result
+    → IsCaused before now (reply_of result)
 caused before now (Ok response) cause = tt
 caused before now (Err error) (inl none) = inl (ap error_of none)
 caused before now (Err error) (inr cause) = inr cause

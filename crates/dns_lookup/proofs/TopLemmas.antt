@@ -1,4 +1,5 @@
--- The last step of a trail: it follows from the steps before it, and ends a derivation whose steps are the sends of the call.
+-- The last step of a trail: it follows from the steps before it, and ends a derivation whose steps are the sends of
+-- the call.
 use Rattle.std.proofs.Common.{◌≡◌, ◌∙◌, true, List, [], ◌∷◌, ◌++◌, map, drop, Option, None, Some, refl, sym, ap, subst, arith}
 use Rattle.std.proofs.lemmas.Bool.{and_parts}
 use Rattle.dns_model.specs.declared.denial.Denial.{Denial}
@@ -7,7 +8,7 @@ use Rattle.dns_model.specs.SoundAnswers.{PlacedSet, told_by, placed_sets, Sound}
 use Rattle.dns_model.specs.Trails.{JudgedSetValue, EndingValue, Records}
 use Rattle.dns_rules.specs.Asking.{effective, judged_part}
 use Rattle.dns_rules.specs.ChainedSets.{bare, finished}
-use Rattle.dns_rules.specs.Derivation.{StepContext, with_entries, judged_sets, ending_by, step_holds, entries_hold, in_send_order}
+use Rattle.dns_rules.specs.Derivation.{StepContext, with_entries, ending_by, step_holds, entries_hold, in_send_order}
 use Rattle.dns_rules.specs.DerivationParts.{steps_at}
 use Rattle.dns_rules.specs.MarkedSets.{placed_of}
 use Rattle.dns_rules.specs.Marking.{cleared_message, marked_message, marked_told}
@@ -34,8 +35,10 @@ none_some : (m : MessageValue) → (let o : Option MessageValue = None in o) ≡
 none_some m h = cc
 
 -- the first ask, as the last step keeps it
-top_send : {H : Type 0} (meanings : handle.Ghosts H) (call : Call H) (found : Findings) (ending : EndingValue) (f : Found meanings call found)
-    → SendOf (first_ask_of_call meanings call) call.old (top_of call.query (told_by found.message) found.empty found.entries ending found.excuse) f.middle
+top_send : {H : Type 0} (meanings : handle.Ghosts H) (call : Call H) (found : Findings) (ending : EndingValue)
+    (f : Found meanings call found)
+    → SendOf (first_ask_of_call meanings call) call.old
+    (top_of call.query (told_by found.message) found.empty found.entries ending found.excuse) f.middle
 top_send meanings call found ending f = record {
   reply = f.reply;
   made = f.made;
@@ -47,38 +50,50 @@ top_send meanings call found ending f = record {
 -- ---- the trail
 
 -- the trail of what was found, and its last step
-pub record TrailOf {H : Type 0} (meanings : handle.Ghosts H) (call : Call H) (found : Findings) (ending : EndingValue) : Type 0 where
+pub record TrailOf {H : Type 0} (meanings : handle.Ghosts H) (call : Call H) (found : Findings)
+    (ending : EndingValue) : Type 0 where
   pub is : IsTrail meanings call (trail_of call.query found ending) ending
   pub top : is.top ≡ top_of call.query (told_by found.message) found.empty found.entries ending found.excuse
 
-pub found_trail : {H : Type 0} (meanings : handle.Ghosts H) (call : Call H) (found : Findings) (ending : EndingValue) → Found meanings call found
+pub found_trail : {H : Type 0} (meanings : handle.Ghosts H) (call : Call H) (found : Findings) (ending : EndingValue)
+    → Found meanings call found
     → ending ≡ ending_by found.outcome → TrailOf meanings call found ending
 found_trail meanings call found ending f ends =
     let told = told_by found.message in
     let step = top_of call.query told found.empty found.entries ending found.excuse in
     let trail = found.steps ++ step ∷ [] in
     let limits = limits_of_call call in
-    let ended : step_holds call.judge (effective limits) [] found.steps (top_of call.query told found.empty found.entries (ending_by found.outcome) found.excuse) ≡ true =
-    judged_step_holds call.judge (effective limits) [] found.steps 0 call.query told found.empty found.sets found.entries found.outcome found.excuse f.own f.judged f.concluded in
-    let holds : step_holds call.judge (effective limits) [] found.steps step ≡ true =
-    ap (λ e. step_holds call.judge (effective limits) [] found.steps (top_of call.query told found.empty found.entries e found.excuse)) ends ∙ ended in
-    let derived = top_derivation call.judge limits [] found.steps step f.sends (record { part = f.part; holds = holds; top = refl; few = f.few }) in
-    let along : SendsFrom (first_ask_of_call meanings call) (ask_of_call meanings call) call.old (step ∷ steps_at found.steps (Some f.part.order)) call.new =
+    let ended : step_holds call.judge (effective limits) f.cached found.steps
+    (top_of call.query told found.empty found.entries (ending_by found.outcome) found.excuse) ≡ true =
+    judged_step_holds call.judge
+    (effective limits) f.cached found.steps 0 call.query told found.empty found.sets found.entries found.outcome
+    found.excuse f.own f.judged f.concluded in
+    let holds : step_holds call.judge (effective limits) f.cached found.steps step ≡ true =
+    ap (λ e. step_holds call.judge (effective limits) f.cached found.steps
+    (top_of call.query told found.empty found.entries e found.excuse)) ends ∙ ended in
+    let derived =
+    top_derivation call.judge limits f.cached found.steps step f.sends
+    (record { part = f.part; holds = holds; top = refl; few = f.few }) in
+    let along : SendsFrom (first_ask_of_call meanings call) (ask_of_call meanings call) call.old
+    (step ∷ steps_at found.steps (Some f.part.order)) call.new =
     (f.middle, top_send meanings call found ending f, f.along) in
-    let walked : SendsFrom (first_ask_of_call meanings call) (ask_of_call meanings call) call.old (in_send_order trail) call.new =
+    let walked : SendsFrom (first_ask_of_call meanings call) (ask_of_call meanings call) call.old
+    (in_send_order trail) call.new =
     subst (λ steps. SendsFrom (first_ask_of_call meanings call) (ask_of_call meanings call) call.old steps call.new)
-    (sym (top_sent call.judge (effective limits) [] found.steps step f.sends f.part)) along in
-    let counts = top_counts call.judge (effective limits) [] found.steps step f.sends f.part in
+    (sym (top_sent call.judge (effective limits) f.cached found.steps step f.sends f.part)) along in
+    let counts = top_counts call.judge (effective limits) f.cached found.steps step f.sends f.part in
     record {
       is = record {
+        cached = f.cached;
+        kept = f.kept;
         derived = derived;
         top = step;
         last = top_step_is found.steps step;
         query = refl;
         ends = refl;
         few = omega (arith, counts, f.few);
-        shallow = derivation_depths call.judge limits [] trail derived;
-        each = derivation_sent call.judge limits [] trail derived;
+        shallow = derivation_depths call.judge limits f.cached trail derived;
+        each = derivation_sent call.judge limits f.cached trail derived;
         walked = walked;
         from = first_from meanings call call.old (in_send_order trail) walked;
         faults = first_rose meanings call call.old (in_send_order trail) walked;
@@ -87,7 +102,8 @@ found_trail meanings call found ending f ends =
     }
 
 -- the marks of an answer are those of its trail
-pub found_marks : {H : Type 0} (meanings : handle.Ghosts H) (call : Call H) (found : Findings) (d : Denial) (ending : EndingValue) → Found meanings call found
+pub found_marks : {H : Type 0} (meanings : handle.Ghosts H) (call : Call H) (found : Findings) (d : Denial)
+    (ending : EndingValue) → Found meanings call found
     → HasMarksOfTrail call.now (finished call.now found.sets found.message d (trail_of call.query found ending))
 found_marks meanings call found d ending f =
     let told = told_by found.message in
@@ -103,7 +119,8 @@ found_marks meanings call found d ending f =
 -- ---- the answer is sound
 
 -- the sets that entries are of
-placed_with : (g : StepContext) (ps : List PlacedSet) (es : List JudgedSetValue) → entries_hold g ps es ≡ true → map placed_of (with_entries ps es) ≡ ps
+placed_with : (g : StepContext) (ps : List PlacedSet) (es : List JudgedSetValue) → entries_hold g ps es ≡ true
+    → map placed_of (with_entries ps es) ≡ ps
 unfolding entries_hold
 placed_with g [] [] h = refl
 placed_with g [] (e ∷ es) h = cc
@@ -111,14 +128,18 @@ placed_with g (p ∷ ps) [] h = cc
 placed_with g (p ∷ ps) (e ∷ es) h = ap (λ xs. p ∷ xs) (placed_with g ps es ((and_parts _ (entries_hold g ps es) h).1))
 
 -- the judged sets are those of the message
-pub found_grouped : {H : Type 0} (meanings : handle.Ghosts H) (call : Call H) (found : Findings) → Found meanings call found
+pub found_grouped : {H : Type 0} (meanings : handle.Ghosts H) (call : Call H) (found : Findings)
+    → Found meanings call found
     → map placed_of (bare found.sets) ≡ placed_sets (told_by found.message)
 found_grouped meanings call found f =
     let told = told_by found.message in
-    ap (map placed_of) f.judged.same ∙ placed_with (top_context (terms_of_call call) found.steps) (judged_part 0 told) found.entries f.judged.hold ∙ judged_part-top told
+    ap (map placed_of) f.judged.same
+    ∙ placed_with (top_context (terms_of_call call) f.cached found.steps)
+    (judged_part 0 told) found.entries f.judged.hold ∙ judged_part-top told
 
 -- an answer of what was found is sound for the records of the first reply
-pub found_sound : {H : Type 0} (meanings : handle.Ghosts H) (call : Call H) (found : Findings) (d : Denial) (ending : EndingValue) → Found meanings call found
+pub found_sound : {H : Type 0} (meanings : handle.Ghosts H) (call : Call H) (found : Findings) (d : Denial)
+    (ending : EndingValue) → Found meanings call found
     → IsSoundAnswer meanings call (finished call.now found.sets found.message d (trail_of call.query found ending))
 found_sound meanings call found d ending f =
     let told = told_by found.message in
@@ -132,7 +153,8 @@ found_sound meanings call found d ending f =
       additionals = (marked_message call.now (bare found.sets) m).additionals;
     } in
     let grouped = found_grouped meanings call found f in
-    let IsSound : MessageValue → Type 0 = λ m. Sound call.judge call.now (told_by f.from) (finished call.now found.sets m d trail) in
+    let IsSound : MessageValue → Type 0 =
+    λ m. Sound call.judge call.now (told_by f.from) (finished call.now found.sets m d trail) in
     record {
       middle = f.middle;
       reply = f.reply;
@@ -144,5 +166,5 @@ found_sound meanings call found d ending f =
           (sound_of_sets call.judge call.now f.from found.sets d trail
           (subst (λ m. map placed_of (bare found.sets) ≡ placed_sets (told_by m)) f.cleared grouped) f.judged.stand);
       rest = subst (λ steps. SendsAlong (ask_of_call meanings call) f.middle (drop 1 steps) call.new)
-          (sym (top_sent call.judge deep [] found.steps step f.sends f.part)) f.along;
+          (sym (top_sent call.judge deep f.cached found.steps step f.sends f.part)) f.along;
     }

@@ -1,7 +1,8 @@
 -- For private functions of this crate only: how a lookup came to its answer.
-use Rattle.std.specs.Prelude.{ℕ, ◌≡◌, ◌≢◌, ◌≤◌, [], ◌++◌, None, Some, Err}
+use Rattle.std.specs.Prelude.{ℕ, ◌≡◌, ◌≢◌, ◌≤◌, List, [], ◌++◌, None, Some, Err}
 use Rattle.dns_model.specs.Records.{Rr, MessageValue}
 use Rattle.dns_model.specs.SoundAnswers.{told_by}
+use Rattle.dns_rules.specs.CacheEntries.{EntryValue}
 use Rattle.dns_rules.specs.Asking.{most_sends, effective, judged_part}
 use Rattle.dns_rules.specs.ChainedSets.{bare}
 use Rattle.dns_rules.specs.DerivationParts.{asks_of_sets, steps_at}
@@ -17,21 +18,24 @@ use Rattle.dns_validation.specs.Received.{received_message, says_none}
 use Rattle.dns_validation.specs.Steps.{Findings, judged_answer}
 use Rattle.dns_validation.specs.Machine.{Terms}
 use Rattle.dns_validation.specs.Comes.{IsJudgement, top_context}
-use Rattle.dns_lookup.specs.Calls.{Call, limits_of_call, ask_of_call, first_ask_of_call}
+use Rattle.dns_lookup.specs.Caching.{ServeFrom}
+use Rattle.dns_lookup.specs.Calls.{Call, CacheUse, limits_of_call, ask_of_call, first_ask_of_call}
 use Rattle.dns_lookup.specs.Sends.{SendsAlong}
 use Rattle.dns_lookup.specs.Fronts.{terms_of_call}
 
 -- the lookup that a validation with these terms makes
-abbrev pub call_by : {H : Type 0} → Terms → H → H → Call H
-call_by t old new = record {
+abbrev pub call_by : {H : Type 0} → Terms → CacheUse → H → H → Call H
+call_by t kept old new = record {
   judge = t.judge;
   query = t.query;
   request = t.request;
   options = t.options;
   iterations = t.iterations;
+  ranges = t.ranges;
   now = t.now;
   old = old;
   new = new;
+  cache = kept;
 }
 
 -- the message of the first ask, and how its sets were judged by further asks
@@ -45,12 +49,14 @@ pub record Found {H : Type 0} (meanings : handle.Ghosts H) (call : Call H) (foun
   pub cleared : found.message ≡ cleared_message from
   pub empty : found.empty ≡ says_none reply
   pub own : foreign_record call.query (told_by found.message) ≡ None
-  pub part : TrailPart call.judge (effective (limits_of_call call)) [] [] found.steps
+  pub cached : List EntryValue
+  pub kept : ServeFrom call.cache.before call.now cached
+  pub part : TrailPart call.judge (effective (limits_of_call call)) cached [] found.steps
       (asks_of_sets found.entries ++ found.excuse) 1 sends
   pub along : SendsAlong (ask_of_call meanings call) middle (steps_at found.steps (Some part.order)) call.new
-  pub judged : IsJudgement (top_context (terms_of_call call) found.steps) (judged_part 0 (told_by found.message))
+  pub judged : IsJudgement (top_context (terms_of_call call) cached found.steps) (judged_part 0 (told_by found.message))
       found.sets found.entries
-  pub concluded : IsStepEnd (top_context (terms_of_call call) found.steps) (told_by found.message) (bare found.sets)
+  pub concluded : IsStepEnd (top_context (terms_of_call call) cached found.steps) (told_by found.message) (bare found.sets)
       found.outcome found.excuse
   pub few : sends ≤ most_sends
 

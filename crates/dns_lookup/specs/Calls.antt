@@ -12,6 +12,9 @@ use Rattle.dns_handle.specs.Handles.{ReplyIsTold, IsLeft}
 use Rattle.dns_handle.specs.Requests.{RequestValue}
 use Rattle.dns_handle.specs.declared.request.DnsRequestOptions.{DnsRequestOptions}
 use Rattle.dns_handle.specs.declared.handle.DnsHandle as handle
+use Rattle.dns_cache.specs.CacheLists.{CacheList}
+use Rattle.dns_cache.specs.Expiry.{TtlRangesValue}
+use Rattle.dns_cache.specs.declared.validation_cache.ValidationCache as cache
 use Rattle.dns_evidence.specs.declared.limits.IterationLimits.{IterationLimits}
 use Rattle.dns_evidence.specs.declared.verifier.Verifier as verifier
 use Rattle.dns_flow.specs.declared.asks.Ask.{Ask}
@@ -19,32 +22,57 @@ use Rattle.dns_validation.specs.Requests.{asking_request, request_for}
 use Rattle.dns_lookup.specs.declared.handle.DnssecDnsHandle.{DnssecDnsHandle}
 
 -- the handle that a validator asks
-abbrev pub inner_of : {H V : Type 0} → DnssecDnsHandle H V → H
+abbrev pub inner_of : {H V C : Type 0} → DnssecDnsHandle H V C → H
 inner_of validator = validator.handle
 
 -- the keys that it trusts
-abbrev pub anchors_of : {H V : Type 0} → DnssecDnsHandle H V → List AnchorValue
+abbrev pub anchors_of : {H V C : Type 0} → DnssecDnsHandle H V C → List AnchorValue
 anchors_of validator = validator.anchors
 
+-- what was kept
+abbrev pub cache_of : {H V C : Type 0} → DnssecDnsHandle H V C → C
+cache_of validator = validator.cache
+
+-- for how long what it finds is kept
+abbrev pub ranges_of : {H V C : Type 0} → DnssecDnsHandle H V C → TtlRangesValue
+ranges_of validator = validator.ranges
+
 -- what tests its signatures
-abbrev pub verifier_of : {H V : Type 0} → DnssecDnsHandle H V → V
+abbrev pub verifier_of : {H V C : Type 0} → DnssecDnsHandle H V C → V
 verifier_of validator = validator.verifier
 
 -- how many iterations of the hash of NSEC3 records it counts
-abbrev pub iterations_of : {H V : Type 0} → DnssecDnsHandle H V → IterationLimits
+abbrev pub iterations_of : {H V C : Type 0} → DnssecDnsHandle H V C → IterationLimits
 iterations_of validator = validator.iterations
 
+-- what a cache tells before a lookup and after it, where it tells its entries, and how often it was hit
+pub record CacheUse : Type 0 where
+  pub before : Option CacheList
+  pub after : Option CacheList
+  pub hits_before : ℕ
+  pub hits_after : ℕ
+
+abbrev pub use_of : {C : Type 0} → cache.Ghosts C → C → C → CacheUse
+use_of caches old new = record {
+  before = caches.told old;
+  after = caches.told new;
+  hits_before = caches.hits old;
+  hits_after = caches.hits new;
+}
+
 -- a lookup: by what it judges, its query, the request that it sends for that, its options, how many iterations of a hash it
--- counts and its moment in seconds, and the handle before it and after it
+-- counts, for how long what it finds is kept and its moment in seconds, the handle before it and after it, and its use of a cache
 pub record Call (H : Type 0) : Type 0 where
   pub judge : Judge
   pub query : Question
   pub request : RequestValue
   pub options : DnsRequestOptions
   pub iterations : IterationLimits
+  pub ranges : TtlRangesValue
   pub now : ℕ
   pub old : H
   pub new : H
+  pub cache : CacheUse
 
 -- how far it goes
 abbrev pub limits_of_call : {H : Type 0} → Call H → Limits
@@ -55,17 +83,19 @@ limits_of_call call = record {
 }
 
 -- a call of a validator: it sends its query's own request
-abbrev pub call_of : {H V : Type 0} → verifier.Ghosts V → DnssecDnsHandle H V → DnssecDnsHandle H V
+abbrev pub call_of : {H V C : Type 0} → verifier.Ghosts V → cache.Ghosts C → DnssecDnsHandle H V C → DnssecDnsHandle H V C
     → Question → DnsRequestOptions → ℕ → Call H
-call_of tests old new q options now = record {
+call_of tests caches old new q options now = record {
   judge = judge (tests.answers (verifier_of old)) (anchors_of old) now;
   query = q;
   request = asking_request q options;
   options = options;
   iterations = iterations_of old;
+  ranges = ranges_of old;
   now = now;
   old = inner_of old;
   new = inner_of new;
+  cache = use_of caches (cache_of old) (cache_of new);
 }
 
 -- an error other than want of memory and that there are no records comes only where the count of faults rose

@@ -8,6 +8,7 @@ use Rattle.dns_laws.specs.Valid.{IsValidSession}
 use Rattle.dns_handle.specs.Errors.{Reply}
 use Rattle.dns_handle.specs.Handles.{Replies, reply_to}
 use Rattle.dns_validation.specs.Received.{received}
+use Rattle.dns_lookup.specs.Caching.{HasSecureAlone}
 use Rattle.dns_lookup.specs.Calls.{Call}
 
 -- the records of an upstream's first reply to a query, before any send
@@ -19,8 +20,10 @@ abbrev pub AnswersSecurely : Question → Reply → Type 0
 AnswersSecurely q (Ok response) = (response.denial ≡ denial.None) × (shows_secure q response.message.answers ≡ true)
 AnswersSecurely q (Err error) = ⊥
 
--- where a known upstream's replies make a session that is valid for the call's query, the answer is secure
+-- where a known upstream's replies make a session that is valid for the call's query, and what was kept before says Secure alone, the
+-- answer is secure
 abbrev pub Completes : {H : Type 0} → Option Replies → Call H → Reply → Type 0
 Completes None call answer = Unit {0}
 Completes (Some replies) call answer =
-    IsValidSession call.judge (first_told replies) call.options.max_request_depth call.query → AnswersSecurely call.query answer
+    HasSecureAlone call.cache.before call.now → IsValidSession call.judge (first_told replies) call.options.max_request_depth call.query
+    → AnswersSecurely call.query answer

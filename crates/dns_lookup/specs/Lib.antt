@@ -1,7 +1,9 @@
 pub mod Answering
 pub mod Calls
+pub mod Caching
 pub mod Causes
 pub mod Completing
+pub mod Driving
 pub mod Fronts
 pub mod Limiting
 pub mod LookupAnswers

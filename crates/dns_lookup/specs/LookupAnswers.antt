@@ -1,5 +1,5 @@
 -- What a lookup answers: a sound answer with the trail that led to it (RFC 4035, 4.3 and 5).
-use Rattle.std.specs.Prelude.{ℕ, ◌≡◌, ◌≤◌, Bool, true, List, length, Option, Some, Result, Ok, Err, IfSome, drop, []}
+use Rattle.std.specs.Prelude.{ℕ, ◌≡◌, ◌≤◌, Bool, true, List, length, Option, Some, Result, Ok, Err, IfSome, drop}
 use Rattle.std.specs.List.{All, count_by}
 use Rattle.dns_model.specs.declared.denial.Denial.TheVariants as denial
 use Rattle.dns_model.specs.Counts.{RoseBy}
@@ -12,6 +12,8 @@ use Rattle.dns_model.specs.SoundAnswers.{Told, told_by, ResponseValue, Sound}
 use Rattle.dns_rules.specs.Asking.{most_sends, depth_limit}
 use Rattle.dns_rules.specs.Derivation.{derivation, top_step, told_in, judged_sets, in_send_order}
 use Rattle.dns_rules.specs.Marking.{marked_told}
+use Rattle.dns_rules.specs.CacheEntries.{EntryValue}
+use Rattle.dns_cache.specs.CacheLists.{CacheList}
 use Rattle.dns_laws.specs.Denials.{ShowsDenial, HasDenials}
 use Rattle.dns_laws.specs.Ground.{HasGrounds}
 use Rattle.dns_laws.specs.OwnDenials.{DeniesByRecords}
@@ -23,6 +25,7 @@ use Rattle.dns_handle.specs.declared.error.NetError.TheVariants.{NoMemory}
 use Rattle.dns_handle.specs.declared.handle.DnsHandle as handle
 use Rattle.dns_validation.specs.Received.{received_message}
 use Rattle.dns_flow.specs.Phases.{judged_ask}
+use Rattle.dns_lookup.specs.Caching.{ServeFrom, HasNone}
 use Rattle.dns_lookup.specs.Calls.{Call, inner_of, limits_of_call, ask_of_call, first_ask_of_call}
 use Rattle.dns_lookup.specs.Sends.{SendsAlong, SendsFrom, IsFromReplies, heard_fault}
 use Rattle.dns_lookup.specs.declared.handle.DnssecDnsHandle.{DnssecDnsHandle}
@@ -32,7 +35,7 @@ abbrev pub UnlessNoMemory : {X : Type 0} → Result X NetError → Type 0 → Ty
 UnlessNoMemory result Fact = Unless NoMemory result Fact
 
 -- a fact of what the handle of a validator tells before a call, of its query and of its answer, unless memory ran out
-abbrev pub WhereTold : {H V : Type 0} → handle.Ghosts H → DnssecDnsHandle H V → Question → Result ResponseValue NetError
+abbrev pub WhereTold : {H V C : Type 0} → handle.Ghosts H → DnssecDnsHandle H V C → Question → Result ResponseValue NetError
     → (Option Replies → Question → Reply → Type 0) → Type 0
 WhereTold meanings old q result Fact = UnlessNoMemory result (Fact (meanings.told (inner_of old)) q (reply_of result))
 
@@ -55,12 +58,14 @@ pub record IsSoundAnswer {H : Type 0} (meanings : handle.Ghosts H) (call : Call 
   pub sound : Sound call.judge call.now (told_by message) a
   pub rest : SendsAlong (ask_of_call meanings call) middle (drop 1 (in_send_order a.trail)) call.new
 
--- a trail with this ending: a derivation whose last step has the call's query, and whose steps are the asks that were made,
--- one for each send, in the order of the sends. They are as shallow as the options say, and at most as many heard a fault as the
--- handle met
+-- a trail with this ending: a derivation, from what was kept before, whose last step has the call's query, and whose steps are the asks
+-- that were made, one for each send, in the order of the sends. They are as shallow as the options say, and at most as many heard a fault
+-- as the handle met
 pub record IsTrail {H : Type 0} (meanings : handle.Ghosts H) (call : Call H) (trail : List AskedValue) (ending : EndingValue)
     : Type 0 where
-  pub derived : derivation call.judge (limits_of_call call) [] trail ≡ true
+  pub cached : List EntryValue
+  pub kept : ServeFrom call.cache.before call.now cached
+  pub derived : derivation call.judge (limits_of_call call) cached trail ≡ true
   pub top : AskedValue
   pub last : top_step trail ≡ Some top
   pub query : top.query ≡ call.query
@@ -82,12 +87,12 @@ pub record HasMarksOfTrail (now : ℕ) (a : ResponseValue) : Type 0 where
   pub heard : top.reply ≡ Records told empty
   pub marked : told_by a.message ≡ marked_told now (judged_sets top) told
 
--- an answer is explained by its trail
-pub record IsExplained (verifier : VerifierAnswers) (now : ℕ) (a : ResponseValue) : Type 0 where
+-- an answer is explained by its trail, and by what was kept before
+pub record IsExplained (verifier : VerifierAnswers) (kept : Option CacheList) (now : ℕ) (a : ResponseValue) : Type 0 where
   -- its marks are those that the last step gives
   pub marks : HasMarksOfTrail now a
-  -- each set that a step marks Insecure has a ground in the steps before
-  pub grounds : HasGrounds verifier a.trail
+  -- each set that a step marks Insecure has a ground in the steps before, where nothing was kept before that may serve
+  pub grounds : HasNone kept now → HasGrounds verifier a.trail
   -- each step that ends with an answer shows what it denies
   pub denials : HasDenials a.trail
 

@@ -1,74 +1,166 @@
-ghost use Rattle.std.specs.Prelude.{◌≡◌, ◌≤◌, IsOk, IfOk, true};
+ghost use Rattle.std.specs.Prelude.{◌≡◌, ◌≤◌, [], IsOk, IfOk, true};
+ghost use Rattle.std.specs.Range.{range_inclusive_start, range_inclusive_end};
 ghost use Rattle.dns_handle.specs.Replies.{reply_of};
 ghost use Rattle.dns_handle.specs.Handles.{OrUnsent};
-ghost use Rattle.dns_lookup.specs.Calls.{Asking};
+ghost use Rattle.dns_lookup.specs.Caching.{UsesCache};
+ghost use Rattle.dns_lookup.specs.Calls.{Asking, use_of};
 ghost use Rattle.dns_lookup.specs.Causes.{HasItsCause, PassesOn, ForeignNamed, AnswersTold};
 ghost use Rattle.dns_lookup.specs.Completing.{Completes};
+ghost use Rattle.dns_lookup.specs.Limiting.{default_entries, range_by};
 ghost use Rattle.dns_lookup.specs.LookupAnswers.{UnlessNoMemory, WhereTold, OfAnswer, IsSoundAnswer, IsTrail};
 ghost use Rattle.dns_lookup.specs.LookupAnswers.{IsExplained, ShowsItsDenial, DeniesQuery};
 ghost use Rattle.dns_lookup.specs.Fronts.{terms_of_call, IsFront};
 ghost use Rattle.dns_lookup.specs.Sends.{SendsFor};
 
-use crate::lookup::look_up;
+use crate::lookup::{Bounds, look_up};
 use crate::sending::answer_request;
+use dns_cache::{AcceptedBy, DefaultCache, LruValidationCache, TtlRange, TtlRanges};
 use dns_evidence::{IterationLimits, Verifier};
 use dns_handle::{DnsHandle, DnsRequest, DnsRequestOptions, DnsResponse, NetError, faults_after};
 use dns_name::NoMemory;
 use dns_record::Query;
 use dns_trust::{Judge, TrustAnchors};
 use std::alloc::Global;
+use std::ops::RangeInclusive;
 
 /// A validator over a handle (RFC 4035, 5): its answers have marks, and chains for what is Secure.
 #[derive(Drop)]
-pub struct DnssecDnsHandle<H: Drop, V: Drop> {
+pub struct DnssecDnsHandle<H: Drop, V: Drop, C: Drop = DefaultCache> {
     handle: H,
     anchors: TrustAnchors,
     verifier: V,
+    cache: C,
+    ranges: TtlRanges,
     iterations: IterationLimits,
     sends: u64,
     faults: u64,
 }
 
-impl<H: DnsHandle + Drop, V: Verifier + Drop> DnssecDnsHandle<H, V> {
-    ghost use Rattle.dns_lookup.specs.Calls.{inner_of, anchors_of, verifier_of, iterations_of, call_of};
-    ghost use Rattle.dns_lookup.specs.Limiting.{default_iterations, limited};
-    ghost use Rattle.dns_lookup.specs.Sending.{sends_of, faults_of, CountsSend};
+/// How many entries the cache keeps that a validator makes for itself.
+const CACHE_ENTRIES: usize = 65_536;
 
-    /// A validator that trusts these anchors and tests signatures by this verifier.
-    pub fn new(handle: H, anchors: TrustAnchors, verifier: V) -> Result<Self, NoMemory>
-        ensures made { IsOk result }
+/// The cache that a validator makes for itself: empty, of 65,536 entries.
+pub fn default_cache(alloc: Global) -> Result<DefaultCache, NoMemory>
+    ensures { IfOk result (λ c. c ≡ record { list = default_entries; hits = 0 }) }
+{
+    LruValidationCache::new(alloc, CACHE_ENTRIES)
+}
+
+impl<H: DnsHandle + Drop, V: Verifier + Drop> DnssecDnsHandle<H, V, DefaultCache> {
+    ghost use Rattle.dns_lookup.specs.Calls.{inner_of, anchors_of, verifier_of, iterations_of, cache_of, ranges_of};
+    ghost use Rattle.dns_lookup.specs.Limiting.{default_entries, default_iterations, default_ranges};
+    ghost use Rattle.dns_lookup.specs.Sending.{sends_of, faults_of};
+
+    /// A validator that trusts these anchors and tests signatures by this verifier, with an empty cache of 65,536 entries.
+    pub fn new(
+        alloc: Global,
+        handle: H,
+        anchors: TrustAnchors,
+        verifier: V,
+    ) -> Result<Self, NoMemory>
         ensures handle { IfOk result (λ h. inner_of h ≡ handle) }
         ensures anchors { IfOk result (λ h. anchors_of h ≡ anchors) }
         ensures verifier { IfOk result (λ h. verifier_of h ≡ verifier) }
+        ensures cache { IfOk result (λ h. cache_of h ≡ record { list = default_entries; hits = 0 }) }
+        ensures ranges { IfOk result (λ h. ranges_of h ≡ default_ranges) }
         ensures sends { IfOk result (λ h. sends_of h ≡ 0) }
         ensures iterations { IfOk result (λ h. iterations_of h ≡ default_iterations) }
         ensures faults { IfOk result (λ h. faults_of h ≡ 0) }
+    {
+        let cache = default_cache(alloc)?;
+        DnssecDnsHandle::with_cache(handle, anchors, verifier, cache)
+    }
+
+    /// The same validator, by the name that says what it trusts.
+    pub fn with_trust_anchor(
+        alloc: Global,
+        handle: H,
+        anchors: TrustAnchors,
+        verifier: V,
+    ) -> Result<Self, NoMemory>
+        ensures handle { IfOk result (λ h. inner_of h ≡ handle) }
+        ensures anchors { IfOk result (λ h. anchors_of h ≡ anchors) }
+        ensures verifier { IfOk result (λ h. verifier_of h ≡ verifier) }
+        ensures cache { IfOk result (λ h. cache_of h ≡ record { list = default_entries; hits = 0 }) }
+        ensures ranges { IfOk result (λ h. ranges_of h ≡ default_ranges) }
+        ensures sends { IfOk result (λ h. sends_of h ≡ 0) }
+        ensures iterations { IfOk result (λ h. iterations_of h ≡ default_iterations) }
+        ensures faults { IfOk result (λ h. faults_of h ≡ 0) }
+    {
+        DnssecDnsHandle::new(alloc, handle, anchors, verifier)
+    }
+
+    /// The same validator with an empty cache of so many entries, and with the ranges of seconds that it had at first. With 0 it keeps
+    /// nothing.
+    pub fn validation_cache_size(self, alloc: Global, capacity: usize) -> Result<Self, NoMemory>
+        ensures { IfOk result (λ h. h ≡ record self {
+          cache = record { list = record { entries = []; capacity = capacity }; hits = 0 };
+          ranges = default_ranges;
+        }) }
+    {
+        let cache = LruValidationCache::new(alloc, capacity)?;
+        let mut validator = self;
+        validator.cache = cache;
+        validator.ranges = TtlRanges::new();
+        Ok(validator)
+    }
+}
+
+impl<H: DnsHandle + Drop, V: Verifier + Drop, C: AcceptedBy<V> + Drop> DnssecDnsHandle<H, V, C> {
+    ghost use Rattle.std.specs.Range.{range_inclusive_start, range_inclusive_end};
+    ghost use Rattle.dns_lookup.specs.Calls.{inner_of, anchors_of, verifier_of, iterations_of, cache_of, ranges_of, call_of};
+    ghost use Rattle.dns_lookup.specs.Limiting.{default_iterations, default_ranges, limited, range_by};
+    ghost use Rattle.dns_lookup.specs.Sending.{sends_of, faults_of, CountsSend};
+
+    /// A validator that trusts these anchors and tests signatures by this verifier, over a cache of one's own.
+    pub fn with_cache(
+        handle: H,
+        anchors: TrustAnchors,
+        verifier: V,
+        cache: C,
+    ) -> Result<Self, NoMemory>
+        ensures made { IsOk result }
+        ensures all { IfOk result (λ h. h ≡ record {
+          handle = handle;
+          anchors = anchors;
+          verifier = verifier;
+          cache = cache;
+          ranges = default_ranges;
+          iterations = default_iterations;
+          sends = 0;
+          faults = 0;
+        }) }
     {
         Ok(DnssecDnsHandle {
             handle,
             anchors,
             verifier,
+            cache,
+            ranges: TtlRanges::new(),
             iterations: IterationLimits::DEFAULT,
             sends: 0,
             faults: 0,
         })
     }
 
-    /// The same validator, by the name that says what it trusts.
-    pub fn with_trust_anchor(
-        handle: H,
-        anchors: TrustAnchors,
-        verifier: V,
-    ) -> Result<Self, NoMemory>
-        ensures made { IsOk result }
-        ensures handle { IfOk result (λ h. inner_of h ≡ handle) }
-        ensures anchors { IfOk result (λ h. anchors_of h ≡ anchors) }
-        ensures verifier { IfOk result (λ h. verifier_of h ≡ verifier) }
-        ensures sends { IfOk result (λ h. sends_of h ≡ 0) }
-        ensures iterations { IfOk result (λ h. iterations_of h ≡ default_iterations) }
-        ensures faults { IfOk result (λ h. faults_of h ≡ 0) }
+    /// The same validator, which keeps errors for at least and at most so many seconds. The first number isn't above the second.
+    pub fn negative_validation_ttl(self, ttl: RangeInclusive<u64>) -> Self
+        requires { range_inclusive_start ttl ≤ range_inclusive_end ttl }
+        ensures { result ≡ record self { ranges = record self.ranges { negative = range_by (range_inclusive_start ttl) (range_inclusive_end ttl) } } }
     {
-        DnssecDnsHandle::new(handle, anchors, verifier)
+        let mut validator = self;
+        validator.ranges.negative = range_of(&ttl);
+        validator
+    }
+
+    /// The same validator, which keeps all else for at least and at most so many seconds. The first number isn't above the second.
+    pub fn positive_validation_ttl(self, ttl: RangeInclusive<u64>) -> Self
+        requires { range_inclusive_start ttl ≤ range_inclusive_end ttl }
+        ensures { result ≡ record self { ranges = record self.ranges { positive = range_by (range_inclusive_start ttl) (range_inclusive_end ttl) } } }
+    {
+        let mut validator = self;
+        validator.ranges.positive = range_of(&ttl);
+        validator
     }
 
     /// The same validator, with the limits of the iterations of a hash that are given, 100 and 500 before (RFC 9276, 3.2): above the
@@ -123,18 +215,24 @@ impl<H: DnsHandle + Drop, V: Verifier + Drop> DnssecDnsHandle<H, V> {
 
         // And whatever the result, the sends are a front of a run, or that and one send more whose reply was lost to want of memory:
         // each the first one, or named by its asker's table for what was heard, in the order of sends, with its depth. The answer
-        // is the one to which that run has come, or that memory ran out.
-        ensures front { IsFront H.DnsHandle (terms_of_call (call_of V.Verifier self.old self.new query options now))
-            (inner_of self.old) (inner_of self.new) (reply_of result) }
+        // is the one to which that run has come, or that memory ran out. What the cache has afterwards it had before, or it is of a set
+        // that one of the sends heard.
+        ensures front { IsFront H.DnsHandle (terms_of_call (call_of V.Verifier C.ValidationCache self.old self.new query options now))
+            (use_of C.ValidationCache (cache_of self.old) (cache_of self.new)) (inner_of self.old) (inner_of self.new) (reply_of result) }
 
         // An answer, an Ok one or that inside a denial, is sound. Its trail says how it came about, and explains its marks,
         // each set that is Insecure, and what each step denies.
         ensures sound { OfAnswer (reply_of result) (λ a ending.
-            IsSoundAnswer H.DnsHandle (call_of V.Verifier self.old self.new query options now) a) }
+            IsSoundAnswer H.DnsHandle (call_of V.Verifier C.ValidationCache self.old self.new query options now) a) }
         ensures trail { OfAnswer (reply_of result) (λ a ending.
-            IsTrail H.DnsHandle (call_of V.Verifier self.old self.new query options now) a.trail ending) }
+            IsTrail H.DnsHandle (call_of V.Verifier C.ValidationCache self.old self.new query options now) a.trail ending) }
         ensures explained { OfAnswer (reply_of result) (λ a ending.
-            IsExplained (V.answers (verifier_of self.old)) now a) }
+            IsExplained (V.answers (verifier_of self.old)) (C.told (cache_of self.old)) now a) }
+
+        // How it used the cache: at most as many sets came from it as it was hit, the first set of the answer's step did where an entry
+        // that it told may serve that, and what was found last stands first in it afterwards.
+        ensures cached { OfAnswer (reply_of result) (λ a ending.
+            UsesCache (call_of V.Verifier C.ValidationCache self.old self.new query options now) a.trail) }
 
         // What an Ok answer denies follows from its Secure NSEC or NSEC3 records, in each zone in which they are true. A denial
         // names the query.
@@ -144,7 +242,7 @@ impl<H: DnsHandle + Drop, V: Verifier + Drop> DnssecDnsHandle<H, V> {
         // An error without an answer inside, want of memory aside, is the handle's own, or names a record of another class than
         // the query's.
         ensures caused { HasItsCause H.DnsHandle
-            (call_of V.Verifier self.old self.new query options now) (reply_of result) }
+            (call_of V.Verifier C.ValidationCache self.old self.new query options now) (reply_of result) }
 
         // Where the upstream tells its replies, its error is passed on; else the first record of another class is named;
         // else there is an answer or a denial.
@@ -155,15 +253,20 @@ impl<H: DnsHandle + Drop, V: Verifier + Drop> DnssecDnsHandle<H, V> {
         // Where the upstream's replies make a session that is valid for the query, it is answered, and what was queried is
         // Secure.
         ensures completes { UnlessNoMemory result (Completes (H.told (inner_of self.old))
-            (call_of V.Verifier self.old self.new query options now) (reply_of result)) }
+            (call_of V.Verifier C.ValidationCache self.old self.new query options now) (reply_of result)) }
     {
         let judge = Judge {
             verifier: &self.verifier,
             anchors: &self.anchors,
             moment: now,
         };
-        let iterations = self.iterations;
-        let reply = look_up(alloc, judge, &mut self.handle, query, options, iterations);
+        let bounds = Bounds {
+            iterations: self.iterations,
+            ranges: self.ranges,
+        };
+        let handle = &mut self.handle;
+        let cache = &mut self.cache;
+        let reply = look_up(alloc, judge, handle, cache, query, options, bounds);
         self.sends = self.sends.saturating_add(1);
         self.faults = faults_after(self.faults, &reply);
         reply
@@ -184,11 +287,23 @@ impl<H: DnsHandle + Drop, V: Verifier + Drop> DnssecDnsHandle<H, V> {
             handle,
             anchors: _,
             verifier: _,
+            cache: _,
+            ranges: _,
             iterations: _,
             sends: _,
             faults: _,
         } = self;
         handle
+    }
+}
+
+// A range of seconds.
+fn range_of(ttl: &RangeInclusive<u64>) -> TtlRange
+    ensures { result ≡ range_by (range_inclusive_start ttl.now) (range_inclusive_end ttl.now) }
+{
+    TtlRange {
+        least: *ttl.start(),
+        most: *ttl.end(),
     }
 }
 
@@ -199,7 +314,8 @@ impl<H: DnsHandle + Drop, V: Verifier + Drop> DnssecDnsHandle<H, V> {
 ///
 /// Errors: `Message("no query in request")` exactly for a query without a question, and nothing is sent; else those of a lookup,
 /// or of the handle's own send.
-impl<H: DnsHandle + Drop, V: Verifier + Drop> DnsHandle for DnssecDnsHandle<H, V> {
+impl<H: DnsHandle + Drop, V: Verifier + Drop, C: AcceptedBy<V> + Drop> DnsHandle
+    for DnssecDnsHandle<H, V, C> {
     ghost use Rattle.std.specs.Prelude.{None, true};
     ghost use Rattle.dns_lookup.specs.Sending.{sends_of, faults_of, ValidatesRequest, ValidatesQuestion};
 
@@ -207,11 +323,11 @@ impl<H: DnsHandle + Drop, V: Verifier + Drop> DnsHandle for DnssecDnsHandle<H, V
 
     ghost faults = { faults_of };
 
-    ghost sent = { ValidatesQuestion H.DnsHandle V.Verifier };
+    ghost sent = { ValidatesQuestion H.DnsHandle V.Verifier C.ValidationCache };
 
     ghost told = { λ h. None };
 
-    ghost requested = { ValidatesRequest H.DnsHandle V.Verifier };
+    ghost requested = { ValidatesRequest H.DnsHandle V.Verifier C.ValidationCache };
 
     ghost validates = { λ h. true };
 
@@ -226,8 +342,13 @@ impl<H: DnsHandle + Drop, V: Verifier + Drop> DnsHandle for DnssecDnsHandle<H, V
             anchors: &self.anchors,
             moment: now,
         };
-        let iterations = self.iterations;
-        let reply = answer_request(alloc, judge, &mut self.handle, request, iterations);
+        let bounds = Bounds {
+            iterations: self.iterations,
+            ranges: self.ranges,
+        };
+        let handle = &mut self.handle;
+        let cache = &mut self.cache;
+        let reply = answer_request(alloc, judge, handle, cache, request, bounds);
         self.sends = self.sends.saturating_add(1);
         self.faults = faults_after(self.faults, &reply);
         reply

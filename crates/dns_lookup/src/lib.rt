@@ -6,4 +6,4 @@ mod handle;
 mod lookup;
 mod sending;
 
-pub use handle::DnssecDnsHandle;
+pub use handle::{DnssecDnsHandle, default_cache};

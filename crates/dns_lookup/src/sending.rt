@@ -4,10 +4,12 @@ ghost use Rattle.std.specs.Prelude.{◌≡◌, ◌≢◌, ◌≤◌, ◌==◌, N
 ghost use Rattle.dns_handle.specs.Replies.{reply_of};
 ghost use Rattle.dns_handle.specs.Requests.{first_question};
 ghost use Rattle.dns_trust.specs.Judge.{judge_of};
+ghost use Rattle.dns_lookup.specs.Calls.{use_of};
 ghost use Rattle.dns_lookup.specs.Sending.{AnswersRequest};
 
-use crate::lookup::look_up_by_request;
-use dns_evidence::{IterationLimits, Verifier};
+use crate::lookup::{Bounds, look_up_by_request};
+use dns_cache::AcceptedBy;
+use dns_evidence::Verifier;
 use dns_handle::{DnsHandle, DnsRequest, DnsResponse, NetError, Notice};
 use dns_name::NoMemory;
 use dns_record::{OpCode, Query};
@@ -15,16 +17,17 @@ use dns_trust::Judge;
 use std::alloc::Global;
 
 /// The answer to a request at the moment of the judge by which its replies are judged.
-pub(crate) fn answer_request<H: DnsHandle, V: Verifier>(
+pub(crate) fn answer_request<H: DnsHandle, V: Verifier, C: AcceptedBy<V>>(
     alloc: Global,
     judge: Judge<'_, V>,
     handle: &mut H,
+    cache: &mut C,
     request: DnsRequest,
-    iterations: IterationLimits,
+    bounds: Bounds,
 ) -> Result<DnsResponse, NetError>
     ensures later { H.faults handle.old ≤ H.faults handle.new }
-    ensures answers { AnswersRequest H.DnsHandle (judge_of V.answers judge.entry) request iterations judge.entry.moment
-        handle.old handle.new (reply_of result) }
+    ensures answers { AnswersRequest H.DnsHandle (judge_of V.answers judge.entry) request bounds.iterations bounds.ranges
+        judge.entry.moment (use_of C.ValidationCache cache.old cache.new) handle.old handle.new (reply_of result) }
 {
     if !is_query(&request) {
         return handle.send(alloc, request, judge.moment);
@@ -43,7 +46,7 @@ pub(crate) fn answer_request<H: DnsHandle, V: Verifier>(
         }
         Some(query) => query,
     };
-    look_up_by_request(alloc, judge, handle, query, request, iterations)
+    look_up_by_request(alloc, judge, handle, cache, query, request, bounds)
 }
 
 // A query, and no notify, update or other operation.

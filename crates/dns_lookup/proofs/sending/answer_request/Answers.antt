@@ -5,18 +5,27 @@ use Rattle.dns_lookup.proofs.sending.answer_request.Goals as goal
 
 pub returns-then-not-is_query-clause-answers : goal.returns-then-not-is_query-clause-answers
 returns-then-not-is_query-clause-answers g c =
-    goes_on g.H.DnsHandle _ _ _ _ _ _ c.send.result (other_code _ _ c.is_query.ensures c.if-not-is_query.true)
-    (sending_made g.H.DnsHandle _ _ _ _ _ _ refl c.send.ensures.sent c.send.ensures.requested c.send.ensures.reply c.send.ensures.told
+    goes_on g.H.DnsHandle _ _ _ _ _ _ _ _ c.send.result (other_code _ _ c.is_query.ensures c.if-not-is_query.true)
+    (sending_made g.H.DnsHandle _ _ _ _ _ _ refl c.send.ensures.sent c.send.ensures.requested c.send.ensures.reply
+    c.send.ensures.told
     c.send.ensures.later (caused _ _ c.send.result c.send.ensures.cause))
+    (record { same = refl; still = refl })
 
 pub returns-in-Err-clause-answers : goal.returns-in-Err-clause-answers
-returns-in-Err-clause-answers g c = forgets g.H.DnsHandle _ _ _ _ _ _ c.is_query.ensures c.if-not-is_query.false c.in-Err.ensures.err
+returns-in-Err-clause-answers g c =
+    forgets g.H.DnsHandle _ _ _ _ _ (g.C.ValidationCache.told c.args.cache.now)
+    (g.C.ValidationCache.hits c.args.cache.now) _ _ c.is_query.ensures c.if-not-is_query.false c.in-Err.ensures.err
 
 pub returns-in-None-clause-answers : goal.returns-in-None-clause-answers
 returns-in-None-clause-answers g c =
-    refuses g.H.DnsHandle _ _ _ _ _ _ c.is_query.ensures c.if-not-is_query.false (sym c.in-Ok.ensures.first ∙ c.in-None.is)
+    refuses g.H.DnsHandle _ _ _ _ _ _ _ _ c.is_query.ensures c.if-not-is_query.false
+    (sym c.in-Ok.ensures.first ∙ c.in-None.is)
+    (record { same = refl; still = refl })
 
 pub returns-clause-answers : goal.returns-clause-answers
 returns-clause-answers g c =
-    looks_up g.H.DnsHandle _ c.args.request c.args.iterations _ _ _ c.in-Some.query _ c.look_up_by_request.result c.is_query.ensures c.if-not-is_query.false
-    (sym c.in-Ok.ensures.first ∙ c.in-Some.is) c.look_up_by_request.ensures.front c.look_up_by_request.ensures.sends c.look_up_by_request.ensures.lookup
+    looks_up g.H.DnsHandle _ c.args.request c.args.bounds.iterations c.args.bounds.ranges _ _ _ _ c.in-Some.query _
+    c.look_up_by_request.result c.is_query.ensures c.if-not-is_query.false
+    (sym c.in-Ok.ensures.first ∙ c.in-Some.is) c.look_up_by_request.ensures.front c.look_up_by_request.ensures.sends
+    c.look_up_by_request.ensures.lookup
+    c.look_up_by_request.ensures.cached

@@ -8,7 +8,9 @@ use Rattle.dns_lookup.proofs.FrontLemmas.{unsent_alike}
 use Rattle.dns_lookup.proofs.handle.DnssecDnsHandle.lookup.Goals as goal
 
 pub returns-clause-sends : goal.returns-clause-sends
-returns-clause-sends g c = unsent_alike g.H.DnsHandle c.args.options c.args.now _ _ c.args.query c.look_up-reply.result c.look_up-reply.ensures.sends
+returns-clause-sends g c =
+    unsent_alike g.H.DnsHandle c.args.options c.args.now _ _ c.args.query c.look_up-reply.result
+    c.look_up-reply.ensures.sends
 
 pub returns-clause-sound : goal.returns-clause-sound
 returns-clause-sound g c = lookup_sound g.H.DnsHandle _ _ c.look_up-reply.ensures.lookup
