@@ -1,33 +1,28 @@
 -- Judged sets by their keys: an equal set has the key of the set that repeats it.
-use Rattle.std.proofs.Common.{◌≡◌, ℕ, ◌<◌, ◌+◌, Bool, true, false, cond, List, [], ◌∷◌, ◌++◌, length, take, get_or, Some, slice_get, refl, sym, ap, ◌∙◌, subst, arith}
+use Rattle.std.proofs.Common.{◌≡◌, ℕ, ◌<◌, ◌+◌, true, List, [], ◌∷◌, ◌++◌, length, take, get_or, slice_get, refl, sym, ap, ◌∙◌, subst, arith}
 use Rattle.std.specs.Prelude.{Vec}
 use Rattle.std.specs.Cmp.{IsTotalOrder}
 use Rattle.std.specs.Cmp.Lexicographic.{pointwise}
 use Rattle.std.specs.List.{list_any}
-use Rattle.std.specs.Ordering.{is_eq, ordering_reverse}
-use Rattle.std.specs.declared.cmp.Ordering.{Ordering}
-use Rattle.std.specs.declared.cmp.Ordering.TheVariants.{Less, Equal, Greater}
-use Rattle.std.specs.BTreeMap as tree
 use Rattle.std.specs.BTreeMap.{BTreeMap}
 use Rattle.std.proofs.lemmas.Bool.{and_parts}
 use Rattle.std.proofs.lemmas.Cmp.{then_total, on_total, nat_cmp_total, nat_list_cmp_total}
-use Rattle.std.proofs.lemmas.List.{append-nil, length-map, length-take-le, map-append, take_more}
+use Rattle.std.proofs.lemmas.List.{length-map, length-take-le, map-append, take_more}
 use Rattle.dns_model.specs.Names.{folded, wire}
 use Rattle.dns_model.specs.Records.{Rr}
 use Rattle.dns_model.specs.SoundAnswers.{PlacedSet}
 use Rattle.dns_model.specs.Trails.{JudgedSetValue}
-use Rattle.dns_model.proofs.TestLemmas.{tied_equal}
-use Rattle.dns_model.proofs.Lists.{lookup-same}
 use Rattle.dns_rules.specs.CacheKeys.{same_bytes}
 use Rattle.dns_rules.specs.ChainedSets.{ChainedSet, bare}
 use Rattle.dns_rules.specs.Derivation.{is_repeat}
 use Rattle.dns_rules.specs.MarkedSets.{MarkedSet}
 use Rattle.dns_rules.proofs.KeyLemmas.{owner_same, rtype_same}
-use Rattle.dns_evidence.specs.Finding.{items_or_none, passes_at}
+use Rattle.dns_evidence.specs.Finding.{passes_at}
 use Rattle.dns_trail.specs.declared.places.SetKey.{SetKey}
 use Rattle.dns_trail.specs.Indexed.{AreIndexed}
-use Rattle.dns_trail.specs.SetKeys.{AddedPlace, trail_key_cmp, trail_key_of, key_of_first, key_of_record, set_places}
-use Rattle.dns_trail.proofs.PlaceLemmas.{keeps_more, found}
+use Rattle.dns_trail.specs.Places.{AddedPlace}
+use Rattle.dns_trail.specs.SetKeys.{trail_key_cmp, trail_key_of, key_of_first, key_of_record, set_places}
+use Rattle.dns_trail.proofs.PlaceLemmas.{keeps_added, found}
 
 pub key_total : IsTotalOrder trail_key_cmp
 key_total = then_total (on_total (λ k. k.owner) nat_list_cmp_total) (on_total (λ k. k.record_type) nat_cmp_total)
@@ -66,33 +61,6 @@ repeat_found places sets placed entry indexed =
 
 -- ---- a place more
 
-get-same : {X : Type 0} (m : BTreeMap SetKey X) (k q : SetKey) → trail_key_cmp k q ≡ Equal
-    → tree.get trail_key_cmp m k ≡ tree.get trail_key_cmp m q
-get-same m k q same = lookup-same _ _ (λ x. ap is_eq (key_total.congr k q x same)) m.entries
-
-added_case : {Z : Type 0} (old : BTreeMap SetKey (Vec ℕ Z)) (key k : SetKey) (place : ℕ) (w : Vec ℕ Z)
-    → w.items ≡ set_places old key ++ place ∷ []
-    → (b : Bool) → is_eq (trail_key_cmp key k) ≡ b
-    → items_or_none (cond b (Some w) (tree.get trail_key_cmp old k)) ≡ set_places old k ++ cond b (place ∷ []) []
-added_case old key k place w items true tied =
-    items ∙ ap (λ o. items_or_none o ++ place ∷ []) (get-same old key k (tied_equal (trail_key_cmp key k) tied))
-added_case old key k place w items false tied = sym (append-nil (set_places old k))
-
-pub added : {Z : Type 0} (old new : BTreeMap SetKey (Vec ℕ Z)) (key : SetKey) (place : ℕ) (w : Vec ℕ Z)
-    → w.items ≡ set_places old key ++ place ∷ []
-    → tree.Updates trail_key_cmp old new key (Some w) → AddedPlace old new key place
-added old new key place w items updates k =
-    ap items_or_none (updates.0 k) ∙ added_case old key k place w items (is_eq (trail_key_cmp key k)) refl
-
-self_reverse : (o : Ordering) → o ≡ ordering_reverse o → o ≡ Equal
-self_reverse Less h = cc
-self_reverse Equal h = refl
-self_reverse Greater h = cc
-
-own_place : (key : SetKey) (place : ℕ) → cond (is_eq (trail_key_cmp key key)) (place ∷ []) [] ≡ place ∷ []
-own_place key place =
-    ap (λ o. cond (is_eq o) (place ∷ []) []) (self_reverse (trail_key_cmp key key) (key_total.antisymm key key))
-
 long_front : (sets : List ChainedSet) (i : ℕ) → i < length sets → length (bare (take i sets)) ≡ i
 long_front sets i lt =
     let one =
@@ -102,7 +70,7 @@ long_front sets i lt =
 pub indexed_more : {Z : Type 0} (old new : BTreeMap SetKey (Vec ℕ Z)) (sets : List ChainedSet) (i : ℕ) (c : ChainedSet)
     (key : SetKey) → i < length sets
     → c ≡ get_or sets i c → key ≡ trail_key_of c.judged.set → AreIndexed old (bare (take i sets))
-    → AddedPlace old new key i
+    → AddedPlace trail_key_cmp old new key i
     → AreIndexed new (bare (take (i + 1) sets))
 indexed_more old new sets i c key lt is own indexed more =
     let front : take (i + 1) sets ≡ take i sets ++ c ∷ [] =
@@ -111,6 +79,6 @@ indexed_more old new sets i c key lt is own indexed more =
     ap bare front ∙ map-append (λ x. x.judged) (take i sets) (c ∷ []) in
     let P : List MarkedSet → Type 0 = λ js. AreIndexed new js in
     let long : length (bare (take i sets)) ≡ i = long_front sets i lt in
-    subst P (sym whole)
-    (keeps_more (λ j. trail_key_of j.set) (set_places old) (set_places new) (bare (take i sets)) c.judged (λ k. cond (is_eq (trail_key_cmp key k)) (i ∷ []) []) indexed more
-    (ap (λ k. cond (is_eq (trail_key_cmp key k)) (i ∷ []) []) (sym own) ∙ own_place key i ∙ ap (λ n. n ∷ []) (sym long)))
+    let place : AddedPlace trail_key_cmp old new (trail_key_of c.judged.set) (length (bare (take i sets))) =
+    subst (λ k. AddedPlace trail_key_cmp old new k (length (bare (take i sets)))) own (subst (AddedPlace trail_key_cmp old new key) (sym long) more) in
+    subst P (sym whole) (keeps_added key_total (λ j. trail_key_of j.set) old new (bare (take i sets)) c.judged indexed place)

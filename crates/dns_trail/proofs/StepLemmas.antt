@@ -176,11 +176,13 @@ pub record AreSteps (j : Judge) (limits : Limits) (cached : List EntryValue) (st
   pub known : ended ≡ map ended_of (take n steps)
   pub hold : steps_hold j limits cached (take n steps) (drop n steps) ≡ steps_hold j limits cached [] steps
 
-pub steps_first : (j : Judge) (limits : Limits) (cached : List EntryValue) (steps : List AskedValue) (ended : List EndedValue) → ended ≡ []
+pub steps_first : (j : Judge) (limits : Limits) (cached : List EntryValue) (steps : List AskedValue)
+    (ended : List EndedValue) → ended ≡ []
     → AreSteps j limits cached steps 0 ended
 steps_first j limits cached steps ended none = record { known = none; hold = refl }
 
-one_more : (j : Judge) (limits : Limits) (cached : List EntryValue) (steps : List AskedValue) (n : ℕ) (step : AskedValue) → n < length steps
+one_more : (j : Judge) (limits : Limits) (cached : List EntryValue) (steps : List AskedValue) (n : ℕ)
+    (step : AskedValue) → n < length steps
     → step ≡ get_or steps n step
     → steps_hold j limits cached (take n steps)
     (drop n steps) ≡ (step_holds j limits cached (take n steps) step && steps_hold j limits cached (take (n + 1) steps) (drop (n + 1) steps))
@@ -193,7 +195,8 @@ one_more j limits cached steps n step lt is =
     ∙ ap (λ xs. step_holds j limits cached (take n steps) step && steps_hold j limits cached xs (drop (n + 1) steps)) (sym front)
 
 held_by : (j : Judge) (limits : Limits) (cached : List EntryValue) (earlier : List AskedValue) (step : AskedValue)
-    → step_holds j limits cached earlier step ≡ step_holds_by (step_context_of j limits cached earlier step) step step.reply
+    → step_holds j limits cached earlier step ≡ step_holds_by
+    (step_context_of j limits cached earlier step) step step.reply
 unfolding step_holds
 held_by j limits cached earlier step = refl
 
@@ -201,7 +204,8 @@ no_end : (b : Bool) (x : EndedValue) → None ≡ some_if b x → b ≡ false
 no_end true x h = cc
 no_end false x h = refl
 
-pub steps_fail : (j : Judge) (limits : Limits) (cached : List EntryValue) (steps : List AskedValue) (n : ℕ) (ended : List EndedValue)
+pub steps_fail : (j : Judge) (limits : Limits) (cached : List EntryValue) (steps : List AskedValue) (n : ℕ)
+    (ended : List EndedValue)
     (step : AskedValue)
     (g : StepContext)
     → AreSteps j limits cached steps n ended → n < length steps → step ≡ get_or steps n step
@@ -218,7 +222,8 @@ an_end : (b : Bool) (e x : EndedValue) → Some e ≡ some_if b x → (b ≡ tru
 an_end true e x h = (refl, cc)
 an_end false e x h = cc
 
-pub steps_next : (j : Judge) (limits : Limits) (cached : List EntryValue) (steps : List AskedValue) (n : ℕ) (ended : List EndedValue)
+pub steps_next : (j : Judge) (limits : Limits) (cached : List EntryValue) (steps : List AskedValue) (n : ℕ)
+    (ended : List EndedValue)
     (step : AskedValue) (g : StepContext) (e : EndedValue)
     → AreSteps j limits cached steps n ended → n < length steps → step ≡ get_or steps n step
     → g ≡ step_context_of j limits cached (take n steps) step
@@ -238,7 +243,8 @@ steps_next j limits cached steps n ended step g e so_far lt is own given =
           ∙ sym (one_more j limits cached steps n step lt is) ∙ so_far.hold;
     }
 
-pub steps_all : (j : Judge) (limits : Limits) (cached : List EntryValue) (steps : List AskedValue) (n : ℕ) (ended : List EndedValue)
+pub steps_all : (j : Judge) (limits : Limits) (cached : List EntryValue) (steps : List AskedValue) (n : ℕ)
+    (ended : List EndedValue)
     → AreSteps j limits cached steps n ended → length steps ≤ n
     → true ≡ steps_hold j limits cached [] steps
 unfolding steps_hold

@@ -1,5 +1,5 @@
 -- For private functions of this crate only: the entry of a set, by its parts.
-use Rattle.std.specs.Prelude.{Bool, ◌≡◌, false, ◌==◌, ◌&&◌, List, take, Option}
+use Rattle.std.specs.Prelude.{ℕ, Bool, ◌≡◌, false, ◌==◌, ◌&&◌, List, take, Option}
 use Rattle.std.specs.Option.{option_map, option_map_or}
 use Rattle.std.specs.List.{list_any}
 use Rattle.dns_model.specs.declared.trail.AskRef.{AskRef}
@@ -7,8 +7,10 @@ use Rattle.dns_model.specs.Names.{name_eq}
 use Rattle.dns_model.specs.Records.{RrSet, Question, question_eq}
 use Rattle.dns_model.specs.SoundAnswers.{PlacedSet, section_eq}
 use Rattle.dns_model.specs.Trails.{AskedValue, JudgedSetValue}
+use Rattle.dns_model.specs.Chains.{Judge}
+use Rattle.dns_rules.specs.CacheEntries.{EntryValue, is_live}
 use Rattle.dns_rules.specs.ChainedSets.{ChainedSet}
-use Rattle.dns_rules.specs.Derivation.{StepContext, is_repeat, judged_sets, verdicts_by}
+use Rattle.dns_rules.specs.Derivation.{StepContext, is_repeat, is_served_by, judged_sets, verdicts_by}
 use Rattle.dns_rules.specs.DerivationParts.{is_by_verdicts, with_entry}
 use Rattle.dns_rules.specs.MarkedSets.{MarkedSet}
 use Rattle.dns_rules.specs.Marks.{Verdict, most_signatures}
@@ -41,3 +43,7 @@ is_by_signatures g placed entry = is_by_verdicts placed entry (verdicts_of_set g
 abbrev pub repeats_from : Question → PlacedSet → JudgedSetValue → Option AskedValue → Bool
 repeats_from q placed entry step =
     option_map_or (λ s. question_eq q s.query && list_any (is_repeat placed entry) (judged_sets s)) step false
+
+-- at this moment the time of what was kept isn't up, and it serves the set with this entry
+abbrev pub serves_at : ℕ → Judge → Question → PlacedSet → JudgedSetValue → EntryValue → Bool
+serves_at now j q placed entry kept = is_live now kept && is_served_by j q placed entry kept

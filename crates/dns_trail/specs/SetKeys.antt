@@ -1,13 +1,12 @@
 -- For private functions of this crate only: owners and types of sets as keys of an ordered map.
-use Rattle.std.specs.Prelude.{ℕ, ◌≡◌, List, [], ◌∷◌, ◌++◌, Option, None, Some, Vec, slice_get, if◌then◌else◌}
+use Rattle.std.specs.Prelude.{ℕ, List, [], Option, None, Some, Vec, slice_get}
 use Rattle.std.specs.declared.cmp.Ordering.{Ordering}
-use Rattle.std.specs.Ordering.{is_eq, nat_cmp, ordering_then}
+use Rattle.std.specs.Ordering.{nat_cmp, ordering_then}
 use Rattle.std.specs.Cmp.Lexicographic.{slice_cmp}
-use Rattle.std.specs.BTreeMap as tree
 use Rattle.std.specs.BTreeMap.{BTreeMap}
 use Rattle.dns_model.specs.Names.{folded, wire}
 use Rattle.dns_model.specs.Records.{Rr, RrSet}
-use Rattle.dns_evidence.specs.Finding.{items_or_none}
+use Rattle.dns_trail.specs.Places.{places_under}
 use Rattle.dns_trail.specs.declared.places.SetKey.{SetKey}
 
 -- the wire form of the owner with A to Z as a to z (RFC 4343, 3), and the type
@@ -28,9 +27,4 @@ trail_key_cmp a b = ordering_then (slice_cmp nat_cmp a.owner b.owner) (nat_cmp a
 
 -- the places under a key
 abbrev pub set_places : {Z : Type 0} → BTreeMap SetKey (Vec ℕ Z) → SetKey → List ℕ
-set_places places key = items_or_none (tree.get trail_key_cmp places key)
-
--- a key has one more place behind its others
-abbrev pub AddedPlace : {Z : Type 0} → BTreeMap SetKey (Vec ℕ Z) → BTreeMap SetKey (Vec ℕ Z) → SetKey → ℕ → Type 0
-AddedPlace old new key place =
-    (k : SetKey) → set_places new k ≡ set_places old k ++ (if is_eq (trail_key_cmp key k) then place ∷ [] else [])
+set_places places key = places_under trail_key_cmp places key

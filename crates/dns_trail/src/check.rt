@@ -4,6 +4,7 @@ ghost use Rattle.dns_rules.specs.CacheEntries.{live};
 ghost use Rattle.dns_rules.specs.Derivation.{derivation};
 
 use crate::is_in_order;
+use crate::kept::KeptEntries;
 use crate::steps::steps_hold;
 use dns_cache::Entry;
 use dns_evidence::{Limits, Trail, Verifier, effective};
@@ -36,5 +37,6 @@ pub fn check_trail<V: Verifier>(
         anchors,
         moment: now,
     };
-    steps_hold(alloc, &judge, effective(limits), cached, &trail.steps)
+    let kept = KeptEntries::of(alloc, cached)?;
+    steps_hold(alloc, &judge, effective(limits), &kept, &trail.steps)
 }

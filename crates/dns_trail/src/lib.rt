@@ -6,6 +6,7 @@
 mod check;
 mod ending;
 mod entries;
+mod kept;
 mod order;
 mod places;
 mod repeats;

@@ -1,10 +1,11 @@
-//! Where the judged sets of a step stand, by the owner and type of their records, so that an equal set is found without
-//! a walk.
+//! Where elements of a list stand, by their keys: the judged sets of a step by the owner and type of their records, so that an equal
+//! set is found without a walk.
 
 ghost use Rattle.std.specs.Prelude.{◌≡◌, IfOk, OnOk};
 ghost use Rattle.dns_rules.specs.ChainedSets.{bare};
 ghost use Rattle.dns_trail.specs.Indexed.{AreIndexed};
-ghost use Rattle.dns_trail.specs.SetKeys.{AddedPlace, trail_key_of, key_of_record as key_in, set_places};
+ghost use Rattle.dns_trail.specs.Places.{AddedPlace, places_under};
+ghost use Rattle.dns_trail.specs.SetKeys.{trail_key_of, key_of_record as key_in};
 
 use dns_evidence::ChainedSet;
 use dns_name::{NoMemory, Octets};
@@ -23,7 +24,10 @@ pub(crate) struct SetKey {
 }
 
 /// The places of sets in a list.
-pub(crate) type PlacesByKey = BTreeMap<SetKey, Vec<usize>>;
+pub(crate) type PlacesByKey = Places<SetKey>;
+
+/// The places of elements in a list.
+pub(crate) type Places<K> = BTreeMap<K, Vec<usize>>;
 
 impl SetKey {
     /// The key of a set.
@@ -52,9 +56,9 @@ impl SetKey {
     }
 }
 
-/// The places of the sets with a key.
-pub(crate) fn places_of<'a>(places: &'a PlacesByKey, key: &SetKey) -> &'a [usize]
-    ensures { result.now ≡ set_places places.now key.now }
+/// The places under a key.
+pub(crate) fn places_of<'a, K: Ord>(places: &'a Places<K>, key: &K) -> &'a [usize]
+    ensures { result.now ≡ places_under K.cmp places.now key.now }
 {
     match places.get(key) {
         Some(there) => there.as_slice(),
@@ -63,13 +67,13 @@ pub(crate) fn places_of<'a>(places: &'a PlacesByKey, key: &SetKey) -> &'a [usize
 }
 
 /// Puts a place behind the others of its key.
-pub(crate) fn add_place(
+pub(crate) fn add_place<K: Ord + Drop>(
     alloc: Global,
-    places: &mut PlacesByKey,
-    key: SetKey,
+    places: &mut Places<K>,
+    key: K,
     place: usize,
 ) -> Result<(), NoMemory>
-    ensures { OnOk result (AddedPlace places.old places.new key place) }
+    ensures { OnOk result (AddedPlace K.cmp places.old places.new key place) }
 {
     if let Some(there) = places.get_mut(&key) {
         there.push(place)?;

@@ -3,10 +3,12 @@
 ghost use Rattle.std.specs.Prelude.{◌≡◌, ◌&&◌, IfOk};
 ghost use Rattle.std.specs.List.{list_any};
 ghost use Rattle.dns_rules.specs.CacheKeys.{key_of};
-ghost use Rattle.dns_rules.specs.CacheEntries.{is_live, live};
+ghost use Rattle.dns_rules.specs.CacheEntries.{live};
 ghost use Rattle.dns_rules.specs.Derivation.{has_mark_of, is_empty, is_served_by};
 ghost use Rattle.dns_rules.specs.Serving.{judged_as};
 ghost use Rattle.dns_model.specs.SoundAnswers.{PlacedSet};
+ghost use Rattle.dns_evidence.specs.Finding.{passes_at};
+ghost use Rattle.dns_trail.specs.Entries.{serves_at as serves_in};
 ghost use Rattle.dns_trust.specs.Judge.{judge_of};
 
 use crate::step_context::StepContext;
@@ -16,7 +18,6 @@ use dns_name::NoMemory;
 use dns_serving::{mark_of, sig_of, still_holds};
 
 /// The entry asks nothing, and says what one that was kept does and that may serve the set.
-#[tactic(auto, using(crate::proofs::ServedLemmas::serves_now, crate::proofs::ServedLemmas::serves_later))]
 pub(crate) fn is_served<V: Verifier>(
     context: &StepContext<'_, '_, V>,
     placed: &PlacedSet,
@@ -30,14 +31,32 @@ pub(crate) fn is_served<V: Verifier>(
         return Ok(false);
     }
     let key = CacheKey::of(context.query, &placed.set)?;
-    let mut left = context.cached;
-    'kept: while let Some((next, more)) = left.split_first() {
-        if serves(context, &key, placed, entry, next)? {
+    let mut left = context.cached.places_with(&key);
+    'kept: while let Some((place, more)) = left.split_first() {
+        if serves_at(context, &key, placed, entry, *place)? {
             return Ok(true);
         }
         left = more;
     }
     Ok(false)
+}
+
+// There is something kept at a place, and it serves the set with this key.
+fn serves_at<V: Verifier>(
+    context: &StepContext<'_, '_, V>,
+    key: &CacheKey,
+    placed: &PlacedSet,
+    entry: &JudgedSet,
+    place: usize,
+) -> Result<bool, NoMemory>
+    requires key { key.now ≡ key_of context.now.query.now placed.now.set }
+    ensures { IfOk result (λ b. b ≡ passes_at (serves_in context.now.judge.now.moment (judge_of V.answers context.now.judge.now)
+        context.now.query.now placed.now entry.now) context.now.cached.now place) }
+{
+    match context.cached.as_slice().get(place) {
+        Some(kept) => serves(context, key, placed, entry, kept),
+        None => Ok(false),
+    }
 }
 
 // What was kept isn't up, says what the entry does, and may serve the set with this key.
@@ -50,8 +69,8 @@ fn serves<V: Verifier>(
     kept: &Entry,
 ) -> Result<bool, NoMemory>
     requires key { key.now ≡ key_of context.now.query.now placed.now.set }
-    ensures { IfOk result (λ b. b ≡ (is_live context.now.judge.now.moment kept.now
-        && is_served_by (judge_of V.answers context.now.judge.now) context.now.query.now placed.now entry.now kept.now)) }
+    ensures { IfOk result (λ b. b ≡ serves_in context.now.judge.now.moment (judge_of V.answers context.now.judge.now)
+        context.now.query.now placed.now entry.now kept.now) }
 {
     if kept.expires <= context.judge.moment {
         return Ok(false);

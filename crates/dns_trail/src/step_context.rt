@@ -7,8 +7,8 @@ ghost use Rattle.dns_rules.specs.Derivation.{finished_answer as finished_for, is
 ghost use Rattle.dns_rules.specs.DerivationParts.{is_judged_ask, is_plain_step as is_plain_in};
 ghost use Rattle.dns_trust.specs.Verdicts.{listed};
 
+use crate::kept::KeptEntries;
 use crate::places::PlacesByKey;
-use dns_cache::Entry;
 use dns_evidence::{Asked, ChainedSet, Limits};
 use dns_model::AskRef;
 use dns_record::Query;
@@ -24,7 +24,7 @@ pub(crate) struct StepContext<'a, 'j, V> {
     /// How far the lookup went.
     pub(crate) limits: Limits,
     /// What was kept before it.
-    pub(crate) cached: &'a [Entry],
+    pub(crate) cached: &'a KeptEntries<'a>,
     /// The steps before it.
     pub(crate) earlier: Earlier<'a>,
     pub(crate) query: &'a Query,

@@ -15,10 +15,10 @@ ghost use Rattle.dns_trust.specs.Judge.{judge_of};
 
 use crate::ending::{ending_holds, is_failed, is_foreign, is_seen};
 use crate::entries::judged_sets;
+use crate::kept::KeptEntries;
 use crate::places::{PlacesByKey, places_of_sets};
 use crate::repeats::has_repeats;
 use crate::step_context::{Earlier, Ended, StepContext};
-use dns_cache::Entry;
 use dns_evidence::{Asked, ChainedSet, Ending, Limits, Reply, Told, Verifier};
 use dns_grouping::judged_part;
 use dns_message::Message;
@@ -33,7 +33,7 @@ pub(crate) fn steps_hold<'a, V: Verifier>(
     alloc: Global,
     judge: &'a Judge<'_, V>,
     limits: Limits,
-    cached: &'a [Entry],
+    cached: &'a KeptEntries<'a>,
     steps: &'a [Asked],
 ) -> Result<bool, NoMemory>
     ensures { IfOk result (λ b. b ≡ steps_follow (judge_of V.answers judge.now) limits
@@ -54,7 +54,7 @@ pub(crate) fn steps_hold<'a, V: Verifier>(
             alloc,
             judge: &*judge,
             limits,
-            cached,
+            cached: &*cached,
             earlier,
             query: &step.query,
             depth: step.depth,

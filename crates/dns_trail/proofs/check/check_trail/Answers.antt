@@ -23,7 +23,8 @@ returns g c =
     let yes : has_order t ≡ true = search rules in
     ok_map c.steps_hold.result
     (λ b h.
-    h ∙ ap (λ n. steps_hold j n kept [] c.deref-2.result.now) c.effective.ensures
+    h ∙ ap (λ es. steps_hold j c.effective.result (live c.args.now es) [] c.deref-2.result.now) c.in_ok-kept.ensures
+    ∙ ap (λ n. steps_hold j n kept [] c.deref-2.result.now) c.effective.ensures
     ∙ ap (steps_hold j (effective c.args.limits.now) kept []) (c.deref-2.ensures.value ∙ c.trail.view_is)
     ∙ sym (derivation_by_order j c.args.limits.now kept t ∙ ap (λ b. b && steps_hold j (effective c.args.limits.now) kept [] t) yes))
     c.steps_hold.ensures
