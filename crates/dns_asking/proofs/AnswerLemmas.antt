@@ -1,6 +1,6 @@
 -- What an answer of a lookup comes from, out of what the sends of its handle come from.
-use Rattle.std.proofs.Common.{ℕ, ◌≡◌, ◌⊎◌, inl, inr, ◌∙◌, List, [], ◌∷◌, drop, Option, None, Some, Result, Ok, Err, refl, sym, ap, subst}
-use Rattle.dns_model.specs.Counts.{Rose, RoseBy}
+use Rattle.std.proofs.Common.{ℕ, ◌≡◌, ◌⊎◌, inl, inr, ◌∙◌, List, [], ◌∷◌, Option, None, Some, Ok, Err, refl, sym, ap, subst}
+use Rattle.dns_model.specs.Counts.{RoseBy}
 use Rattle.dns_model.specs.Gives.{Unless}
 use Rattle.dns_model.specs.Names.{Labels}
 use Rattle.dns_model.specs.Records.{MessageValue}

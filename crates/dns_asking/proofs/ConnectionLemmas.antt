@@ -20,14 +20,14 @@ use Rattle.dns_handle.specs.declared.error.NetError.TheVariants.{Busy, Dns, Mess
 use Rattle.dns_handle.specs.declared.io_kind.IoKind.{IoKind}
 use Rattle.dns_handle.specs.declared.io_kind.IoKind.TheVariants.{PermissionDenied, ConnectionRefused, ConnectionReset, ConnectionAborted, NotConnected, AddrInUse, AddrNotAvailable, BrokenPipe, InvalidData, TimedOut, UnexpectedEof, RequestTooLong, Other}
 use Rattle.dns_handle.specs.declared.protocol.Protocol.TheVariants.{Tcp}
-use Rattle.dns_link.specs.Counts.{CountsValue, no_counts, sum_counted, with_counts}
+use Rattle.dns_link.specs.Counts.{CountsValue, no_counts, with_counts}
 use Rattle.dns_link.specs.Moved.{DatagramValue}
-use Rattle.dns_mux.specs.Draws.{CoreValue, Drawn, IsSend, Plays, request_bytes}
+use Rattle.dns_mux.specs.Draws.{Plays, request_bytes}
 use Rattle.dns_mux.specs.Events.{Send, last_drawn}
 use Rattle.dns_mux.specs.History.{put_out}
-use Rattle.dns_mux.specs.Machine.{Settings, State, send_reply}
+use Rattle.dns_mux.specs.Machine.{State, send_reply}
 use Rattle.dns_mux.specs.Messages.{SerialMessageValue, with_id}
-use Rattle.dns_transport.specs.Causes.{DrainAnswer, DrainCause, DrainFault, FeedAnswer, FeedCause, FeedFault, IsLater, IsMisaddressed, IsOverlong}
+use Rattle.dns_transport.specs.Causes.{DrainCause, DrainFault, FeedCause, FeedFault, IsMisaddressed, IsOverlong}
 use Rattle.dns_transport.specs.declared.feed.Feed.{Feed}
 use Rattle.dns_transport.specs.declared.feed.Feed.TheVariants.{Closed}
 use Rattle.dns_transport.specs.Frames.{most_framed}
@@ -38,7 +38,7 @@ use Rattle.dns_transport.proofs.DrainLemmas.{drain_answer}
 use Rattle.dns_exchange.specs.Exchanges.{Carried, WasWritten, DrainFailed, NoRoomToWrite, Exchanged, Unconnected, Refused, Sent, Parts, Received, Answered, Unanswered, WasClosed, FeedFailed, NoRoom, most_messages}
 use Rattle.dns_exchange.specs.Making.{new_parts}
 use Rattle.dns_exchange.specs.Reads.{HasFed, HasRead, Sight, reads_for_all, sight}
-use Rattle.dns_exchange.specs.Writes.{HasDrained, HasWritten, HasWrittenAll, message_to, messages_to}
+use Rattle.dns_exchange.specs.Writes.{HasDrained, HasWritten, message_to, messages_to}
 use Rattle.dns_sockets.specs.Met.{DialerView, dialer_view}
 use Rattle.dns_evidence.specs.declared.verifier.Verifier as verifier
 use Rattle.dns_handle.specs.Conversions.{outside_failed}
@@ -52,7 +52,7 @@ use Rattle.dns_exchange.specs.Parts.{parts_of}
 use Rattle.dns_exchange.specs.declared.tcp_exchange.TcpExchange.{TcpExchange}
 use Rattle.dns_asking.specs.Lookups.{LooksUp, call_over}
 use Rattle.dns_asking.specs.declared.inquiry.Inquiry.{Inquiry}
-use Rattle.dns_asking.proofs.AnswerLemmas.{Observes, lookup_caused}
+use Rattle.dns_asking.proofs.AnswerLemmas.{lookup_caused}
 use Rattle.dns_asking.specs.Causes.{AnswerCause, FailedOrEnded, HasCome}
 use Rattle.dns_asking.proofs.CountLemmas.{fault_rose, rose_by_none, rose_by_then, sum_later, sum_rose, sum_rose_one}
 use Rattle.dns_asking.proofs.RequestLemmas.{first_request, never_long}
@@ -481,38 +481,38 @@ abbrev pub dialer_after : {L R : Type 0} → LinkView L → DialerView → TcpEx
 dialer_after seen before exchange = with_link before (seen.counts (parts_of exchange).link)
 
 -- each answer of a lookup over a connection has its cause
-pub connection_caused : {L R V : Type 0} (seen : LinkView L) (draw : R → ℕ → R → Type 0)
-    (meanings : handle.Ghosts (TcpExchange L R))
-    (tests : verifier.Ghosts V) (inquiry : Inquiry V)
-    → ((old new : TcpExchange L R) (request : RequestValue) (now : ℕ) (reply : Reply)
-    → meanings.requested old request now new reply
-    → Exchanged seen draw (parts_of old) (parts_of new) request (milliseconds now) reply)
-    → (before : DialerView) (link : L) (server : SocketAddr) (draws : R) (first last : TcpExchange L R) (reply : Reply)
-    → length (wire inquiry.query.owner) ≤ 255 → seen.counts link ≡ no_counts
-    → parts_of first ≡ new_parts link (new_stream server []) draws 5000 None
-    → LooksUp meanings tests inquiry first last reply
-    → AnswerCause Tcp before (dialer_after seen before last) reply
-connection_caused {L} {R} seen draw meanings tests inquiry carries before link server draws first last reply short
-    is_new made looked =
-    lookup_caused meanings (call_over tests inquiry first last) Tcp before (dialer_after seen before)
-    (record { first = first_of; later = later_of }) reply looked
-  where
-    first_of : (to : TcpExchange L R) (heard : Reply)
-        → first_ask_of_call meanings (call_over tests inquiry first last) first (judged_ask inquiry.query) to heard
-        → AnswerCause Tcp before (dialer_after seen before to) heard
-    first_of to heard sent =
-        first_exchange seen draw before link server draws is_new inquiry.query inquiry.depth
-        (milliseconds inquiry.moment) (parts_of to) heard short
-        (subst (λ (p : Parts L R). Exchanged seen draw p (parts_of to) (first_request inquiry.query inquiry.depth)
-        (milliseconds inquiry.moment) heard)
-        made (carries first to _ _ heard sent.carried))
+module _ {L R V : Type 0} (seen : LinkView L) (draw : R → ℕ → R → Type 0)
+    (meanings : handle.Ghosts (TcpExchange L R)) (tests : verifier.Ghosts V) (inquiry : Inquiry V) where
+  pub connection_caused : ((old new : TcpExchange L R) (request : RequestValue) (now : ℕ) (reply : Reply)
+      → meanings.requested old request now new reply
+      → Exchanged seen draw (parts_of old) (parts_of new) request (milliseconds now) reply)
+      → (before : DialerView) (link : L) (server : SocketAddr) (draws : R) (first last : TcpExchange L R)
+      (reply : Reply)
+      → length (wire inquiry.query.owner) ≤ 255 → seen.counts link ≡ no_counts
+      → parts_of first ≡ new_parts link (new_stream server []) draws 5000 None
+      → LooksUp meanings tests inquiry first last reply
+      → AnswerCause Tcp before (dialer_after seen before last) reply
+  connection_caused carries before link server draws first last reply short is_new made looked =
+      lookup_caused meanings (call_over tests inquiry looked.kept first last) Tcp before (dialer_after seen before)
+      (record { first = first_of; later = later_of }) reply looked.is
+    where
+      first_of : (to : TcpExchange L R) (heard : Reply)
+          → first_ask_of_call meanings (call_over tests inquiry looked.kept first last) first
+          (judged_ask inquiry.query) to heard
+          → AnswerCause Tcp before (dialer_after seen before to) heard
+      first_of to heard sent =
+          first_exchange seen draw before link server draws is_new inquiry.query inquiry.depth
+          (milliseconds inquiry.moment) (parts_of to) heard short
+          (subst (λ (p : Parts L R). Exchanged seen draw p (parts_of to) (first_request inquiry.query inquiry.depth)
+          (milliseconds inquiry.moment) heard)
+          made (carries first to _ _ heard sent.carried))
 
-    later_of : (from to : TcpExchange L R) (ask : Ask) (heard : Reply)
-        → ask_of_call meanings (call_over tests inquiry first last) from ask to heard
-        → RoseBy 0 (dialer_after seen before from).counts.gots (dialer_after seen before to).counts.gots
-    later_of from to ask heard sent =
-        sum_later before.counts.gots _ _ (exchanged_later seen draw (parts_of from) (parts_of to) _ _ heard
-        (carries from to _ _ heard sent.carried))
+      later_of : (from to : TcpExchange L R) (ask : Ask) (heard : Reply)
+          → ask_of_call meanings (call_over tests inquiry looked.kept first last) from ask to heard
+          → RoseBy 0 (dialer_after seen before from).counts.gots (dialer_after seen before to).counts.gots
+      later_of from to ask heard sent =
+          sum_later before.counts.gots _ _ (exchanged_later seen draw (parts_of from) (parts_of to) _ _ heard
+          (carries from to _ _ heard sent.carried))
 
 -- what the dialer has after it has the link back
 pub link_back : {D : Type 0} (counts : D → CountsValue) (given : D → Option (List DatagramValue)) (old new : D)

@@ -1,9 +1,8 @@
 -- Counts of a dialer that are greater than before.
-use Rattle.std.proofs.Common.{ℕ, ◌≡◌, ◌≤◌, ◌⊎◌, inl, inr, ap, arith}
+use Rattle.std.proofs.Common.{ℕ, ◌≡◌, ◌≤◌, ap, arith}
 use Rattle.dns_model.specs.Counts.{Rose, RoseBy}
-use Rattle.dns_link.specs.Counts.{CountsValue, sum_counted, with_counts, with_fault}
+use Rattle.dns_link.specs.Counts.{CountsValue, sum_counted, with_fault}
 use Rattle.dns_sockets.specs.Met.{RisesBy}
-use Rattle.dns_asking.specs.Causes.{FailedOrEnded}
 
 pub rose_by_none : (a : ℕ) → RoseBy 0 a a
 rose_by_none a = omega arith

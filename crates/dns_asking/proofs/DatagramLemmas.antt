@@ -1,5 +1,5 @@
 -- What the sends of a handle over datagrams come from.
-use Rattle.std.proofs.Common.{ℕ, ◌≡◌, ◌≤◌, ◌<◌, ◌*◌, ◌⊎◌, inl, inr, ◌∙◌, false, List, ◌∷◌, ◌++◌, length, Option, Some, Ok, Err, refl, sym, ap, subst, arith, length-append}
+use Rattle.std.proofs.Common.{ℕ, ◌≡◌, ◌≤◌, ◌<◌, inl, inr, ◌∙◌, List, ◌∷◌, length, Option, Ok, Err, refl, sym, ap, subst, arith, length-append}
 use Rattle.dns_model.specs.Counts.{Rose, RoseBy}
 use Rattle.dns_model.specs.Names.{wire}
 use Rattle.dns_model.specs.Records.{Question}
@@ -19,9 +19,9 @@ use Rattle.dns_link.specs.Moved.{DatagramValue}
 use Rattle.dns_datagrams.specs.declared.acceptance.Accepted.{Accepted}
 use Rattle.dns_datagrams.specs.declared.acceptance.Accepted.TheVariants.{Undecodable}
 use Rattle.dns_sockets.specs.Met.{DialerView, HasMet, dialer_view}
-use Rattle.dns_udp.specs.ClientStreams.{IsBuilt, asked_of, plain_builder}
-use Rattle.dns_udp.specs.Conversations.{Ends, EndsByOne, EndsInVain, tick, most_ignored}
-use Rattle.dns_udp.specs.Exchanges.{Exchanged, IsExchangeOf, Parts, parts_of, under_id}
+use Rattle.dns_udp.specs.ClientStreams.{asked_of, plain_builder}
+use Rattle.dns_udp.specs.Conversations.{Ends, EndsByOne, EndsInVain}
+use Rattle.dns_udp.specs.Exchanges.{Exchanged, IsExchangeOf, parts_of, under_id}
 use Rattle.dns_udp.specs.Requests.{AskedValue}
 use Rattle.dns_udp.specs.declared.exchange.UdpExchange.{UdpExchange}
 use Rattle.dns_evidence.specs.declared.verifier.Verifier as verifier
@@ -31,7 +31,7 @@ use Rattle.dns_lookup.specs.Calls.{ask_of_call, first_ask_of_call}
 use Rattle.dns_flow.specs.Phases.{judged_ask}
 use Rattle.dns_asking.specs.Lookups.{LooksUp, call_over}
 use Rattle.dns_asking.specs.declared.inquiry.Inquiry.{Inquiry}
-use Rattle.dns_asking.proofs.AnswerLemmas.{Observes, lookup_caused}
+use Rattle.dns_asking.proofs.AnswerLemmas.{lookup_caused}
 use Rattle.dns_asking.specs.Causes.{AnswerCause, FailedOrEnded, HasCome, IsUndecodable}
 use Rattle.dns_asking.proofs.CountLemmas.{rises_one, rises_rose}
 use Rattle.dns_asking.proofs.RequestLemmas.{first_request, never_long, never_mismatched, undecodable_message}
@@ -152,28 +152,29 @@ module _ {D R : Type 0} (counts : D → CountsValue) (given : D → Option (List
   send_later request old new reply sent =
       rises_rose 0 _ sent.talk.met.gots _ (omega arith) sent.talk.has_met.counts.gots
 
-  -- each answer of a lookup by datagrams has its cause
-  pub datagrams_caused : {V : Type 0} (meanings : handle.Ghosts (UdpExchange D R)) (tests : verifier.Ghosts V)
-      (inquiry : Inquiry V)
-      → ((old new : UdpExchange D R) (request : RequestValue) (now : ℕ) (reply : Reply)
-      → meanings.requested old request now new reply
-      → Exchanged counts given ids ports (parts_of old) (parts_of new) request reply)
-      → (server : SocketAddr) (dial : D) (draws : R) (first last : UdpExchange D R) (reply : Reply)
-      → length (wire inquiry.query.owner) ≤ 255 → IsExchangeOf (plain_builder server) dial draws first
-      → LooksUp meanings tests inquiry first last reply
-      → AnswerCause Udp (dialer_view counts given dial) (dialer_in last) reply
-  datagrams_caused meanings tests inquiry carries server dial draws first last reply short made looked =
-      lookup_caused meanings (call_over tests inquiry first last) Udp (dialer_view counts given dial) dialer_in
-      (record { first = first_of; later = later_of }) reply looked
-    where
-      first_of : (to : UdpExchange D R) (heard : Reply)
-          → first_ask_of_call meanings (call_over tests inquiry first last) first (judged_ask inquiry.query) to heard
-          → AnswerCause Udp (dialer_view counts given dial) (dialer_in to) heard
-      first_of to heard sent =
-          first_cause inquiry.query inquiry.depth server dial draws first to heard short made
-          (carries first to _ _ heard sent.carried)
+  module _ {V : Type 0} (meanings : handle.Ghosts (UdpExchange D R)) (tests : verifier.Ghosts V)
+      (inquiry : Inquiry V) where
+    -- each answer of a lookup by datagrams has its cause
+    pub datagrams_caused : ((old new : UdpExchange D R) (request : RequestValue) (now : ℕ) (reply : Reply)
+        → meanings.requested old request now new reply
+        → Exchanged counts given ids ports (parts_of old) (parts_of new) request reply)
+        → (server : SocketAddr) (dial : D) (draws : R) (first last : UdpExchange D R) (reply : Reply)
+        → length (wire inquiry.query.owner) ≤ 255 → IsExchangeOf (plain_builder server) dial draws first
+        → LooksUp meanings tests inquiry first last reply
+        → AnswerCause Udp (dialer_view counts given dial) (dialer_in last) reply
+    datagrams_caused carries server dial draws first last reply short made looked =
+        lookup_caused meanings (call_over tests inquiry looked.kept first last) Udp (dialer_view counts given dial)
+        dialer_in (record { first = first_of; later = later_of }) reply looked.is
+      where
+        first_of : (to : UdpExchange D R) (heard : Reply)
+            → first_ask_of_call meanings (call_over tests inquiry looked.kept first last) first
+            (judged_ask inquiry.query) to heard
+            → AnswerCause Udp (dialer_view counts given dial) (dialer_in to) heard
+        first_of to heard sent =
+            first_cause inquiry.query inquiry.depth server dial draws first to heard short made
+            (carries first to _ _ heard sent.carried)
 
-      later_of : (from to : UdpExchange D R) (ask : Ask) (heard : Reply)
-          → ask_of_call meanings (call_over tests inquiry first last) from ask to heard
-          → RoseBy 0 (dialer_in from).counts.gots (dialer_in to).counts.gots
-      later_of from to ask heard sent = send_later _ from to heard (carries from to _ _ heard sent.carried)
+        later_of : (from to : UdpExchange D R) (ask : Ask) (heard : Reply)
+            → ask_of_call meanings (call_over tests inquiry looked.kept first last) from ask to heard
+            → RoseBy 0 (dialer_in from).counts.gots (dialer_in to).counts.gots
+        later_of from to ask heard sent = send_later _ from to heard (carries from to _ _ heard sent.carried)

@@ -1,4 +1,5 @@
 pub mod CountLemmas
+pub mod LookupLemmas
 pub mod AnswerLemmas
 pub mod RequestLemmas
 pub mod DatagramLemmas

@@ -1,5 +1,5 @@
 -- The first request of a lookup isn't too long to be sent, under whatever id, and asks for no letters in another case.
-use Rattle.std.proofs.Common.{ℕ, ◌≡◌, ◌≤◌, ◌+◌, ◌&&◌, not, Bool, true, false, cond, List, [], ◌∷◌, ◌++◌, length, nat_le, Result, Ok, Err, if◌then◌else◌, refl, sym, ap, ◌∙◌, arith, length-append}
+use Rattle.std.proofs.Common.{ℕ, ◌≡◌, ◌≤◌, ◌+◌, ◌&&◌, not, Bool, true, false, List, [], ◌++◌, length, nat_le, Result, Ok, Err, if◌then◌else◌, arith, length-append}
 use Rattle.std.proofs.lemmas.Bool.{le-leb}
 use Rattle.std.specs.declared.net.socket_addr.SocketAddr.{SocketAddr}
 use Rattle.dns_model.specs.Bytes.{u16_bytes}
@@ -12,9 +12,8 @@ use Rattle.dns_message.specs.declared.encode_error.EncodeError.{EncodeError}
 use Rattle.dns_message.specs.declared.encode_error.EncodeError.TheVariants.{TooLong}
 use Rattle.dns_handle.specs.Requests.{RequestValue}
 use Rattle.dns_validation.specs.Requests.{asking_request}
-use Rattle.dns_datagrams.specs.Acceptance.{accepted, accepted_message, accepted_reading, is_addressed}
+use Rattle.dns_datagrams.specs.Acceptance.{accepted, accepted_reading, is_addressed}
 use Rattle.dns_datagrams.specs.Questions.{asks_alike, spells_alike}
-use Rattle.dns_datagrams.specs.declared.acceptance.Accepted.{Accepted}
 use Rattle.dns_datagrams.specs.declared.acceptance.Accepted.TheVariants.{Ignored, Undecodable, CaseMismatch, Answer}
 use Rattle.dns_asking.specs.Lookups.{options_to}
 

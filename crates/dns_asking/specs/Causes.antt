@@ -1,5 +1,5 @@
 -- What each answer of a lookup over a server comes from, by what the dialer counted (RFC 1035, 4.2; RFC 4035, 4.3).
-use Rattle.std.specs.Prelude.{ℕ, ◌≡◌, ◌⊎◌, List, ◌∷◌, ◌++◌, Option, Ok, Err}
+use Rattle.std.specs.Prelude.{◌≡◌, ◌⊎◌, List, ◌∷◌, ◌++◌, Ok, Err}
 use Rattle.dns_model.specs.Counts.{Rose, RoseBy}
 use Rattle.dns_message.specs.MessageAt.{message_at}
 use Rattle.dns_message.specs.declared.decode_error.DecodeError.{DecodeError}

@@ -9,8 +9,8 @@ use Rattle.dns_handle.specs.Requests.{plain_options}
 use Rattle.dns_handle.specs.declared.request.DnsRequestOptions.{DnsRequestOptions}
 use Rattle.dns_handle.specs.declared.handle.DnsHandle as handle
 use Rattle.dns_validation.specs.Requests.{asking_request}
-use Rattle.dns_lookup.specs.Calls.{Call}
-use Rattle.dns_lookup.specs.Limiting.{default_iterations}
+use Rattle.dns_lookup.specs.Calls.{Call, CacheUse}
+use Rattle.dns_lookup.specs.Limiting.{default_iterations, default_ranges, IsFresh}
 use Rattle.dns_lookup.specs.Sending.{IsLookedUp}
 use Rattle.dns_asking.specs.declared.inquiry.Inquiry.{Inquiry}
 
@@ -18,20 +18,25 @@ use Rattle.dns_asking.specs.declared.inquiry.Inquiry.{Inquiry}
 abbrev pub options_to : ℕ → DnsRequestOptions
 options_to depth = record plain_options { max_request_depth = depth }
 
--- the lookup that is asked for, over a handle before it and after it: by these keys and this verifier, at this moment
-abbrev pub call_over : {H V : Type 0} → verifier.Ghosts V → Inquiry V → H → H → Call H
-call_over tests inquiry old new = record {
+-- the lookup that is asked for, over a handle before it and after it: by these keys and this verifier, at this moment, with this use of a
+-- cache
+abbrev pub call_over : {H V : Type 0} → verifier.Ghosts V → Inquiry V → CacheUse → H → H → Call H
+call_over tests inquiry kept old new = record {
   judge = judge (tests.answers inquiry.verifier) inquiry.anchors inquiry.moment;
   query = inquiry.query;
   request = asking_request inquiry.query (options_to inquiry.depth);
   options = options_to inquiry.depth;
   iterations = default_iterations;
+  ranges = default_ranges;
   now = inquiry.moment;
   old = old;
   new = new;
+  cache = kept;
 }
 
--- all that a lookup promises of its sends and its answer, unless memory ran out
-abbrev pub LooksUp : {H V : Type 0} → handle.Ghosts H → verifier.Ghosts V → Inquiry V → H → H → Reply → Type 0
-LooksUp meanings tests inquiry old new reply =
-    Unless seen.NoMemory reply (IsLookedUp meanings (call_over tests inquiry old new) reply)
+-- all that a lookup promises of its sends and its answer, from a cache that was made for it, unless memory ran out
+pub record LooksUp {H V : Type 0} (meanings : handle.Ghosts H) (tests : verifier.Ghosts V) (inquiry : Inquiry V)
+    (old new : H) (reply : Reply) : Type 0 where
+  pub kept : CacheUse
+  pub fresh : IsFresh kept
+  pub is : Unless seen.NoMemory reply (IsLookedUp meanings (call_over tests inquiry kept old new) reply)

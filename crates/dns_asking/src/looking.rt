@@ -6,7 +6,7 @@ ghost use Rattle.dns_asking.specs.Lookups.{LooksUp, options_to};
 use crate::inquiry::Inquiry;
 use dns_evidence::Verifier;
 use dns_handle::{DnsHandle, DnsRequestOptions, DnsResponse, NetError};
-use dns_lookup::DnssecDnsHandle;
+use dns_lookup::{DnssecDnsHandle, default_cache};
 use dns_name::NoMemory;
 use std::alloc::Global;
 
@@ -43,7 +43,13 @@ pub(crate) fn look_up<H: DnsHandle + Drop, V: Verifier + Drop>(
         verifier,
         moment,
     } = inquiry;
-    let Ok(made) = DnssecDnsHandle::new(handle, anchors, verifier) else {
+    let Ok(cache) = default_cache(alloc) else {
+        return LookupEnd {
+            reply: Err(NetError::NoMemory),
+            handle,
+        };
+    };
+    let Ok(made) = DnssecDnsHandle::with_cache(handle, anchors, verifier, cache) else {
         unreachable!()
     };
     let mut validator = made;

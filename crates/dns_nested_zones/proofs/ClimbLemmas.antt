@@ -23,7 +23,7 @@ use Rattle.dns_handle.specs.Handles.{reply_to}
 use Rattle.dns_flow.specs.Phases.{Marked, Trying, NeedsDs}
 use Rattle.dns_validation.specs.Machine.{Terms}
 use Rattle.dns_validation.specs.Requests.{asking_request}
-use Rattle.dns_lookup.specs.Limiting.{default_iterations}
+use Rattle.dns_lookup.specs.Limiting.{default_iterations, default_ranges}
 use Rattle.dns_nested_zones.specs.NestedZones.{zone_name, host_name, key_record, ds_record, host_record, host_question, record_of, message_with, signature_by, signature_record, upstream, judge_of_zones, deep_options, moment}
 use Rattle.dns_nested_zones.proofs.ToldLemmas.{zone_labels, keys_reply, ds_reply, host_reply}
 use Rattle.dns_nested_zones.proofs.PairLemmas.{Pair, IsPlainPair, answered, question_for, told_of, pair_set, placed_pair, judged_pair, chained_pair, pair_sets, pair_judged, pair_own, pair_starts, pair_asks, pair_after, pair_links, pair_given}
@@ -40,6 +40,7 @@ bench_terms n = record {
   request = asking_request (host_question n) deep_options;
   options = deep_options;
   iterations = default_iterations;
+  ranges = default_ranges;
   now = moment;
 }
 

@@ -15,11 +15,15 @@ use Rattle.dns_handle.specs.declared.error.NetError.{NetError}
 use Rattle.dns_handle.specs.declared.request.DnsRequestOptions.{DnsRequestOptions}
 use Rattle.dns_handle.specs.declared.handle.DnsHandle as handle
 use Rattle.dns_validation.specs.Requests.{asking_request}
-use Rattle.dns_lookup.specs.Calls.{Call, Asking, inner_of, anchors_of, iterations_of, call_of}
+use Rattle.dns_cache.specs.CacheLists.{CountedList}
+use Rattle.dns_cache.specs.Expiry.{TtlRangesValue}
+use Rattle.dns_cache.specs.declared.validation_cache.ValidationCache as cache
+use Rattle.dns_lookup.specs.Caching.{UsesCache}
+use Rattle.dns_lookup.specs.Calls.{Call, CacheUse, Asking, inner_of, anchors_of, iterations_of, ranges_of, cache_of, use_of, call_of}
 use Rattle.dns_lookup.specs.Causes.{HasItsCause, PassesOn, ForeignNamed, AnswersTold}
 use Rattle.dns_lookup.specs.Completing.{Completes}
 use Rattle.dns_lookup.specs.Fronts.{terms_of_call, IsFront}
-use Rattle.dns_lookup.specs.Limiting.{default_iterations}
+use Rattle.dns_lookup.specs.Limiting.{default_iterations, default_ranges, IsFresh}
 use Rattle.dns_lookup.specs.LookupAnswers.{UnlessNoMemory, OfAnswer, IsSoundAnswer, IsTrail, IsExplained, ShowsItsDenial, DeniesQuery}
 use Rattle.dns_lookup.specs.Sending.{IsLookedUp}
 use Rattle.dns_lookup.specs.Sends.{SendsFor}
@@ -32,31 +36,38 @@ use Rattle.dns_nested_zones.specs.Parts.{LooksUpBelow, IsCounted}
 -- ---- the call
 
 -- a lookup at the moment, by these parts
-abbrev call_with : {H : Type 0} → ListedValue → List AnchorValue → IterationLimits → Question → DnsRequestOptions
-    → H → H → Call H
-call_with listed trusted iterations q options old new = record {
+abbrev call_with : {H : Type 0} → ListedValue → List AnchorValue → IterationLimits → TtlRangesValue → Question
+    → DnsRequestOptions → H → H → CacheUse → Call H
+call_with listed trusted iterations ranges q options old new cache = record {
   judge = judge (answers_of listed) trusted moment;
   query = q;
   request = asking_request q options;
   options = options;
   iterations = iterations;
+  ranges = ranges;
   now = moment;
   old = old;
   new = new;
+  cache = cache;
 }
 
-pub same_call : {H : Type 0} (n : ℕ) (old new : DnssecDnsHandle H ListedValue) (q : Question)
-    (options : DnsRequestOptions)
+pub same_call : {H : Type 0} (caches : cache.Ghosts CountedList) (n : ℕ)
+    (old new : DnssecDnsHandle H ListedValue CountedList) (q : Question) (options : DnsRequestOptions)
     → LooksUpBelow n old q → options ≡ deep_options
-    → call_of tests.ghosts old new q options moment ≡ bench_call n (inner_of old) (inner_of new)
-same_call {H} n old new q options is deep =
+    → call_of tests.ghosts caches old new q options moment
+    ≡ bench_call n (inner_of old) (inner_of new) (use_of caches (cache_of old) (cache_of new))
+same_call {H} caches n old new q options is deep =
     let from = inner_of old in
     let to = inner_of new in
-    ap (λ l. call_with l (anchors_of old) (iterations_of old) q options from to) is.verifier
-    ∙ ap (λ a. call_with (verifier n) a (iterations_of old) q options from to) is.anchors
-    ∙ ap (λ i. call_with (verifier n) anchors i q options from to) is.iterations
-    ∙ ap (λ x. call_with (verifier n) anchors default_iterations x options from to) is.query
-    ∙ ap (λ o. call_with (verifier n) anchors default_iterations (host_question n) o from to) deep
+    let kept = use_of caches (cache_of old) (cache_of new) in
+    let limits = iterations_of old in
+    let ranges = ranges_of old in
+    ap (λ l. call_with l (anchors_of old) limits ranges q options from to kept) is.verifier
+    ∙ ap (λ a. call_with (verifier n) a limits ranges q options from to kept) is.anchors
+    ∙ ap (λ i. call_with (verifier n) anchors i ranges q options from to kept) is.iterations
+    ∙ ap (λ r. call_with (verifier n) anchors default_iterations r q options from to kept) is.ranges
+    ∙ ap (λ x. call_with (verifier n) anchors default_iterations default_ranges x options from to kept) is.query
+    ∙ ap (λ o. call_with (verifier n) anchors default_iterations default_ranges (host_question n) o from to kept) deep
 
 -- ---- its clauses
 
@@ -65,10 +76,11 @@ pub record Promised {H : Type 0} (meanings : handle.Ghosts H) (call : Call H)
     (result : Result ResponseValue NetError) : Type 0 where
   pub sends : OrUnsent call.old call.new result
       (SendsFor (Asking meanings call.options call.now) call.old call.new call.query)
-  pub front : IsFront meanings (terms_of_call call) call.old call.new (reply_of result)
+  pub front : IsFront meanings (terms_of_call call) call.cache call.old call.new (reply_of result)
   pub sound : OfAnswer (reply_of result) (λ a ending. IsSoundAnswer meanings call a)
   pub trail : OfAnswer (reply_of result) (λ a ending. IsTrail meanings call a.trail ending)
-  pub explained : OfAnswer (reply_of result) (λ a ending. IsExplained call.judge.answers call.now a)
+  pub cached : OfAnswer (reply_of result) (λ a ending. UsesCache call a.trail)
+  pub explained : OfAnswer (reply_of result) (λ a ending. IsExplained call.judge.answers call.cache.before call.now a)
   pub denies : IfOk result (λ a. ShowsItsDenial call.now call.query a)
   pub denied : DeniesQuery call.query (reply_of result)
   pub caused : HasItsCause meanings call (reply_of result)
@@ -89,11 +101,12 @@ if_ok : (result : Result ResponseValue NetError) (Fact : ResponseValue → Type 
 if_ok (Ok a) Fact fact = fact
 if_ok (Err e) Fact fact = fact
 
-looked : {H : Type 0} (meanings : handle.Ghosts H) (n : ℕ) (old new : H) (result : Result ResponseValue NetError)
-    → Promised meanings (bench_call n old new) result
+looked : {H : Type 0} (meanings : handle.Ghosts H) (n : ℕ) (old new : H) (kept : CacheUse)
+    (result : Result ResponseValue NetError)
+    → Promised meanings (bench_call n old new kept) result
     → SendsFor (Asking meanings deep_options moment) old new (host_question n)
-    → IsLookedUp meanings (bench_call n old new) (reply_of result)
-looked meanings n old new result p sent = record {
+    → IsLookedUp meanings (bench_call n old new kept) (reply_of result)
+looked meanings n old new kept result p sent = record {
   sends = record {
     middle = sent.middle;
     reply = sent.reply;
@@ -105,6 +118,7 @@ looked meanings n old new result p sent = record {
   front = p.front;
   sound = p.sound;
   trail = p.trail;
+  cached = p.cached;
   explained = p.explained;
   denies = if_ok result (λ a. ShowsItsDenial moment (host_question n) a) p.denies;
   denied = p.denied;
@@ -115,37 +129,43 @@ looked meanings n old new result p sent = record {
   completes = unless_seen result _ p.completes;
 }
 
-looked_up : {H : Type 0} (meanings : handle.Ghosts H) (n : ℕ) (old new : H) (result : Result ResponseValue NetError)
-    → Promised meanings (bench_call n old new) result
-    → UnlessNoMemory result (IsLookedUp meanings (bench_call n old new) (reply_of result))
-looked_up meanings n old new (Ok a) p = looked meanings n old new (Ok a) p p.sends
-looked_up meanings n old new (Err e) p = elim (p.sends) [
-  | inl sent ↦ inr (looked meanings n old new (Err e) p sent)
+looked_up : {H : Type 0} (meanings : handle.Ghosts H) (n : ℕ) (old new : H) (kept : CacheUse)
+    (result : Result ResponseValue NetError)
+    → Promised meanings (bench_call n old new kept) result
+    → UnlessNoMemory result (IsLookedUp meanings (bench_call n old new kept) (reply_of result))
+looked_up meanings n old new kept (Ok a) p = looked meanings n old new kept (Ok a) p p.sends
+looked_up meanings n old new kept (Err e) p = elim (p.sends) [
+  | inl sent ↦ inr (looked meanings n old new kept (Err e) p sent)
   | inr none ↦ inl none.0
 ]
 
 -- ---- how it ends
 
-ends_by : {H : Type 0} (meanings : handle.Ghosts H) (n : ℕ) (old new : H) (answer : Result ResponseValue NetError)
-    (result : Result BenchCount NetError)
-    → UnlessNoMemory answer (IsLookedUp meanings (bench_call n old new) (reply_of answer))
+ends_by : {H : Type 0} (meanings : handle.Ghosts H) (n : ℕ) (old new : H) (kept : CacheUse)
+    (answer : Result ResponseValue NetError) (result : Result BenchCount NetError)
+    → IsFresh kept → UnlessNoMemory answer (IsLookedUp meanings (bench_call n old new kept) (reply_of answer))
     → IsCounted (host_question n) answer result
     → EndsBench meanings n old (Some new) result
-ends_by meanings n old new (Ok a) (Ok count) is counted = Counted new a count is counted
-ends_by meanings n old new (Ok a) (Err f) is counted = absurd counted
-ends_by meanings n old new (Err e) (Ok count) is counted = absurd counted
-ends_by meanings n old new (Err e) (Err f) (inl none) same =
+ends_by meanings n old new kept (Ok a) (Ok count) fresh is counted = Counted new kept a count fresh is counted
+ends_by meanings n old new kept (Ok a) (Err f) fresh is counted = absurd counted
+ends_by meanings n old new kept (Err e) (Ok count) fresh is counted = absurd counted
+ends_by meanings n old new kept (Err e) (Err f) fresh (inl none) same =
     subst (λ x. EndsBench meanings n old (Some new) (Err x)) (sym (same ∙ none)) (OutOfMemory (Some new))
-ends_by meanings n old new (Err e) (Err f) (inr is) same =
-    subst (λ x. EndsBench meanings n old (Some new) (Err x)) (sym same) (Failed new e is)
+ends_by meanings n old new kept (Err e) (Err f) fresh (inr is) same =
+    subst (λ x. EndsBench meanings n old (Some new) (Err x)) (sym same) (Failed new kept e fresh is)
 
-pub ends_bench : {H : Type 0} (meanings : handle.Ghosts H) (n : ℕ) (old new : DnssecDnsHandle H ListedValue)
-    (q : Question) (options : DnsRequestOptions) (answer : Result ResponseValue NetError)
-    (result : Result BenchCount NetError)
-    → LooksUpBelow n old q → options ≡ deep_options
-    → Promised meanings (call_of tests.ghosts old new q options moment) answer
-    → IsCounted (host_question n) answer result → EndsBench meanings n (inner_of old) (Some (inner_of new)) result
-ends_bench meanings n old new q options answer result is deep p counts =
-    let promised = subst (λ call. Promised meanings call answer) (same_call n old new q options is deep) p in
-    ends_by meanings n (inner_of old) (inner_of new) answer result
-    (looked_up meanings n (inner_of old) (inner_of new) answer promised) counts
+module _ {H : Type 0} (meanings : handle.Ghosts H) (caches : cache.Ghosts CountedList) (n : ℕ) where
+  pub ends_bench : (old new : DnssecDnsHandle H ListedValue CountedList) (q : Question)
+      (options : DnsRequestOptions) (answer : Result ResponseValue NetError) (result : Result BenchCount NetError)
+      → ((c : CountedList) → caches.told c ≡ Some c.list)
+      → LooksUpBelow n old q → options ≡ deep_options
+      → Promised meanings (call_of tests.ghosts caches old new q options moment) answer
+      → IsCounted (host_question n) answer result
+      → EndsBench meanings n (inner_of old) (Some (inner_of new)) result
+  ends_bench old new q options answer result tells is deep p counts =
+      let kept = use_of caches (cache_of old) (cache_of new) in
+      let fresh : IsFresh kept = tells (cache_of old) ∙ ap (λ (c : CountedList). Some c.list) is.cache in
+      let promised =
+      subst (λ call. Promised meanings call answer) (same_call caches n old new q options is deep) p in
+      ends_by meanings n (inner_of old) (inner_of new) kept answer result fresh
+      (looked_up meanings n (inner_of old) (inner_of new) kept answer promised) counts

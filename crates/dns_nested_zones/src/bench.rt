@@ -18,7 +18,7 @@ use crate::upstream::{bench_replies, question_of};
 use crate::zone::Zone;
 use dns_evidence::{Chain, Listed};
 use dns_handle::{DnsHandle, DnsRequestOptions, DnsResponse, NetError};
-use dns_lookup::DnssecDnsHandle;
+use dns_lookup::{DnssecDnsHandle, default_cache};
 use dns_model::Proof;
 use dns_name::NoMemory;
 use dns_record::{Query, Record};
@@ -205,10 +205,18 @@ fn look_up<H: DnsHandle + Drop>(alloc: Global, handle: H, parts: Parts) -> Bench
         query,
         counted,
     } = parts;
-    match DnssecDnsHandle::new(handle, anchors, verifier) {
-        Ok(validator) => count_lookup(alloc, validator, query, &counted),
+    match default_cache(alloc) {
+        Ok(cache) => {
+            match DnssecDnsHandle::with_cache(handle, anchors, verifier, cache) {
+                Ok(validator) => count_lookup(alloc, validator, query, &counted),
+                Err(NoMemory) => BenchEnd {
+                    handle: None,
+                    result: Err(NetError::NoMemory),
+                },
+            }
+        }
         Err(NoMemory) => BenchEnd {
-            handle: None,
+            handle: Some(handle),
             result: Err(NetError::NoMemory),
         },
     }

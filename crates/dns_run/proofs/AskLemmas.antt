@@ -13,6 +13,7 @@ use Rattle.dns_lookup.specs.LookupAnswers.{IsSoundAnswer}
 use Rattle.dns_sockets.specs.Met.{dialer_view}
 use Rattle.dns_asking.specs.Causes.{AnswerCause}
 use Rattle.dns_asking.specs.Lookups.{call_over}
+use Rattle.dns_lookup.specs.Calls.{CacheUse}
 use Rattle.dns_asking.specs.Servers.{Network, AsksServer, ByDatagrams, OverConnection, Unreached, Reached}
 use Rattle.dns_asking.specs.declared.address.ServerAddress.{ServerAddress}
 use Rattle.dns_asking.specs.declared.inquiry.Inquiry.{Inquiry}
@@ -38,9 +39,9 @@ judged_at s now inquiry is =
     ∙ judge_plain (at_moment now s) (answers_of inquiry.verifier) inquiry.anchors is.verifier is.anchors
 
 sound_by : {H : Type 0} (meanings : handle.Ghosts H) (s : SessionValue) (now : ℕ) (inquiry : Inquiry ListedValue)
-    (old new : H) (a : ResponseValue) → IsInquiryOf s now inquiry
-    → IsSoundAnswer meanings (call_over listed.ghosts inquiry old new) a → IsSoundAt s now a
-sound_by meanings s now inquiry old new a is sound = record {
+    (kept : CacheUse) (old new : H) (a : ResponseValue) → IsInquiryOf s now inquiry
+    → IsSoundAnswer meanings (call_over listed.ghosts inquiry kept old new) a → IsSoundAt s now a
+sound_by meanings s now inquiry kept old new a is sound = record {
   message = sound.message;
   sound =
       subst (λ m. Sound (session_judge (at_moment now s)) m (told_by sound.message) a) is.moment
@@ -53,11 +54,11 @@ module _ {D L R : Type 0} (network : Network D L R) (server : ServerAddress) (s 
       → IsInquiryOf s now inquiry → AsksServer network listed.ghosts server inquiry draws old new (Ok a) protocol
       → IsSoundAt s now a
   sound_at protocol inquiry draws a is (ByDatagrams at of asked) =
-      sound_by network.by_datagrams s now inquiry asked.first asked.last a is asked.looked.sound
+      sound_by network.by_datagrams s now inquiry asked.looked.kept asked.first asked.last a is asked.looked.is.sound
   sound_at protocol inquiry draws a is (OverConnection at of (Unreached refused)) =
       absurd (let no = refused.refused in cc)
   sound_at protocol inquiry draws a is (OverConnection at of (Reached asked)) =
-      sound_by network.over_connection s now inquiry asked.first asked.last a is asked.looked.sound
+      sound_by network.over_connection s now inquiry asked.looked.kept asked.first asked.last a is asked.looked.is.sound
 
   -- a status and a text of what a server answered
   pub answered_over : (protocol : Protocol) (inquiry : Inquiry ListedValue) (draws : R) (reply : Reply) (status : ℕ)
@@ -110,7 +111,8 @@ module _ {D L R : Type 0} (network : Network D L R) (protocol : Protocol) (serve
     (bytes : List ℕ) where
   pub asked_wrote : (text : List ℕ) (expected status : ℕ) (before now : Option (List ℕ))
       → ServerEnds network protocol server (session_of bytes) old new expected text → status ≡ expected
-      → Appends before now text → Wrote before now (ServerEnds network protocol server (session_of bytes) old new status)
+      → Appends before now text
+      → Wrote before now (ServerEnds network protocol server (session_of bytes) old new status)
   asked_wrote text expected status before now ends same written = record {
     text = text;
     fact = subst (λ n. ServerEnds network protocol server (session_of bytes) old new n text) (sym same) ends;

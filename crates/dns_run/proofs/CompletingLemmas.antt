@@ -1,5 +1,5 @@
 -- How a run over a valid session ends, out of what it says of its statuses.
-use Rattle.std.proofs.Common.{ℕ, ◌≡◌, ◌∙◌, List, Option, None, Some, Ok, sym, ap, subst}
+use Rattle.std.proofs.Common.{ℕ, ◌≡◌, ◌∙◌, List, [], Option, None, Some, Ok, refl, sym, ap, subst}
 use Rattle.std.specs.Option.{option_map_or}
 use Rattle.dns_model.specs.SoundAnswers.{Told}
 use Rattle.dns_model.specs.Trails.{AskedValue, EndingValue, Answered, Denied}
@@ -30,7 +30,7 @@ session_proved : (s : SessionValue) (trail : List AskedValue) (ending : EndingVa
     → IsProved (session_judge s) (session_replies s) s.query trail ending
 session_proved s trail ending valid is =
     replies_prove (session_judge s) (session_replies s)
-    (session_limits s) s.query trail is.top ending is.derived is.last is.query is.ends is.from valid
+    (session_limits s) [] s.query trail is.top ending is.derived refl is.last is.query is.ends is.from valid
 
 -- the records that a valid session replies to its query
 session_reply_of : (s : SessionValue) → IsValid s → HasReply (first_told (session_replies s)) s.query

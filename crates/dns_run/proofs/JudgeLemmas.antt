@@ -1,4 +1,5 @@
--- A session's judge is that of its plain lists: that a key is added once, an algorithm once and algorithm 1 never changes no
+-- A session's judge is that of its plain lists: that a key is added once, an algorithm once and algorithm 1 never
+-- changes no
 -- answer.
 use Rattle.std.proofs.Common.{ℕ, ◌≡◌, ◌⊎◌, ◌∙◌, Bool, true, false, cond, ◌&&◌, ◌||◌, List, [], ◌∷◌, ◌++◌, Option, None, Some, refl, sym, ap, ap₂, inl, inr, append_assoc, append-nil}
 use Rattle.std.specs.Prelude.{not, ◌==◌, nat_eq}
@@ -103,7 +104,8 @@ entry_out entry sought one is = ap (λ e. not (e.algorithm == 1)) (entry_same so
 accepts_after : (listed : ListedValue) (entry : AcceptedSignatureValue) (more : List AcceptedSignatureValue)
     (sought : AcceptedSignatureValue) (out : Bool)
     → (entry.algorithm == 1) ≡ out
-    → accepts_in ((cond out listed (record listed { accepted = listed.accepted ++ entry ∷ [] })).accepted ++ more) sought
+    → accepts_in
+    ((cond out listed (record listed { accepted = listed.accepted ++ entry ∷ [] })).accepted ++ more) sought
     ≡ accepts_in (listed.accepted ++ entry ∷ more) sought
 unfolding accepts_in
 accepts_after listed entry more sought true is =
@@ -195,16 +197,21 @@ anchor_out : (trusted : List AnchorValue) (a : AnchorValue) (owner : Labels) (n 
 anchor_out trusted a owner n key there is =
     let one = and_parts (name_eq owner a.owner) ((n == a.algorithm) && bytes_eq key a.key) is in
     let two = and_parts (n == a.algorithm) (bytes_eq key a.key) one.1 in
-    ap (λ name. list_any (λ (x : AnchorValue). pointwise (pointwise nat_eq) name (folded x.owner) && ((n == x.algorithm) && bytes_eq key x.key)) trusted)
+    ap (λ name. list_any
+    (λ (x : AnchorValue). pointwise (pointwise nat_eq) name (folded x.owner) &&
+    ((n == x.algorithm) && bytes_eq key x.key)) trusted)
     ((name_eq-Decides owner a.owner).0 one.0)
-    ∙ ap (λ k. list_any (λ (x : AnchorValue). name_eq a.owner x.owner && ((k == x.algorithm) && bytes_eq key x.key)) trusted) (eqb-true n a.algorithm two.0)
+    ∙ ap (λ k. list_any
+    (λ (x : AnchorValue). name_eq a.owner x.owner && ((k == x.algorithm) && bytes_eq key x.key)) trusted)
+    (eqb-true n a.algorithm two.0)
     ∙ ap (λ k. holds_anchor trusted a.owner a.algorithm k) ((bytes_eq-Decides key a.key).0 two.1)
     ∙ there
 
 anchor_after : (trusted : List AnchorValue) (a : AnchorValue) (more : List AnchorValue) (owner : Labels) (n : ℕ)
     (key : List ℕ) (out : Bool)
     → holds_anchor trusted a.owner a.algorithm a.key ≡ out
-    → holds_anchor (cond out trusted (trusted ++ a ∷ []) ++ more) owner n key ≡ holds_anchor (trusted ++ a ∷ more) owner n key
+    → holds_anchor (cond out trusted (trusted ++ a ∷ []) ++ more) owner n key ≡ holds_anchor
+    (trusted ++ a ∷ more) owner n key
 anchor_after trusted a more owner n key true is =
     skipped true (is_anchor owner n key) trusted a more (λ same. inr (anchor_out trusted a owner n key is same))
 anchor_after trusted a more owner n key false is = ap (λ xs. holds_anchor xs owner n key) (put trusted a more)

@@ -20,11 +20,14 @@ use Rattle.dns_validation.specs.Received.{received_message, received}
 use Rattle.dns_handle.specs.declared.request.DnsRequestOptions.{DnsRequestOptions}
 use Rattle.dns_evidence.specs.declared.limits.IterationLimits.{IterationLimits}
 use Rattle.dns_evidence.specs.declared.verifier.Verifier as verifier
+use Rattle.dns_cache.specs.CacheLists.{CountedList}
+use Rattle.dns_cache.specs.declared.validation_cache.ValidationCache as cache
 use Rattle.dns_recorded.specs.Recording.{RecordedValue, replies_of}
 use Rattle.dns_evidence.specs.Listing.{ListedValue, answers_of}
 use Rattle.dns_lookup.specs.declared.handle.DnssecDnsHandle.{DnssecDnsHandle}
-use Rattle.dns_lookup.specs.Calls.{Call, inner_of, anchors_of, verifier_of, iterations_of, limits_of_call, call_of}
-use Rattle.dns_lookup.specs.Limiting.{default_iterations}
+use Rattle.dns_lookup.specs.Calls.{Call, inner_of, anchors_of, verifier_of, iterations_of, cache_of, limits_of_call, call_of}
+use Rattle.dns_lookup.specs.Limiting.{default_iterations, default_entries, IsFresh}
+use Rattle.dns_lookup.proofs.FrontLemmas.{fresh_serves, fresh_none}
 use Rattle.dns_lookup.specs.Sends.{IsFromReplies}
 use Rattle.dns_lookup.specs.Causes.{PassedOn, PassesOn, NamesForeign, ForeignNamed, HasItsCause, AnswersTold}
 use Rattle.dns_lookup.specs.LookupAnswers.{UnlessNoMemory, OfAnswer, IsSoundAnswer, IsTrail, HasMarksOfTrail, IsExplained, ShowsItsDenial, DeniesQuery}
@@ -47,6 +50,7 @@ pub record IsSessionCall {H : Type 0} (meanings : handle.Ghosts H) (s : SessionV
   pub limits : limits_of_call call ≡ session_limits s
   pub moment : call.now ≡ s.moment
   pub told : meanings.told call.old ≡ Some (session_replies s)
+  pub fresh : IsFresh call.cache
 
 -- ---- its trail, its soundness
 
@@ -56,7 +60,10 @@ pub session_trail : {H : Type 0} (meanings : handle.Ghosts H) (s : SessionValue)
 session_trail meanings s call trail ending c is = record {
   derived =
       ap (λ j. derivation j (session_limits s) [] trail) (sym c.judge)
-      ∙ ap (λ limits. derivation call.judge limits [] trail) (sym c.limits) ∙ is.derived;
+      ∙ ap (λ limits. derivation call.judge limits [] trail) (sym c.limits)
+      ∙ ap (λ cached. derivation call.judge (limits_of_call call) cached trail)
+      (sym (fresh_serves call.cache.before call.now is.cached c.fresh is.kept))
+      ∙ is.derived;
   top = is.top;
   last = is.last;
   query = is.query ∙ c.query;
@@ -105,7 +112,7 @@ session_sound meanings s call a c is =
 pub record SaysOf {H : Type 0} (meanings : handle.Ghosts H) (call : Call H) (answer : Reply) : Type 0 where
   pub sound : OfAnswer answer (λ a ending. IsSoundAnswer meanings call a)
   pub trail : OfAnswer answer (λ a ending. IsTrail meanings call a.trail ending)
-  pub explained : OfAnswer answer (λ a ending. IsExplained call.judge.answers call.now a)
+  pub explained : OfAnswer answer (λ a ending. IsExplained call.judge.answers call.cache.before call.now a)
   pub denies : IfOk answer (λ a. ShowsItsDenial call.now call.query a)
   pub denied : DeniesQuery call.query answer
   pub caused : HasItsCause meanings call answer
@@ -114,12 +121,14 @@ pub record SaysOf {H : Type 0} (meanings : handle.Ghosts H) (call : Call H) (ans
 session_response : {H : Type 0} (meanings : handle.Ghosts H) (s : SessionValue) (call : Call H) (a : ResponseValue)
     (ending : EndingValue)
     → IsSessionCall meanings s call → IsSoundAnswer meanings call a → IsTrail meanings call a.trail ending
-    → IsExplained call.judge.answers call.now a → IsSessionAnswer s a ending
+    → IsExplained call.judge.answers call.cache.before call.now a → IsSessionAnswer s a ending
 session_response meanings s call a ending c sound trail explained = record {
   sound = session_sound meanings s call a c sound;
   trail = session_trail meanings s call a.trail ending c trail;
   marks = subst (λ now. HasMarksOfTrail now a) c.moment explained.marks;
-  grounds = subst (λ j. HasGrounds j.answers a.trail) c.judge explained.grounds;
+  grounds =
+      subst (λ j. HasGrounds j.answers a.trail) c.judge
+      (explained.grounds (fresh_none call.cache.before call.now c.fresh));
   denials = explained.denials;
 }
 
@@ -209,16 +218,18 @@ error_cause meanings s call Timeout c says own =
     passed_cause meanings s call _ c own (says.caused.passed _ refl refl)
 error_cause meanings s call QueryCaseMismatch c says own =
     passed_cause meanings s call _ c own (says.caused.passed _ refl refl)
-error_cause meanings s call (ForeignClassRecord owner class rtype) c says own = elim (says.caused.foreign owner class rtype refl) [
-  | inl p ↦ passed_cause meanings s call _ c own p
-  | inr names ↦ foreign_cause meanings s call _ c names
-]
+error_cause meanings s call (ForeignClassRecord owner class rtype) c says own =
+    elim (says.caused.foreign owner class rtype refl) [
+      | inl p ↦ passed_cause meanings s call _ c own p
+      | inr names ↦ foreign_cause meanings s call _ c names
+    ]
 error_cause meanings s call Truncated c says own =
     passed_cause meanings s call _ c own (says.caused.passed _ refl refl)
 error_cause meanings s call seen.NoMemory c says own = absurd (own refl)
 
 session_caused : {H : Type 0} (meanings : handle.Ghosts H) (s : SessionValue) (call : Call H) (answer : Reply)
-    → IsSessionCall meanings s call → SaysOf meanings call answer → (e : ErrorValue) → answer ≡ Err e → e ≢ seen.NoMemory
+    → IsSessionCall meanings s call → SaysOf meanings call answer → (e : ErrorValue) → answer ≡ Err e
+    → e ≢ seen.NoMemory
     → FaultCause s e
 session_caused meanings s call answer c says e is own =
     error_cause meanings s call e c (subst (λ x. SaysOf meanings call x) is says) own
@@ -275,27 +286,33 @@ answers_session meanings s call (Err e) c says (inr known) =
     inr (session_known meanings s call (reply_of (Err e)) c says known)
 
 -- what a lookup answered, over the handle, the keys and the verifier that were made of a session
-pub answers_looked : (meanings : handle.Ghosts RecordedValue) (tests : verifier.Ghosts ListedValue) (s : SessionValue)
-    (old new : DnssecDnsHandle RecordedValue ListedValue) (q : Question) (options : DnsRequestOptions) (now : ℕ)
-    (result : Result ResponseValue NetError)
-    → meanings.told (inner_of old) ≡ Some (replies_of (inner_of old))
-    → tests.answers (verifier_of old) ≡ answers_of (verifier_of old)
-    → inner_of old ≡ recorded_by s.by_turn s.replies → anchored (anchors_of old) ≡ anchored s.anchors
-    → answers_of (verifier_of old) ≡ answers_of (listing s.algorithms s.accepts) → q ≡ s.query
-    → iterations_of old ≡ default_iterations → options ≡ record plain_options { max_request_depth = session_depth s }
-    → now ≡ s.moment
-    → SaysOf meanings (call_of tests old new q options now) (reply_of result)
-    → UnlessNoMemory result (Known (meanings.told (inner_of old)) q (reply_of result))
-    → UnlessNoMemory result (AnswersSession s (reply_of result))
-answers_looked meanings tests s old new q options now result told tested over by listed asked counted deep timed says known =
-    answers_session meanings s (call_of tests old new q options now) result
-    (record {
-      judge = ap (λ n. judge (tests.answers (verifier_of old)) (anchors_of old) n) timed
-          ∙ judge_plain s (tests.answers (verifier_of old)) (anchors_of old) (tested ∙ listed) by;
-      query = asked;
-      limits = ap (λ (o : DnsRequestOptions). limits_by o.max_request_depth (iterations_of old)) deep
-          ∙ ap (limits_by (session_depth s)) counted;
-      moment = timed;
-      told = told ∙ ap (λ u. Some (replies_of u)) over;
-    })
-    says known
+module _ (meanings : handle.Ghosts RecordedValue) (tests : verifier.Ghosts ListedValue)
+    (caches : cache.Ghosts CountedList) (s : SessionValue) where
+  pub answers_looked : (old new : DnssecDnsHandle RecordedValue ListedValue CountedList) (q : Question)
+      (options : DnsRequestOptions) (now : ℕ) (result : Result ResponseValue NetError)
+      → meanings.told (inner_of old) ≡ Some (replies_of (inner_of old))
+      → tests.answers (verifier_of old) ≡ answers_of (verifier_of old)
+      → inner_of old ≡ recorded_by s.by_turn s.replies → anchored (anchors_of old) ≡ anchored s.anchors
+      → answers_of (verifier_of old) ≡ answers_of (listing s.algorithms s.accepts) → q ≡ s.query
+      → iterations_of old ≡ default_iterations → options ≡ record plain_options { max_request_depth = session_depth s }
+      → now ≡ s.moment
+      → caches.told (cache_of old) ≡ Some ((cache_of old).list) → (cache_of old).list ≡ default_entries
+      → SaysOf meanings (call_of tests caches old new q options now) (reply_of result)
+      → UnlessNoMemory result (Known (meanings.told (inner_of old)) q (reply_of result))
+      → UnlessNoMemory result (AnswersSession s (reply_of result))
+  answers_looked old new q options now result told tested over by listed asked counted deep timed tells empty says
+      known =
+      answers_session meanings s (call_of tests caches old new q options now) result
+      (record {
+        judge =
+            ap (λ n. judge (tests.answers (verifier_of old)) (anchors_of old) n) timed
+            ∙ judge_plain s (tests.answers (verifier_of old)) (anchors_of old) (tested ∙ listed) by;
+        query = asked;
+        limits =
+            ap (λ (o : DnsRequestOptions). limits_by o.max_request_depth (iterations_of old)) deep
+            ∙ ap (limits_by (session_depth s)) counted;
+        moment = timed;
+        told = told ∙ ap (λ u. Some (replies_of u)) over;
+        fresh = tells ∙ ap (λ l. Some l) empty;
+      })
+      says known

@@ -21,7 +21,9 @@ recorded_reply : (replies : List ReplyValue) (q : Question)
 unfolding reply_to
 recorded_reply [] q = refl
 recorded_reply (r ∷ rs) q =
-    elim (question_eq r.question q) as (λ b. cond b (reply_from r.kind) (reply_to (map recorded rs) q) ≡ told_by_reply (cond b (Some r) (find (λ reply. question_eq reply.question q) rs))) [
+    elim (question_eq r.question q) as
+    (λ b. cond b (reply_from r.kind) (reply_to (map recorded rs) q) ≡ told_by_reply
+    (cond b (Some r) (find (λ reply. question_eq reply.question q) rs))) [
       | true ↦ refl
       | false ↦ recorded_reply rs q
     ]

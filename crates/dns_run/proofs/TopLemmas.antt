@@ -84,4 +84,5 @@ trail_foreign s trail ending records r is told found =
     ap (is_foreign r) (sym t.ends)
     ∙ foreign_ends t.before t.step records (foreign_record t.step.query records) r
     (ap (λ q. foreign_record q records) t.query ∙ found)
-    (records_judged t.before t.step (says_none (session_told s)) (session_records s) records t.judged t.heard told t.holds)
+    (records_judged t.before t.step (says_none (session_told s))
+    (session_records s) records t.judged t.heard told t.holds)

@@ -1,21 +1,28 @@
-use Rattle.std.proofs.Common.{Some, sym, subst}
+use Rattle.std.proofs.Common.{Some, refl, sym, subst}
+use Rattle.dns_cache.specs.CacheLists.{CountedList}
+use Rattle.dns_cache.specs.declared.validation_cache.ValidationCache as cache
 use Rattle.dns_lookup.specs.Calls.{inner_of}
 use Rattle.dns_nested_zones.specs.Benches.{EndsBench}
 use Rattle.dns_nested_zones.specs.Parts.{IsCounted}
 use Rattle.dns_nested_zones.proofs.EndLemmas.{ends_bench}
 use Rattle.dns_nested_zones.proofs.bench.count_lookup.Goals as goal
 
+-- what its cache tells
+abbrev kept : cache.Ghosts CountedList
+kept = record { hits = λ c. c.hits; told = λ c. Some c.list }
+
 pub returns : goal.returns
 returns g c = λ n is counting.
     subst (λ h. EndsBench g.H.DnsHandle n (inner_of c.args.validator) (Some h) c.counted_of-result.result)
     (sym c.into_inner.ensures)
-    (ends_bench g.H.DnsHandle n c.args.validator c.lookup-answer.new.self c.args.query c.deep_options.result
-    c.lookup-answer.result c.counted_of-result.result is c.deep_options.ensures
+    (ends_bench g.H.DnsHandle kept n c.args.validator c.lookup-answer.new.self c.args.query c.deep_options.result
+    c.lookup-answer.result c.counted_of-result.result (λ cache. refl) is c.deep_options.ensures
     (record {
       sends = c.lookup-answer.ensures.sends;
       front = c.lookup-answer.ensures.front;
       sound = c.lookup-answer.ensures.sound;
       trail = c.lookup-answer.ensures.trail;
+      cached = c.lookup-answer.ensures.cached;
       explained = c.lookup-answer.ensures.explained;
       denies = c.lookup-answer.ensures.denies;
       denied = c.lookup-answer.ensures.denied;

@@ -1,15 +1,22 @@
-use Rattle.std.proofs.Common.{refl}
+use Rattle.std.proofs.Common.{Some, refl}
+use Rattle.dns_cache.specs.CacheLists.{CountedList}
+use Rattle.dns_cache.specs.declared.validation_cache.ValidationCache as cache
 use Rattle.dns_recorded.specs.contracts.recorded.RecordedDnsHandle.TheImpl as upstream
 use Rattle.dns_evidence.specs.contracts.listed.ListedVerifier.TheImpl as tests
 use Rattle.dns_run.proofs.LookupLemmas.{reply_ok, all_known, answers_looked}
 use Rattle.dns_run.proofs.answering.session_answer.Goals as goal
 
+-- what its cache tells
+abbrev kept : cache.Ghosts CountedList
+kept = record { hits = λ c. c.hits; told = λ c. Some c.list }
+
 pub returns : goal.returns
 returns c =
     let made = c.in_ok-made.made in
     let is = c.in_ok-made.ensures in
-    answers_looked upstream.ghosts tests.ghosts c.args.session made.validator c.lookup-answer.new.self made.query made.options made.moment
-    c.lookup-answer.result refl refl is.upstream is.anchors is.verifier is.query is.iterations is.options is.moment
+    answers_looked upstream.ghosts tests.ghosts kept c.args.session made.validator c.lookup-answer.new.self made.query
+    made.options made.moment c.lookup-answer.result refl refl is.upstream is.anchors is.verifier is.query
+    is.iterations is.options is.moment refl is.cache
     (record {
       sound = c.lookup-answer.ensures.sound;
       trail = c.lookup-answer.ensures.trail;

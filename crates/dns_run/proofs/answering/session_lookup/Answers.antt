@@ -12,6 +12,7 @@ returns c =
           ap answers_of c.in_ok-validator.ensures.verifier ∙ c.in_ok-verifier.ensures
           ∙ ap (λ algorithms. answers_of (listing algorithms c.session.inside.accepts.items)) c.deref.ensures.value;
       iterations = search rules;
+      cache = search rules;
       query = search rules;
       options = search rules;
       moment = search rules;

@@ -4,5 +4,6 @@ use Rattle.dns_run.proofs.answering.session_verifier.Goals as goal
 
 pub returns : goal.returns
 returns c =
-    listed_made c.new-verifier.result c.add_algorithms.new.verifier c.add_accepts.new.verifier c.args.algorithms.now c.args.accepts.items
+    listed_made c.new-verifier.result c.add_algorithms.new.verifier c.add_accepts.new.verifier c.args.algorithms.now
+    c.args.accepts.items
     (search rules) (search rules) (search rules)

@@ -10,5 +10,6 @@ returns-clause-ends g c = λ low.
 pub returns-clause-prefix : goal.returns-clause-prefix
 returns-clause-prefix g c =
     all_prefix _ c.args.asking.protocol c.args.asking.server c.args.asking.dial c.ask_bytes-ending.result.dial
-    c.args.bytes.now (λ x. x.0) (λ x. x.1.items) c.ask_bytes-ending.result.ending g.W.Sink.taken _ _ c.ask_bytes-ending.ensures.ends
+    c.args.bytes.now (λ x. x.0)
+    (λ x. x.1.items) c.ask_bytes-ending.result.ending g.W.Sink.taken _ _ c.ask_bytes-ending.ensures.ends
     c.write_ending-status.ensures.prefix
