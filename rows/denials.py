@@ -231,7 +231,7 @@ def unsigned_soa_above_the_name():
 
 def unsigned_soa_beside_the_name():
     """where its owner isn't above the name, the zone of the name is searched for"""
-    says = ["denial absent insecure", "last ending absent insecure 4 5 7", "asks 9"]
+    says = ["denial absent insecure", "last ending absent insecure 4 5 6", "asks 8"]
     return no_records_of_an_unsigned_zone(Record(OTHERS, SOA, SOA_RDATA)), says, TRAIL
 
 

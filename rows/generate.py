@@ -190,7 +190,7 @@ def asks_that_are_refused():
     for place, owner in enumerate(owners):
         asks = [number if number < nested else "many" for number in range(1 + 8 * place, 9 + 8 * place)]
         heard.append(texts.judged("additional", owner, A, "bogus", "-", asks))
-    trail = [*(texts.keys_step([KEY]) for _ in range(nested)), texts.step(0, ROOT, NS, heard, "none")]
+    trail = [texts.keys_step([KEY]), *[texts.keys_step([KEY], "repeat-0")] * (nested - 1), texts.step(0, ROOT, NS, heard, "none")]
     return session, texts.report(lines, chain_by_one_key(servers), trail), 0, b"validate\ntrail\n"
 
 

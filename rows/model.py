@@ -3,7 +3,8 @@
 
     python3 rows/model.py SESSION          the report or the fault line
     python3 rows/model.py SESSION trail    with the trail
-    python3 rows/model.py                  compares the rows and the examples that are looked up, and names those that differ"""
+    python3 rows/model.py                  compares the rows and the examples that are looked up, also with the number of asks that the
+                                           README of the examples says, and names those that differ"""
 import glob
 import hashlib
 import os
@@ -15,7 +16,7 @@ import hashes
 import reading
 import report
 from answers import is_set, secure_nsecs
-from reading import dnskey_of, ds_of, folded, is_above, num_labels, rrsig_of, shown, type_word
+from reading import dnskey_of, ds_of, folded, is_above, num_labels, rrsig_in, rrsig_of, shown, type_word
 from report import BOGUS, INSECURE, SECTIONS, SIGNED, anchored_link, matched_link, signed_link, with_key_set
 
 FOLDER = os.path.dirname(os.path.realpath(__file__))
@@ -34,7 +35,7 @@ class Set:
     def __init__(self, section, first):
         self.section, self.owner, self.kind = section, first.owner, first.kind
         self.records, self.signatures = [], []
-        self.mark, self.place, self.asks, self.chain = BOGUS, None, [], None
+        self.mark, self.place, self.asks, self.chain, self.repeats = BOGUS, None, [], None, None
 
     def secure(self, place, chain):
         self.mark, self.place, self.chain = SIGNED, place, chain
@@ -42,8 +43,16 @@ class Set:
     def insecure(self, place=None):
         self.mark, self.place = INSECURE, place
 
+    def repeat(self, number, kept):
+        """As the step of this number found it."""
+        self.mark, self.place, self.chain, self.repeats = kept.mark, kept.place, kept.chain, number
+
     def rdatas(self):
         return [record.rdata.hex() or "-" for record in self.records]
+
+    def key(self):
+        """By what a cache knows it, beside the question: its records and signatures, but for their ttls."""
+        return tuple(tuple((*record[:3], record.rdata) for record in records) for records in (self.records, self.signatures))
 
 
 class Step:
@@ -55,6 +64,10 @@ class Step:
 
     def is_question(self, name, kind):
         return self.kind == kind and folded(self.name) == folded(name)
+
+    def has_failed(self):
+        """It has no answer; where NS records alone are looked for, nothing came."""
+        return self.message is None or (self.purpose == "judged" and not is_answered(self))
 
 
 def sets_of(message):
@@ -107,7 +120,7 @@ class Lookup:
     """One lookup over a session, with the steps in the order in which they end."""
 
     def __init__(self, session):
-        self.session, self.steps, self.sends, self.taken = session, [], 0, {}
+        self.session, self.steps, self.sends, self.taken, self.kept = session, [], 0, {}, {}
         # how often a verifier is asked
         self.questions = 0
         self.top = self.ask(0, "judged", *session.query)
@@ -133,6 +146,7 @@ class Lookup:
                 self.judge(step)
         step.number = len(self.steps)
         self.steps.append(step)
+        self.keep(step)
         return step
 
     def made(self, asks, *what):
@@ -150,7 +164,7 @@ class Lookup:
             asks.append("deep")
             return None
         asked = self.made(asks, step.depth + 1, "judged", name, kind)
-        return asked if asked and asked.ending.startswith(("none", "absent", "expanded")) else None
+        return asked if asked and is_answered(asked) else None
 
     def judge(self, step):
         for section in step.message.sections:
@@ -161,11 +175,37 @@ class Lookup:
         for rrset in sets_of(step.message):
             if step.depth == 0 or rrset.kind in JUDGED_BELOW:
                 step.sets.append(rrset)
+                if self.is_served(step, rrset):
+                    continue
                 if rrset.kind == DNSKEY:
                     self.mark_keys(step, rrset)
                 else:
                     self.mark_set(step, rrset)
         step.ending = answers.ending(step, lambda start: self.is_insecure(step, step.excuse, start))
+
+    # ---- what was kept
+
+    def is_served(self, step, rrset):
+        """A set that an earlier step kept for the same question has its mark (RFC 4035, 4.5). The chain of a Secure one is tested."""
+        number, kept = self.kept.get((folded(step.name), step.kind, rrset.key()), (None, None))
+        if kept is None:
+            return False
+        rrset.repeat(number, kept)
+        self.questions += len(signatures_in(rrset.chain)) if rrset.mark == SIGNED else 0
+        return True
+
+    def keep(self, step):
+        """What an ended step found is kept, unless an ask failed, or what was found by a signature holds for no second more."""
+        for rrset in step.sets:
+            found = rrset.mark == SIGNED or rrset.place is not None
+            lasts = rrset.records[0].ttl > 0 and all(self.seconds_left(sig) for sig in signatures_in(rrset.chain or [])) if found else True
+            failed = any(ask in ("deep", "many") or self.steps[ask].has_failed() for ask in rrset.asks)
+            if rrset.repeats is None and lasts and (found or not failed):
+                self.kept[folded(step.name), step.kind, rrset.key()] = (step.number, rrset)
+
+    def seconds_left(self, sig):
+        """No longer than the signature holds, nor than its own ttl (RFC 4035, 5.3.3)."""
+        return min(sig.ttl, (sig.expiration - self.session.moment) % 2**32)
 
     # ---- signatures
 
@@ -318,6 +358,15 @@ def may_sign(rrset, signature):
     return is_whole and (rrset.kind != NSEC3 or folded(rrset.owner[1:]) == folded(sig.signer))
 
 
+def is_answered(step):
+    return step.ending.startswith(("none", "absent", "expanded"))
+
+
+def signatures_in(chain):
+    """Those of its signed links."""
+    return [rrsig_in(bytes.fromhex(link.split(" ")[6])) for link in chain if link.startswith("signed ")]
+
+
 def counted_keys(keys):
     return first_of_each(filter(dnskey_of, keys.records), lambda key: dnskey_of(key).tag)
 
@@ -350,12 +399,25 @@ def stored_rows():
             yield place, [b"validate", b"trail"], read(path, b""), read(f"{place}.trail", b""), 0
 
 
+def miscounted():
+    """The examples that don't have as many asks as their README says."""
+    for line in read(f"{FOLDER}/../examples/README.md", b"").decode().split("\n"):
+        if line.startswith("| `") and ".session` |" in line:
+            name, asks = line.split("`")[1], line.split("|")[-2].strip()
+            made = len(Lookup(reading.session_in(read(f"{FOLDER}/../examples/{name}", b""))).steps)
+            if asks != str(made):
+                yield f"examples/{name}: {made} asks, and the README says {asks}"
+
+
 def main(words):
     if words:
         text, status = written(read(words[0], b""), [word.encode() for word in words])
         sys.stdout.buffer.write(text)
         return status
     wrong, count = 0, 0
+    for line in miscounted():
+        wrong += 1
+        print(line)
     for place, named, session, out, status in stored_rows():
         count += 1
         if written(session, named) != (out, status):

@@ -256,14 +256,17 @@ Ds = namedtuple("Ds", "tag algorithm digest_type digest")
 
 def rrsig_of(record):
     """RFC 4034, 3.1; None where the record can't be read so. `front` is all but the signature, the signer lower-cased."""
-    if record.kind != 46 or not record.rdata:
-        return None
-    reader = Reader(record.rdata)
+    return rrsig_in(record.rdata) if record.kind == 46 and record.rdata else None
+
+
+def rrsig_in(rdata):
+    """The same of rdata that can be read so."""
+    reader = Reader(rdata)
     sizes = (2, 1, 1, 4, 4, 4, 2)
     numbers = [reader.number(size) for size in sizes]
     signer = reader.name()
-    front = record.rdata[:18] + wire(folded(signer))
-    return Rrsig(*numbers, signer, record.rdata[reader.place:], front)
+    front = rdata[:18] + wire(folded(signer))
+    return Rrsig(*numbers, signer, rdata[reader.place:], front)
 
 
 def dnskey_of(record):

@@ -61,7 +61,8 @@ def step_lines(step):
                 yield f"told {told_words(section, record)} {record.ttl} {record.rdata.hex() or '-'}"
     for rrset in step.sets:
         place = "-" if rrset.place is None else rrset.place
-        words = (rrset.section, shown(rrset.owner), type_word(rrset.kind), rrset.mark, "table", place, *rrset.asks)
+        origin = "table" if rrset.repeats is None else f"repeat-{rrset.repeats}"
+        words = (rrset.section, shown(rrset.owner), type_word(rrset.kind), rrset.mark, origin, place, *rrset.asks)
         yield " ".join(["set", *map(str, words)])
     yield " ".join(["ending", step.ending, *map(str, step.excuse)])
 

@@ -171,9 +171,9 @@ def told(section, records):
     return [f"told {section} {shown(one.owner)} IN {type_word(one.kind)} {TTL} {one.rdata.hex()}" for one in records]
 
 
-def judged(section, owner, kind, mark, place, asks=()):
+def judged(section, owner, kind, mark, place, asks=(), origin="table"):
     """The line of a set that a step judged: the place of the signature that decided, and what its asks came to."""
-    return " ".join(["set", section, shown(owner), type_word(kind), mark, "table", place, *map(str, asks)])
+    return " ".join(["set", section, shown(owner), type_word(kind), mark, origin, place, *map(str, asks)])
 
 
 def step(depth, name, kind, heard, ending, purpose="judged"):
@@ -182,7 +182,7 @@ def step(depth, name, kind, heard, ending, purpose="judged"):
     return [f"step {depth} {purpose} {shown(name)} {type_word(kind)}", got, *(heard or []), f"ending {ending}"]
 
 
-def keys_step(keys):
+def keys_step(keys, origin="table"):
     """The step of an ask for the root's keys, which are anchored and unsigned."""
-    heard = [*told("answer", [Record([], DNSKEY, key) for key in keys]), judged("answer", [], DNSKEY, "secure", "-")]
+    heard = [*told("answer", [Record([], DNSKEY, key) for key in keys]), judged("answer", [], DNSKEY, "secure", "-", origin=origin)]
     return step(1, [], DNSKEY, heard, "none")

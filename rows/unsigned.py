@@ -212,7 +212,7 @@ def second_signature_is_insecure():
     answered(scene, [UNSIGNED], signed(scene, KEY, ROOT, "d0", False), signed(scene, KEYS[0], EXAMPLE, "d1", False),
              signed(scene, KEYS[0], EXAMPLE, "d2", True))
     insecure_zone(scene)
-    says = ["set answer www.example. A insecure table 1 0 3 6", "answer www.example. RRSIG insecure",
+    says = ["set answer www.example. A insecure table 1 0 3 4", "answer www.example. RRSIG insecure",
             "answer www.example. RRSIG indeterminate"]
     return scene.session(WWW, A), says, TRAIL
 
@@ -303,7 +303,7 @@ def wildcard_of_an_insecure_zone():
     """an answer with a wildcard's signature stands where the zone of the question is insecure, and its ending names the search"""
     scene = from_a_wildcard(Scene(), WWW, A, ADDRESS)
     insecure_zone(scene)
-    says = ["answer www.example. A insecure", "set answer www.example. A insecure table 0 2", "last ending none 3 4 6", "asks 8"]
+    says = ["answer www.example. A insecure", "set answer www.example. A insecure table 0 2", "last ending none 3 4 5", "asks 7"]
     return scene.session(WWW, A), says, TRAIL
 
 
@@ -319,7 +319,7 @@ def ds_from_a_wildcard():
     """for a DS the zone above is searched for"""
     scene = from_a_wildcard(Scene(), WWW, DS, UNKNOWN)
     insecure_zone(scene)
-    says = ["set answer www.example. DS insecure table 0 2", "last ending none 3 5", "no step 0 ns www.example. NS"]
+    says = ["set answer www.example. DS insecure table 0 2", "last ending none 3 4", "no step 0 ns www.example. NS"]
     return scene.session(WWW, DS), says, TRAIL
 
 
@@ -330,7 +330,7 @@ def insecure_servers_beside_an_answer():
     with_servers(scene)
     insecure_zone(scene)
     says = ["answer www.example. A insecure", "authority example. NS insecure", "set answer www.example. A insecure table 0 2",
-            "set authority example. NS insecure table - 3 5", ENDS_PLAIN]
+            "set authority example. NS insecure table - 3 4", ENDS_PLAIN]
     return scene.session(WWW, A), says, TRAIL
 
 

@@ -380,9 +380,10 @@ def questions_of_one_zone():
     of_other = Signed([Record([b"b"], A, ADDRESS)], KEY, b"\xda", OTHER)
     scene.accepts.extend(one.accept() for one in (by_key, *signed[1:]))
     scene.says(ROOT, NS, servers, [one.rrsig() for one in signed], authorities=expanded.section(), additionals=of_other.section())
-    # 9 asks of 4 questions each, and 2 for the first signature, 2 for the sixth, 1 for the eighth
+    # the first of 9 asks for the keys takes 4 questions, and each other one 1, for the chain that was kept; and 2 for the first
+    # signature, 2 for the sixth, 1 for the eighth
     says = ["answer . NS secure", "set answer . NS secure table 7 0 1 2 3 4 5 6 7", "set authority a. NSEC bogus table - 8",
-            "asks 10", "questions 41"]
+            "set answer . DNSKEY secure repeat-0 1", "asks 10", "questions 17"]
     return scene.session(ROOT, NS), says, TRAIL
 
 
@@ -400,9 +401,9 @@ def questions_of_a_walk():
     scene.delegates(EXAMPLE, [ds_of(EXAMPLE, one), ds_of(EXAMPLE, other)])
     scene.root()
     scene.accepts.extend([by_one.accept(), keys_by_one.accept()])
-    # each ask for the keys: 1 for the DS set, 2 for the signature that is refused and 1 for the good one. Of the address the first
-    # signature is refused for both copies, and the second is good by the first copy
-    says = ["answer www.example. A secure", "asks 7", "questions 11"]
+    # the first ask for the keys: 1 for the DS set, 2 for the signature that is refused and 1 for the good one. The second one: 2 for the
+    # chain that was kept. Of the address the first signature is refused for both copies, and the second is good by the first copy
+    says = ["answer www.example. A secure", "set answer example. DNSKEY secure repeat-2 1", "asks 5", "questions 9"]
     return scene.session(WWW, A), says, TRAIL
 
 
@@ -453,22 +454,25 @@ def four_hundred_copies_and_no_other():
 
 
 def ds_ask_past_the_last_send():
-    """42 sets with eight signatures that aren't accepted, three sends a signature, and further sets: the keys of the last one are
-    asked for by the 1,024th send, and their DS isn't."""
+    """127 sets with eight signatures that aren't accepted, each of which asks for the same keys, and further sets: the keys of the last
+    one's zone are asked for by the 1,024th send, and their DS isn't."""
     scene = Scene()
-    refused = [[b"n%d" % k, b"example"] for k in range(42)]
-    proved = [[b"m%d" % k, b"example"] for k in range(5)]
+    refused = [[b"n%d" % k, b"example"] for k in range(127)]
+    proved = [[b"m%d" % k, b"example"] for k in range(2)]
     parts = [scene.signed([Record(name, A, ADDRESS)], KEY, ROOT) for name in (WWW, OTHER)]
     for name in refused:
         records = [Record(name, A, ADDRESS)]
         parts.append([*records, *(Signed(records, KEYS[0], b"\xd0" + number(k, 1), EXAMPLE).rrsig() for k in range(8))])
     parts.extend(scene.signed([Record(name, A, ADDRESS)], KEYS[0], EXAMPLE) for name in proved)
+    parts.append(scene.signed([Record([b"m2", *OTHER], A, ADDRESS)], KEYS[1], OTHER))
     scene.says(WWW, A, *parts)
-    scene.has_keys(EXAMPLE, KEYS[:1], KEYS[0])
-    scene.delegates(EXAMPLE, [ds_of(EXAMPLE, KEYS[0])])
+    for zone, keys in ((EXAMPLE, KEYS[:1]), (OTHER, KEYS[1:2])):
+        scene.has_keys(zone, keys, keys[0])
+        scene.delegates(zone, [ds_of(zone, keys[0])])
     scene.root()
     session = scene.session(WWW, A)
-    says = ["asks 1024", "chains 6", bogus_by("many"), "answer m3.example. A secure", "answer m4.example. A bogus"]
+    says = ["asks 1024", "chains 4", "answer m1.example. A secure", "set answer other. DNSKEY bogus table - many",
+            "answer m2.other. A bogus"]
     return session, finds(session, says), 0
 
 
