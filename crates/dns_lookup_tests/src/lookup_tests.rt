@@ -174,7 +174,7 @@ pub(crate) fn handle_over(
     let mut upstream = upstream_over(alloc, recorded);
     put_replies(alloc, &mut upstream.replies, replies)?;
     let anchors = TrustAnchors::empty(alloc);
-    Ok(DnssecDnsHandle::with_trust_anchor(upstream, anchors, Listed::new(alloc))?)
+    Ok(DnssecDnsHandle::with_trust_anchor(alloc, upstream, anchors, Listed::new(alloc))?)
 }
 
 /// Looks the query up at 1000, with default options.

@@ -7,7 +7,11 @@
 #![tactic(auto)]
 
 #[cfg(test)]
+mod expiry_tests;
+#[cfg(test)]
 mod iteration_tests;
+#[cfg(test)]
+mod kept_tests;
 #[cfg(test)]
 mod library_tests;
 #[cfg(test)]

@@ -1,6 +1,8 @@
 //! A lookup with an upstream and a verifier of one's own. docs/LIBRARY.md shows this file up to the tests, as a program.
 use crate::rows::check_row;
-use dns_chain::{DnssecDnsHandle, IterationLimits, Judge, TrustAnchors, Validation, Verifier};
+use dns_chain::{
+    DnssecDnsHandle, IterationLimits, Judge, TrustAnchors, TtlRanges, Validation, Verifier, Wanted,
+};
 use dns_net::{
     DnsError, DnsHandle, DnsRequest, DnsRequestOptions, DnsResponse, Link, NetError, Trail,
 };
@@ -113,7 +115,7 @@ fn trust_root(alloc: Global, anchors: &mut TrustAnchors) -> Result<bool, NetErro
 fn validator_of(alloc: Global) -> Result<DnssecDnsHandle<Upstream, KeyItself>, NetError> {
     let mut anchors = TrustAnchors::empty(alloc);
     let _ = trust_root(alloc, &mut anchors)?;
-    Ok(DnssecDnsHandle::new(Upstream::default(), anchors, KeyItself)?)
+    Ok(DnssecDnsHandle::new(alloc, Upstream::default(), anchors, KeyItself)?)
 }
 
 /// Looks the root's name servers up at a moment.
@@ -123,14 +125,18 @@ fn look_up(alloc: Global, now: u64) -> Result<DnsResponse, NetError> {
     validator.lookup(alloc, query, DnsRequestOptions::default(), now)
 }
 
-/// Sends what a validation asks, and tells it the reply, until it asks nothing more.
+/// Sends what a validation asks, and tells it the reply, until it wants nothing more. Nothing is kept.
 fn drive(alloc: Global, validation: &mut Validation<'_, KeyItself>, now: u64) {
     let mut upstream = Upstream::default();
-    for _ in 0..1024_u32 {
-        let Some(asking) = validation.next() else {
-            return;
-        };
-        validation.answer(upstream.send(alloc, asking.request, now));
+    for _ in 0..10_000_u32 {
+        match validation.next() {
+            None => return,
+            Some(Wanted::Reply(asking)) => {
+                validation.answer(upstream.send(alloc, asking.request, now));
+            }
+            Some(Wanted::Entry(_key)) => validation.found(None),
+        }
+        let _ = validation.kept();
     }
 }
 
@@ -146,7 +152,7 @@ fn look_up_by_hand(alloc: Global, now: u64) -> Result<DnsResponse, NetError> {
     let query = query_of(alloc)?;
     let options = DnsRequestOptions::default();
     let limits = IterationLimits::DEFAULT;
-    let mut validation = Validation::new(alloc, judge, query, options, limits)?;
+    let mut validation = Validation::new(alloc, judge, query, options, limits, TtlRanges::new())?;
     drive(alloc, &mut validation, now);
     validation.into_answer().unwrap_or(Err(NetError::Timeout))
 }

@@ -1,15 +1,20 @@
 //! Trails of sets that are served from what was kept (RFC 4035, 4.5): the answer of a walk by DS is kept, and looked up again.
 use crate::trail_rows::{session_of, trusted_of};
 use crate::trail_sessions::{Given, text_of};
-use dns_cache::{CacheKey, Entry};
+use dns_cache::{CacheKey, Entry, ListCache, ValidationCache};
+use dns_chain::DnssecDnsHandle;
 use dns_evidence::{Asked, Reply, Trail};
 use dns_model::{MarkOrigin, Proof};
 use dns_name::NoMemory;
 use dns_net::DnsResponse;
 use dns_proof::RrsetProof;
 use dns_record::{Record, RecordSet};
-use dns_run::session_answer;
+use dns_run::{
+    session_anchors, session_answer, session_options, session_upstream, session_verifier,
+};
+use dns_session::Session;
 use dns_trail::check_trail;
+use dns_trust::TrustAnchors;
 use std::alloc::Global;
 use std::process::Abort;
 
@@ -44,8 +49,76 @@ fn kept_sets_serve(rt: HostRuntime) {
     }
 }
 
+#[test]
+fn kept_sets_serve_a_lookup(rt: HostRuntime) {
+    for row in ROWS {
+        check_lookup(&rt, rt.alloc(), row);
+    }
+    assert!(rt;
+        is_served(rt.alloc(), &ROWS[0], false) == Some(false),
+        "by other anchors"
+    );
+}
+
 fn check_row(rt: &impl Abort, alloc: Global, row: &Row) {
     assert!(rt; is_derivation(alloc, row) == Some(row.3), "{}", row.0);
+}
+
+fn check_lookup(rt: &impl Abort, alloc: Global, row: &Row) {
+    assert!(rt; is_served(alloc, row, true) == Some(row.3), "{}", row.0);
+}
+
+// Whether a lookup over a cache that holds what was kept serves the set from it, with the session's anchors or with none; else it judges
+// the set anew.
+fn is_served(alloc: Global, row: &Row, trusts: bool) -> Option<bool> {
+    let session = session_of(alloc, text_of(Given::WalkByDs))?;
+    let response = session_answer(alloc, session).ok()?;
+    let kept = kept_of(alloc, &response, row.1).ok()?;
+    let cache = holding(alloc, kept)?;
+    let answer = looked_up(alloc, cache, row.2, trusts)?;
+    is_from_cache(&answer.trail)
+}
+
+// Whether the first set of the last step is served from the cache; None where it repeats a step.
+fn is_from_cache(trail: &Trail) -> Option<bool> {
+    let set = trail.steps.last()?.sets.first()?;
+    match set.origin {
+        MarkOrigin::Cache => Some(true),
+        MarkOrigin::Table => Some(false),
+        MarkOrigin::Repeat(_) => None,
+    }
+}
+
+fn holding(alloc: Global, kept: Vec<Entry>) -> Option<ListCache> {
+    let mut cache = ListCache::new(alloc, 100);
+    for entry in kept {
+        cache.insert(alloc, entry).ok()?;
+    }
+    Some(cache)
+}
+
+fn looked_up(alloc: Global, cache: ListCache, moment: u64, trusts: bool) -> Option<DnsResponse> {
+    let Session {
+        by_turn,
+        moment: _,
+        depth,
+        algorithms,
+        anchors,
+        accepts,
+        query,
+        replies,
+    } = session_of(alloc, text_of(Given::WalkByDs))?;
+    let verifier = session_verifier(alloc, &algorithms, accepts).ok()?;
+    let anchors = if trusts {
+        session_anchors(alloc, anchors).ok()?
+    } else {
+        TrustAnchors::empty(alloc)
+    };
+    let upstream = session_upstream(alloc, by_turn, replies).ok()?;
+    let mut validator = DnssecDnsHandle::with_cache(upstream, anchors, verifier, cache).ok()?;
+    validator
+        .lookup(alloc, query, session_options(depth), moment)
+        .ok()
 }
 
 // Whether the trail of the second lookup is a derivation.

@@ -28,7 +28,7 @@ const MARKS: &[Row] = &[
     Row(
         "Insecure as Secure",
         Given::InsecureWildcard,
-        Turn::Step(7, StepTurn::Entry(0, EntryTurn::Mark(Proof::Secure))),
+        Turn::Step(6, StepTurn::Entry(0, EntryTurn::Mark(Proof::Secure))),
         false,
     ),
     Row(
@@ -91,7 +91,7 @@ const REPEATS: &[Row] = &[
         Given::InsecureWildcard,
         Turn::Step(
             5,
-            StepTurn::Entry(0, EntryTurn::Origin(MarkOrigin::Repeat(0))),
+            StepTurn::Entry(0, EntryTurn::Origin(MarkOrigin::Repeat(1))),
         ),
         true,
     ),
@@ -100,7 +100,7 @@ const REPEATS: &[Row] = &[
         Given::InsecureWildcard,
         Turn::Both(
             5,
-            StepTurn::Entry(0, EntryTurn::Origin(MarkOrigin::Repeat(0))),
+            StepTurn::Entry(0, EntryTurn::Origin(MarkOrigin::Repeat(1))),
             StepTurn::Ttl,
         ),
         true,
@@ -110,7 +110,7 @@ const REPEATS: &[Row] = &[
         Given::InsecureWildcard,
         Turn::Both(
             5,
-            StepTurn::Entry(0, EntryTurn::Origin(MarkOrigin::Repeat(0))),
+            StepTurn::Entry(0, EntryTurn::Origin(MarkOrigin::Repeat(1))),
             StepTurn::RecordType,
         ),
         false,
@@ -138,7 +138,7 @@ const REPEATS: &[Row] = &[
         Given::InsecureWildcard,
         Turn::Step(
             5,
-            StepTurn::Entry(0, EntryTurn::Origin(MarkOrigin::Repeat(1))),
+            StepTurn::Entry(0, EntryTurn::Origin(MarkOrigin::Repeat(0))),
         ),
         false,
     ),
@@ -153,7 +153,7 @@ const REPEATS: &[Row] = &[
         Given::InsecureWildcard,
         Turn::Both(
             5,
-            StepTurn::Entry(0, EntryTurn::Origin(MarkOrigin::Repeat(0))),
+            StepTurn::Entry(0, EntryTurn::Origin(MarkOrigin::Repeat(1))),
             StepTurn::Entry(0, EntryTurn::Mark(Proof::Bogus)),
         ),
         false,
@@ -265,15 +265,15 @@ const STEPS: &[Row] = &[
     Row(
         "an excuse dropped",
         Given::InsecureWildcard,
-        Turn::Step(7, StepTurn::Excuse(&[])),
+        Turn::Step(6, StepTurn::Excuse(&[])),
         false,
     ),
     Row(
         "an excuse in another order",
         Given::InsecureWildcard,
         Turn::Step(
-            7,
-            StepTurn::Excuse(&[AskRef::Step(4), AskRef::Step(3), AskRef::Step(6)]),
+            6,
+            StepTurn::Excuse(&[AskRef::Step(4), AskRef::Step(3), AskRef::Step(5)]),
         ),
         false,
     ),

@@ -8,4 +8,6 @@ mod driven_tests;
 #[cfg(test)]
 mod large_tests;
 #[cfg(test)]
+mod served_tests;
+#[cfg(test)]
 mod side_by_side_tests;

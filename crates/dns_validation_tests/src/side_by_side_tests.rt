@@ -1,5 +1,6 @@
 //! Validations side by side, which one upstream answers in any order: each gives what a lookup gives.
-use crate::driven_tests::session_of;
+use crate::driven_tests::{serves, session_of};
+use dns_cache::{ListCache, TtlRanges};
 use dns_evidence::{IterationLimits, Listed};
 use dns_handle::{DnsError, DnsHandle, DnsRequestOptions, DnsResponse, NetError};
 use dns_name::NoMemory;
@@ -10,7 +11,7 @@ use dns_run::{
 };
 use dns_session::Session;
 use dns_trust::{Judge, TrustAnchors};
-use dns_validation::Validation;
+use dns_validation::{Validation, Wanted};
 use std::alloc::Global;
 
 /// What a session trusts, before its query: keys, signatures and a moment.
@@ -97,21 +98,31 @@ fn world_of(alloc: Global, session: Session) -> Result<(World, Recorded), NoMemo
     Ok((world, upstream))
 }
 
+/// A validation, and what it keeps.
+#[derive(Drop)]
+struct Driven<'a> {
+    validation: Validation<'a, Listed>,
+    cache: ListCache,
+}
+
 /// A validation of what a session asks.
-fn begun<'a>(alloc: Global, world: &'a World, question: &str) -> Option<Validation<'a, Listed>> {
+fn begun<'a>(alloc: Global, world: &'a World, question: &str) -> Option<Driven<'a>> {
     let session = session_asking(alloc, question)?;
-    Validation::new(
+    let validation = Validation::new(
         alloc,
         judge_of(world),
         session.query,
         world.options,
         IterationLimits::DEFAULT,
+        TtlRanges::new(),
     )
-    .ok()
+    .ok()?;
+    let cache = ListCache::new(alloc, 1_000);
+    Some(Driven { validation, cache })
 }
 
 /// As many validations and some more, of one question after another.
-fn all_begun<'a>(alloc: Global, world: &'a World) -> Option<Vec<Validation<'a, Listed>>> {
+fn all_begun<'a>(alloc: Global, world: &'a World) -> Option<Vec<Driven<'a>>> {
     let mut all = Vec::new(alloc);
     for _ in 0..ROUNDS {
         for question in questions() {
@@ -121,19 +132,21 @@ fn all_begun<'a>(alloc: Global, world: &'a World) -> Option<Vec<Validation<'a, L
     Some(all)
 }
 
-/// One ask is made and answered; false where there is none, and then a further reply is let go.
-fn goes_on(
-    alloc: Global,
-    world: &World,
-    upstream: &mut Recorded,
-    validation: &mut Validation<'_, Listed>,
-) -> bool {
-    let Some(asked) = validation.next() else {
-        validation.answer(Err(NetError::Timeout));
-        return false;
-    };
-    validation.answer(upstream.send(alloc, asked.request, world.moment));
-    true
+/// One ask is made and answered, or one set served; false where it wants nothing, and then a further reply is let go.
+fn goes_on(alloc: Global, world: &World, upstream: &mut Recorded, driven: &mut Driven<'_>) -> bool {
+    let Driven { validation, cache } = driven;
+    if serves(
+        alloc,
+        upstream,
+        cache,
+        &world.verifier,
+        validation,
+        world.moment,
+    ) {
+        return true;
+    }
+    validation.answer(Err(NetError::Timeout));
+    false
 }
 
 /// The next of some numbers that a seed gives (Knuth, MMIX).
@@ -149,7 +162,7 @@ fn one_goes_on(
     alloc: Global,
     world: &World,
     upstream: &mut Recorded,
-    all: &mut Vec<Validation<'_, Listed>>,
+    all: &mut Vec<Driven<'_>>,
     asking: &mut Vec<usize>,
     number: u64,
 ) -> bool {
@@ -158,10 +171,10 @@ fn one_goes_on(
         return false;
     }
     let place = (number as usize) % count;
-    let Some(validation) = all.get_mut(asking[place]) else {
+    let Some(driven) = all.get_mut(asking[place]) else {
         return false;
     };
-    if !goes_on(alloc, world, upstream, validation) {
+    if !goes_on(alloc, world, upstream, driven) {
         asking.swap_remove(place);
     }
     true
@@ -172,7 +185,7 @@ fn drive(
     alloc: Global,
     world: &World,
     upstream: &mut Recorded,
-    all: &mut Vec<Validation<'_, Listed>>,
+    all: &mut Vec<Driven<'_>>,
     seed: u64,
     most: u32,
 ) -> Option<()> {
@@ -216,7 +229,11 @@ fn all_looked_up(alloc: Global) -> Option<Vec<Vec<u8>>> {
     Some(all)
 }
 
-fn answers(alloc: Global, validation: Validation<'_, Listed>, wanted: &[u8]) -> bool {
+fn answers(alloc: Global, driven: Driven<'_>, wanted: &[u8]) -> bool {
+    let Driven {
+        validation,
+        cache: _,
+    } = driven;
     let Some(answer) = validation.into_answer() else {
         return false;
     };
@@ -224,13 +241,13 @@ fn answers(alloc: Global, validation: Validation<'_, Listed>, wanted: &[u8]) -> 
 }
 
 /// Each answers what the lookup of its question did.
-fn all_answer(alloc: Global, all: Vec<Validation<'_, Listed>>, wanted: &Vec<Vec<u8>>) -> bool {
+fn all_answer(alloc: Global, all: Vec<Driven<'_>>, wanted: &Vec<Vec<u8>>) -> bool {
     let mut place = 0;
-    for validation in all {
+    for driven in all {
         let Some(text) = wanted.get(place) else {
             return false;
         };
-        if !answers(alloc, validation, text) {
+        if !answers(alloc, driven, text) {
             return false;
         }
         place = if place + 1 < wanted.len() {
@@ -264,11 +281,16 @@ fn a_hundred_validations_side_by_side_answer_as_lookups_do(rt: HostRuntime) {
 /// It is told that memory ran out: it asks nothing more, lets a further reply go, and answers that.
 fn ends_out_of_memory(alloc: Global) -> Option<bool> {
     let (world, mut upstream) = world_of(alloc, session_asking(alloc, FIRST)?).ok()?;
-    let mut validation = begun(alloc, &world, FIRST)?;
-    let goes = goes_on(alloc, &world, &mut upstream, &mut validation);
-    let asks = validation.next().is_some();
-    validation.answer(Err(NetError::NoMemory));
-    let goes_no_more = !goes_on(alloc, &world, &mut upstream, &mut validation);
+    let mut driven = begun(alloc, &world, FIRST)?;
+    let goes = goes_on(alloc, &world, &mut upstream, &mut driven)
+        && goes_on(alloc, &world, &mut upstream, &mut driven);
+    let asks = matches!(driven.validation.next(), Some(Wanted::Reply(_)));
+    driven.validation.answer(Err(NetError::NoMemory));
+    let goes_no_more = !goes_on(alloc, &world, &mut upstream, &mut driven);
+    let Driven {
+        validation,
+        cache: _,
+    } = driven;
     let ends = matches!(validation.into_answer(), Some(Err(NetError::NoMemory)));
     Some(goes && asks && goes_no_more && ends)
 }
