@@ -3,7 +3,7 @@
 
     python3 bench/cache.py [--turns NUMBER] [PROGRAM]
 
-PROGRAM is the built dns_cache_trial. Each key is a set of one address with a signature of 96 bytes. Each entry has a chain of six
+PROGRAM is the built dns_trial. Each key is a set of one address with a signature of 96 bytes. Each entry has a chain of six
 signed links, or none. A get finds its entry and copies it. An insert makes an entry whose key isn't there, and the least recently
 used one falls off. Beside them stands what making and letting go of an entry takes without a cache, and what the map that the cache
 stands on takes for the same keys. Times are those of the processor: the best run of some passes over all keys is taken off the best
@@ -17,7 +17,7 @@ import sys
 
 from passes import TOP, TURNS
 
-PROGRAM = os.path.join(TOP, "crates", "dns_cache_trial", "out", "dns_cache_trial")
+PROGRAM = os.path.join(TOP, "crates", "dns_trial", "out", "dns_trial")
 # how many passes over how many entries
 SIZES = {1_000: 400, 65_536: 6}
 LINKS = (6, 0)
@@ -65,11 +65,11 @@ class Measured:
 def main():
     words = argparse.ArgumentParser()
     words.add_argument("--turns", type=int, default=TURNS, help="of how many runs the best counts")
-    words.add_argument("program", nargs="?", default=PROGRAM, help="the built program dns_cache_trial")
+    words.add_argument("program", nargs="?", default=PROGRAM, help="the built program dns_trial")
     given = words.parse_args()
     path = os.path.abspath(given.program)
     if not os.access(path, os.X_OK):
-        sys.exit(f"no program at {path}: `rt run` in crates/dns_cache_trial builds it")
+        sys.exit(f"no program at {path}: `rt run` in crates/dns_trial builds it")
     rows = [(work, links) for work in WORKS for links in (LINKS if WORKS[work] else (0,))]
     measured = {(work, links, entries): Measured(words_of(path, work, entries, links), entries, passes)
                 for work, links in rows for entries, passes in SIZES.items()}

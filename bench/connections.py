@@ -3,7 +3,7 @@
 
     python3 bench/connections.py [PROGRAM]
 
-PROGRAM is the built dns_connection_trial. A hundred messages of 510 bytes, each behind its length, are read off a link in memory or written
+PROGRAM is the built dns_trial. A hundred messages of 510 bytes, each behind its length, are read off a link in memory or written
 to one. Beside them stands copying: the same link is read plainly, a frame a read, and each frame is copied into a vector of its own. Making the
 link is taken off. What counts is processor time: the best of nine runs of some passes is taken off the best of nine of twice as many.
 
@@ -17,7 +17,7 @@ import sys
 import passes
 from passes import TOP, TURNS, Timing, counts_of
 
-PROGRAM = os.path.join(TOP, "crates", "dns_connection_trial", "out", "dns_connection_trial")
+PROGRAM = os.path.join(TOP, "crates", "dns_trial", "out", "dns_trial")
 IN_MEMORY = ("made", "read", "copied", "written")
 OVER_SOCKETS = ("asked", "plain")
 LINKS = 5_000
@@ -37,10 +37,10 @@ def answered(path, work):
 
 def main():
     words = argparse.ArgumentParser()
-    words.add_argument("program", nargs="?", default=PROGRAM, help="the built program dns_connection_trial")
+    words.add_argument("program", nargs="?", default=PROGRAM, help="the built program dns_trial")
     path = os.path.abspath(words.parse_args().program)
     if not os.access(path, os.X_OK):
-        sys.exit(f"no program at {path}: `rt run` in crates/dns_connection_trial builds it")
+        sys.exit(f"no program at {path}: `rt run` in crates/dns_trial builds it")
     timings = {work: Timing([path, work], b"", ("done",), LINKS, passes.processor_seconds) for work in IN_MEMORY}
     runs = {work: [] for work in OVER_SOCKETS}
     for _ in range(TURNS):

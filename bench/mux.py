@@ -3,7 +3,7 @@
 
     python3 bench/mux.py [PROGRAM]
 
-PROGRAM is the built dns_mux_trial. An arrival is a response of 50 bytes that is decoded, waits and is taken. What counts is the
+PROGRAM is the built dns_trial. An arrival is a response of 50 bytes that is decoded, waits and is taken. What counts is the
 least processor time of nine runs; its start is less than a hundredth of a run. The status is 1 where an arrival costs more
 beside its decoding than is wanted, or more than twice as much with 1,000 live requests as with 32.
 """
@@ -13,7 +13,7 @@ import sys
 
 from passes import TOP, TURNS, counts_of, processor_seconds
 
-PROGRAM = os.path.join(TOP, "crates", "dns_mux_trial", "out", "dns_mux_trial")
+PROGRAM = os.path.join(TOP, "crates", "dns_trial", "out", "dns_trial")
 LIVE = (1, 32, 1_000)
 PASSES = 1_000_000
 # nanoseconds of an arrival beside its decoding
@@ -43,10 +43,10 @@ def measured(path):
 
 def main():
     words = argparse.ArgumentParser()
-    words.add_argument("program", nargs="?", default=PROGRAM, help="the built program dns_mux_trial")
+    words.add_argument("program", nargs="?", default=PROGRAM, help="the built program dns_trial")
     path = os.path.abspath(words.parse_args().program)
     if not os.access(path, os.X_OK):
-        sys.exit(f"no program at {path}: `rt run` in crates/dns_mux_trial builds it")
+        sys.exit(f"no program at {path}: `rt run` in crates/dns_trial builds it")
     best = measured(path)
     alone = best["decoded",]
     arrivals = {live: best["arrivals", str(live)] for live in LIVE}

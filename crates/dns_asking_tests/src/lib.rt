@@ -17,6 +17,8 @@ mod lookup_tests;
 #[cfg(test)]
 mod replying;
 #[cfg(test)]
+mod root;
+#[cfg(test)]
 mod run_tests;
 #[cfg(test)]
 mod runs;

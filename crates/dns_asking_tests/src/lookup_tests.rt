@@ -1,3 +1,5 @@
+//! Lookups over a connection to a server of this machine.
+use crate::root::{query, trusted};
 use crate::server::{listener, serve};
 use dns_evidence::Listed;
 use dns_exchange::TcpExchange;
@@ -6,51 +8,31 @@ use dns_link::SocketDialer;
 use dns_lookup::DnssecDnsHandle;
 use dns_model::Proof;
 use dns_mux::RandDraws;
-use dns_name::{Name, NoMemory, Octets};
-use dns_record::{DNSClass, Query, RecordType};
-use dns_trust::TrustAnchors;
+use dns_record::RecordType;
 use std::alloc::Global;
 use std::net::SocketAddr;
 use std::thread::join;
 
-/// The public key of the root.
-const KEY: &[u8] = b"\xaa\xbb";
-
-/// The bytes that its signature is over.
-const SIGNED: &[u8] = b"\0\x02\x0d\0\0\0\x0e\x10\0\0\x07\xd0\0\0\x03\x84\xae\xc9\0\
-    \0\0\x02\0\x01\0\0\x0e\x10\0\x03\x01a\0";
-
-/// The root's key alone is trusted.
-fn anchors(alloc: Global) -> Result<TrustAnchors, NoMemory> {
-    let mut anchors = TrustAnchors::empty(alloc);
-    anchors.insert_with_name(Name::root(alloc)?, 13, Octets::from_slice(alloc, KEY)?)?;
-    Ok(anchors)
-}
-
-/// The root's signature alone is accepted.
-fn verifier(alloc: Global) -> Result<Listed, NoMemory> {
-    let mut listed = Listed::new(alloc);
-    listed.support(13);
-    listed.accept(13, KEY, SIGNED, b"\xc0\xde")?;
-    Ok(listed)
-}
-
-/// What a validator over a handle answers to a query for the root's name servers.
-pub(crate) fn looked_up<H: DnsHandle + Drop>(
+/// What a validator answers to a query for the root's name servers.
+fn look_up<H: DnsHandle + Drop>(
     alloc: Global,
-    handle: H,
+    validator: &mut DnssecDnsHandle<H, Listed>,
 ) -> Result<DnsResponse, NetError> {
-    let query = Query {
-        name: Name::root(alloc)?,
-        query_type: RecordType::NS,
-        query_class: DNSClass::IN,
-    };
-    let mut validator = DnssecDnsHandle::new(handle, anchors(alloc)?, verifier(alloc)?)?;
+    let query = query(alloc)?;
     validator.lookup(alloc, query, DnsRequestOptions::default(), 1000)
 }
 
+/// The same of one over a handle.
+fn looked_up<H: DnsHandle + Drop>(alloc: Global, handle: H) -> Result<DnsResponse, NetError> {
+    let (anchors, verifier) = trusted(alloc)?;
+    let mut validator = DnssecDnsHandle::new(alloc, handle, anchors, verifier)?;
+    let answer = look_up(alloc, &mut validator);
+    drop(validator);
+    answer
+}
+
 /// Whether the first answer is a Secure set of name servers.
-pub(crate) fn is_secure(answer: &Result<DnsResponse, NetError>) -> bool {
+fn is_secure(answer: &Result<DnsResponse, NetError>) -> bool {
     match answer {
         Ok(response) => match response.message.answers.first() {
             Some(record) => {
@@ -62,23 +44,31 @@ pub(crate) fn is_secure(answer: &Result<DnsResponse, NetError>) -> bool {
     }
 }
 
+/// Whether a lookup over a handle is Secure.
+pub(crate) fn is_secure_over<H: DnsHandle + Drop>(alloc: Global, handle: H) -> bool {
+    let answer = looked_up(alloc, handle);
+    let held = is_secure(&answer);
+    drop(answer);
+    held
+}
+
 /// Whether a lookup over a connection to a server is Secure.
-fn ask(rt: &HostRuntime, server: SocketAddr) -> Result<bool, NetError> {
+fn ask(rt: &HostRuntime, server: SocketAddr) -> Option<bool> {
     let alloc = rt.alloc();
     let mut dial = SocketDialer::new(rt);
     let draws = RandDraws::from_seed(1);
-    let exchange = TcpExchange::connect(alloc, &mut dial, server, None, 5000, None, draws)?;
-    Ok(is_secure(&looked_up(alloc, exchange)))
+    let made = TcpExchange::connect(alloc, &mut dial, server, None, 5000, None, draws);
+    let exchange = made.ok()?;
+    Some(is_secure_over(alloc, exchange))
 }
 
 #[test]
 fn a_lookup_is_validated_over_loopback(rt: HostRuntime) {
     let alloc = rt.alloc();
     let made = listener(&rt);
-    assert!(rt; made.is_ok());
-    if let Ok((listener, addr)) = made {
+    assert!(rt; made.is_some());
+    if let Some((listener, addr)) = made {
         let (served, secure) = join(&rt, || serve(alloc, &listener), || ask(&rt, addr));
-        assert!(rt; matches!(served, Ok(2)));
-        assert!(rt; matches!(secure, Ok(true)));
+        assert!(rt; served == Some(2) && secure == Some(true));
     }
 }

@@ -2,19 +2,11 @@
 ghost use Rattle.std.specs.Prelude.{◌≡◌, None};
 ghost use Rattle.std.specs.Io.{ReadsAtMost, WritesAtMost};
 
+use crate::root::{KEY, SERVERS};
 use dns_handle::IoKind;
 use dns_link::{Counts, Datagrams, Dialer, Link};
 use std::alloc::Global;
 use std::net::SocketAddr;
-
-/// The root's name servers with their signature, behind length and id.
-const SERVERS: &[u8] = b"\x84\0\0\x01\0\x02\0\0\0\0\0\0\x02\0\x01\
-    \0\0\x02\0\x01\0\0\x0e\x10\0\x03\x01a\0\
-    \0\0\x2e\0\x01\0\0\x0e\x10\0\x15\0\x02\x0d\0\0\0\x0e\x10\0\0\x07\xd0\0\0\x03\x84\xae\xc9\0\xc0\xde";
-
-/// The root's key, behind length and id.
-const KEY: &[u8] = b"\x84\0\0\x01\0\x01\0\0\0\0\0\0\x30\0\x01\
-    \0\0\x30\0\x01\0\0\x0e\x10\0\x06\x01\x01\x03\x0d\xaa\xbb";
 
 /// A link that takes all that is written, and gives all that a read asks for of the reply.
 #[derive(Drop)]

@@ -1,41 +1,27 @@
-//! A server of the root: its name servers, signed, and its key.
+//! A server of the root over sockets of this machine.
+use crate::root::{KEY, SERVERS};
 use dns_handle::NetError;
 use dns_link::{Link, SocketLink, kind_of};
 use dns_mux::{BufDnsStreamHandle, SerialMessage};
 use dns_name::Octets;
 use dns_transport::{Feed, TcpStream};
 use std::alloc::Global;
-use std::io;
 use std::net::{SocketAddr, TcpListener, UdpSocket};
 use std::time::Duration;
 
-/// The root's name servers with their signature, behind the id.
-const SERVERS: &[u8] = b"\x84\0\0\x01\0\x02\0\0\0\0\0\0\x02\0\x01\
-    \0\0\x02\0\x01\0\0\x0e\x10\0\x03\x01a\0\
-    \0\0\x2e\0\x01\0\0\x0e\x10\0\x15\0\x02\x0d\0\0\0\x0e\x10\0\0\x07\xd0\0\0\x03\x84\xae\xc9\0\xc0\xde";
-
-/// The root's key, behind the id.
-const KEY: &[u8] = b"\x84\0\0\x01\0\x01\0\0\0\0\0\0\x30\0\x01\
-    \0\0\x30\0\x01\0\0\x0e\x10\0\x06\x01\x01\x03\x0d\xaa\xbb";
-
 /// A listener of this machine, and its address.
-pub(crate) fn listener(rt: &HostRuntime) -> Result<(TcpListener, SocketAddr), NetError> {
-    let listener = match TcpListener::bind(rt, "127.0.0.1:0") {
-        Ok(listener) => listener,
-        Err(error) => return Err(NetError::from(kind_of(&error))),
-    };
-    match listener.local_addr() {
-        Ok(addr) => Ok((listener, addr)),
-        Err(error) => Err(NetError::from(kind_of(&error))),
-    }
+pub(crate) fn listener(rt: &HostRuntime) -> Option<(TcpListener, SocketAddr)> {
+    let listener = TcpListener::bind(rt, "127.0.0.1:0").ok()?;
+    let addr = listener.local_addr().ok()?;
+    Some((listener, addr))
 }
 
 /// A socket of this machine, which waits five seconds for a datagram, and its address.
-pub(crate) fn bound(rt: &HostRuntime) -> io::Result<(UdpSocket, SocketAddr)> {
-    let socket = UdpSocket::bind(rt, "127.0.0.1:0")?;
-    socket.set_read_timeout(Some(Duration::from_secs(5)))?;
-    let addr = socket.local_addr()?;
-    Ok((socket, addr))
+pub(crate) fn bound(rt: &HostRuntime) -> Option<(UdpSocket, SocketAddr)> {
+    let socket = UdpSocket::bind(rt, "127.0.0.1:0").ok()?;
+    socket.set_read_timeout(Some(Duration::from_secs(5))).ok()?;
+    let addr = socket.local_addr().ok()?;
+    Some((socket, addr))
 }
 
 /// The response to a request for something of the root.
@@ -86,6 +72,34 @@ fn send<L: Link + Drop>(
     Err(NetError::Timeout)
 }
 
+/// Answers a request.
+fn answer<L: Link + Drop>(
+    alloc: Global,
+    stream: &mut TcpStream<L>,
+    handle: &mut BufDnsStreamHandle,
+    request: &[u8],
+) -> Result<(), NetError> {
+    let response = response_to(alloc, request)?;
+    send(stream, handle, response)
+}
+
+/// Answers the next request, and tells whether there was one.
+fn answer_next<L: Link + Drop>(
+    alloc: Global,
+    stream: &mut TcpStream<L>,
+    handle: &mut BufDnsStreamHandle,
+) -> Result<bool, NetError> {
+    match next_request(stream)? {
+        Some(request) => {
+            let answered = answer(alloc, stream, handle, request.as_slice());
+            drop(request);
+            answered?;
+            Ok(true)
+        }
+        None => Ok(false),
+    }
+}
+
 /// Answers the requests of a connection until it ends, and counts them.
 fn serve_stream<L: Link + Drop>(
     alloc: Global,
@@ -94,29 +108,32 @@ fn serve_stream<L: Link + Drop>(
 ) -> Result<u32, NetError> {
     let mut count: u32 = 0;
     for _ in 0..1000u32 {
-        let Some(request) = next_request(stream)? else {
+        if !answer_next(alloc, stream, handle)? {
             break;
-        };
-        let response = response_to(alloc, request.as_slice())?;
-        send(stream, handle, response)?;
+        }
         count = count.saturating_add(1);
     }
     Ok(count)
 }
 
-/// Answers the requests of one connection, and counts them.
-pub(crate) fn serve(alloc: Global, listener: &TcpListener) -> Result<u32, NetError> {
-    match listener.accept() {
-        Ok((socket, peer)) => {
-            let (mut stream, mut handle) = TcpStream::from_stream(
-                alloc,
-                SocketLink::new(socket),
-                peer,
-            );
-            serve_stream(alloc, &mut stream, &mut handle)
-        }
-        Err(error) => Err(NetError::from(kind_of(&error))),
+/// The number that a server comes to, if it met no fault.
+fn told<N: Copy>(served: &Result<N, NetError>) -> Option<N> {
+    match served {
+        Ok(number) => Some(*number),
+        Err(_) => None,
     }
+}
+
+/// Answers the requests of one connection, and counts them.
+pub(crate) fn serve(alloc: Global, listener: &TcpListener) -> Option<u32> {
+    let (socket, peer) = listener.accept().ok()?;
+    let (mut stream, mut handle) = TcpStream::from_stream(alloc, SocketLink::new(socket), peer);
+    let served = serve_stream(alloc, &mut stream, &mut handle);
+    drop(handle);
+    drop(stream);
+    let count = told(&served);
+    drop(served);
+    count
 }
 
 /// Answers the next request that comes in a datagram.
@@ -134,13 +151,17 @@ fn serve_datagram(alloc: Global, socket: &UdpSocket) -> Result<(), NetError> {
 }
 
 /// Answers so many requests that come in datagrams.
-pub(crate) fn serve_datagrams(
-    alloc: Global,
-    socket: &UdpSocket,
-    requests: u32,
-) -> Result<(), NetError> {
+fn serve_all(alloc: Global, socket: &UdpSocket, requests: u32) -> Result<u32, NetError> {
     for _ in 0..requests {
         serve_datagram(alloc, socket)?;
     }
-    Ok(())
+    Ok(requests)
+}
+
+/// Answers so many requests that come in datagrams, and tells how many.
+pub(crate) fn serve_datagrams(alloc: Global, socket: &UdpSocket, requests: u32) -> Option<u32> {
+    let served = serve_all(alloc, socket, requests);
+    let count = told(&served);
+    drop(served);
+    count
 }

@@ -2,7 +2,7 @@
 ghost use Rattle.std.specs.Prelude.{◌<◌, ◌^◌, length};
 
 use crate::frames::Frame;
-use dns_message::{DecodeKind, Message};
+use dns_message::{DecodeError, DecodeKind, Message};
 use dns_name::NoMemory;
 use std::alloc::Global;
 
@@ -22,7 +22,18 @@ pub struct Counts {
 fn counted(alloc: Global, counts: Counts, bytes: &[u8]) -> Result<Counts, NoMemory>
     requires { length bytes.now < 2 ^ 32 }
 {
-    match Message::from_vec(alloc, bytes) {
+    let message = Message::from_vec(alloc, bytes);
+    let counts = with_message(counts, &message);
+    drop(message);
+    counts
+}
+
+/// The counts, with what came of a message.
+fn with_message(
+    counts: Counts,
+    message: &Result<Message, DecodeError>,
+) -> Result<Counts, NoMemory> {
+    match message {
         Ok(message) => {
             let records = message.answers.len() as u64;
             let records = records.saturating_add(message.authorities.len() as u64);

@@ -10,8 +10,14 @@ use dns_text::{decimal_in, u16_in};
 pub enum Work {
     /// Its messages are decoded.
     Decode,
-    /// The session's query is looked up.
+    /// The session's query is looked up, over one validator, whose cache is filled by the first lookup.
     LookUp,
+    /// The same, each time with an empty cache.
+    LookUpAnew,
+    /// Any answer to the session is reported with its trail: an Ok one, or that inside a denial. Once alone.
+    Report,
+    /// What the NSEC or NSEC3 records of each reply prove is told. Once alone.
+    Verdicts,
 }
 
 /// What the program is asked for.
@@ -53,12 +59,24 @@ pub(crate) fn form_of(words: &[Vec<u8>]) -> Option<Form>
     ensures { result ≡ asked_form words.now }
 {
     match words {
+        [name] => {
+            if name.as_slice() == b"report".as_slice() {
+                return Some(Form::Reading(Work::Report, 1));
+            }
+            if name.as_slice() == b"verdicts".as_slice() {
+                return Some(Form::Reading(Work::Verdicts, 1));
+            }
+            None
+        }
         [name, passes] => {
             if name.as_slice() == b"decode".as_slice() {
                 return reading_form(Work::Decode, passes);
             }
             if name.as_slice() == b"lookup".as_slice() {
                 return reading_form(Work::LookUp, passes);
+            }
+            if name.as_slice() == b"anew".as_slice() {
+                return reading_form(Work::LookUpAnew, passes);
             }
             None
         }

@@ -26,7 +26,12 @@ struct Repeated {
     options: DnsRequestOptions,
     /// Seconds.
     moment: u64,
+    /// Each time with an empty cache.
+    anew: bool,
 }
+
+/// As many as a validator makes room for by itself.
+const CACHE_ENTRIES: usize = 65_536;
 
 // Looks it up.
 fn look_up(
@@ -64,31 +69,46 @@ fn with_reply(counts: Lookups, reply: &Result<DnsResponse, NetError>) -> Result<
     }
 }
 
+// The validator, with an empty cache where that is wanted.
+fn made_ready(
+    what: &Repeated,
+    handle: DnssecDnsHandle<Recorded, Listed>,
+) -> Result<DnssecDnsHandle<Recorded, Listed>, NoMemory> {
+    if what.anew {
+        handle.validation_cache_size(what.alloc, CACHE_ENTRIES)
+    } else {
+        Ok(handle)
+    }
+}
+
 // Looks it up so many times.
 fn count_all(
     what: &Repeated,
-    handle: &mut DnssecDnsHandle<Recorded, Listed>,
+    handle: DnssecDnsHandle<Recorded, Listed>,
     times: u32,
 ) -> Result<Lookups, NoMemory> {
     let mut counts = Lookups {
         answers: 0,
         faults: 0,
     };
+    let mut handle = handle;
     for _ in 0..times {
-        counts = count_one(what, handle, counts)?;
+        handle = made_ready(what, handle)?;
+        counts = count_one(what, &mut handle, counts)?;
     }
     Ok(counts)
 }
 
-/// Looks a session's query up so many times, over one validator, and counts what came of it.
+/// Looks a session's query up so many times, over one validator, each time with an empty cache or not, and counts what came of it.
 pub(crate) fn count_lookups(
     alloc: Global,
     session: Session,
     times: u32,
+    anew: bool,
 ) -> Result<Lookups, NoMemory> {
     let made = session_lookup(alloc, session)?;
     let SessionLookup {
-        mut validator,
+        validator,
         query,
         options,
         moment,
@@ -98,8 +118,7 @@ pub(crate) fn count_lookups(
         query,
         options,
         moment,
+        anew,
     };
-    let counts = count_all(&what, &mut validator, times);
-    drop(validator);
-    counts
+    count_all(&what, validator, times)
 }

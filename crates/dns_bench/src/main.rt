@@ -1,4 +1,6 @@
-//! `dns_bench`: does one thing many times, so that a script can measure what it costs.
+//! `dns_bench`: does one thing many times, so that a script can measure what it costs; and tells two things of a session for
+//! tools: the report, with its trail, on any response to it, and what the NSEC or NSEC3 records in each reply prove of its question,
+//! in the zone that the session's query names.
 #![tactic(auto)]
 
 mod counts;
@@ -8,6 +10,8 @@ mod lookups;
 mod program;
 mod signing;
 mod texts;
+mod trails;
+mod verdicts;
 
 use dns_io::{InputSource, OutputSink, status, words_of};
 use program::run;

@@ -13,10 +13,12 @@ use crate::frames::{FrameStop, messages_of};
 use crate::lookups::count_lookups;
 use crate::signing::signed_count;
 use crate::texts::{bad_frame_text, counts_text, lookups_text, signed_text};
+use crate::trails::session_text;
+use crate::verdicts::session_lines;
 use dns_io::status::{self, read_status, refuse_long, refuse_words, write_text};
 use dns_io::{ReadStop, Sink, Source, read_all};
 use dns_name::NoMemory;
-use dns_session::{SessionStop, bad_line_text, read_session};
+use dns_session::{Session, SessionStop, bad_line_text, read_session};
 use std::alloc::Global;
 
 // Decodes the frames of the bytes so many times: what was counted, or which frame is cut off.
@@ -38,15 +40,42 @@ fn decode(alloc: Global, passes: u32, bytes: &[u8]) -> Result<(u8, Vec<u8>), NoM
     }
 }
 
-// Looks the session that the bytes are up so many times: what was counted, or which line is bad.
-fn look_up(alloc: Global, passes: u32, bytes: &[u8]) -> Result<(u8, Vec<u8>), NoMemory>
+// Looks a session up so many times, each time with an empty cache or not: what was counted.
+fn counted_text(
+    alloc: Global,
+    passes: u32,
+    session: Session,
+    anew: bool,
+) -> Result<Vec<u8>, NoMemory> {
+    let counts = count_lookups(alloc, session, passes, anew)?;
+    lookups_text(alloc, counts)
+}
+
+// A line for each reply of a session.
+fn verdicts_text(alloc: Global, session: Session) -> Result<Vec<u8>, NoMemory> {
+    let text = session_lines(alloc, &session);
+    drop(session);
+    text
+}
+
+// The text of work on a session.
+fn text_of(alloc: Global, work: Work, passes: u32, session: Session) -> Result<Vec<u8>, NoMemory> {
+    match work {
+        Work::Report => session_text(alloc, session),
+        Work::Verdicts => verdicts_text(alloc, session),
+        Work::LookUpAnew => counted_text(alloc, passes, session, true),
+        _ => counted_text(alloc, passes, session, false),
+    }
+}
+
+// Works on the session that the bytes are: its text, or which line is bad.
+fn work_on(alloc: Global, work: Work, passes: u32, bytes: &[u8]) -> Result<(u8, Vec<u8>), NoMemory>
     requires { length bytes.now ≤ input_limit }
     ensures { IfOk result (λ x. x.0 ≡ session_status (session_of bytes.now)) }
 {
     match read_session(alloc, bytes) {
         Ok(session) => {
-            let counts = count_lookups(alloc, session, passes)?;
-            let text = lookups_text(alloc, counts)?;
+            let text = text_of(alloc, work, passes, session)?;
             Ok((status::DONE, text))
         }
         Err(SessionStop::BadLine(number)) => {
@@ -64,7 +93,10 @@ fn measure(alloc: Global, work: Work, passes: u32, bytes: &[u8]) -> Result<(u8, 
 {
     match work {
         Work::Decode => decode(alloc, passes, bytes),
-        Work::LookUp => look_up(alloc, passes, bytes),
+        Work::LookUp => work_on(alloc, work, passes, bytes),
+        Work::LookUpAnew => work_on(alloc, work, passes, bytes),
+        Work::Report => work_on(alloc, work, passes, bytes),
+        Work::Verdicts => work_on(alloc, work, passes, bytes),
     }
 }
 
@@ -126,7 +158,10 @@ fn signed_words(alloc: Global, records: u16, passes: u32) -> Result<Vec<u8>, NoM
 
 /// Runs the program with its words, those after its name, and answers its status.
 ///
-/// 0: the counts are written. 2: the words aren't a form, and nothing was read. 3: the input isn't one for the words' work; its
+/// `report` writes the report, with its trail, on any response to a session, an Ok one or that inside a denial, of which `dns_check` writes
+/// one line; and the line of the error where there is none. `verdicts` writes a line for each reply. The others count.
+///
+/// 0: the counts or the text are written. 2: the words aren't a form, and nothing was read. 3: the input isn't one for the words' work; its
 /// first frame that is cut off is named, or its first bad line. 4: a read failed, and nothing is written. 5: a write failed
 /// after a prefix of the text. 6: memory ran out. 7: the input has more than 16,777,216 bytes.
 #[tactic(auto, using(dns_io::proofs::Runs::keeps_unread))]

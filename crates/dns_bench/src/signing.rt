@@ -12,20 +12,26 @@ fn signature_head() -> &'static [u8] {
     b"\x00\x01\x0d\x02\x00\x00\x0e\x10\x6a\x00\x00\x00\x69\x00\x00\x00\x12\x34\x04zone\x07example\x00"
 }
 
+/// The address that is a number.
+fn address(alloc: Global, owner: &Name, number: u16) -> Result<Record, NoMemory> {
+    let rdata = Rdata::from_slice(alloc, &u32::from(number).to_be_bytes())?;
+    let name = owner.try_clone()?;
+    Ok(Record {
+        name,
+        record_type: RecordType::A,
+        dns_class: DNSClass::IN,
+        ttl: 3600,
+        rdata,
+        proof: Proof::Indeterminate,
+    })
+}
+
 /// The addresses of the numbers below this one, the greatest first.
 fn address_records(alloc: Global, owner: &Name, count: u16) -> Result<Vec<Record>, NoMemory> {
     let mut records = Vec::new(alloc);
     for index in 0..count {
         let number = count - 1 - index;
-        let rdata = Rdata::from_slice(alloc, &u32::from(number).to_be_bytes())?;
-        records.push(Record {
-            name: owner.try_clone()?,
-            record_type: RecordType::A,
-            dns_class: DNSClass::IN,
-            ttl: 3600,
-            rdata,
-            proof: Proof::Indeterminate,
-        })?;
+        records.push(address(alloc, owner, number)?)?;
     }
     Ok(records)
 }

@@ -1,9 +1,8 @@
-use crate::exchange_parts::{
-    Exchange, Heard, asked, exchange_over, link_of, push_responses, server,
-};
+use crate::exchange_parts::{Exchange, Heard, asked, exchange_over, link_of, push_responses};
+use crate::stream_parts::server;
 use dns_exchange::TcpExchange;
 use dns_handle::{IoKind, NetError};
-use dns_link::ListDialer;
+use dns_link::{ListDialer, PairLink};
 use dns_mux::ListDraws;
 use dns_name::NoMemory;
 use std::alloc::Global;
@@ -107,6 +106,12 @@ fn responses(alloc: Global, come: &[(u16, u32)]) -> Result<Vec<u8>, NoMemory> {
     Ok(bytes)
 }
 
+fn link_for(alloc: Global, come: &[(u16, u32)], fails: &[u64]) -> Result<PairLink, NoMemory> {
+    let fails = Vec::from_slice(alloc, fails)?;
+    let bytes = responses(alloc, come)?;
+    link_of(alloc, bytes, fails)
+}
+
 /// The exchange of a case.
 fn exchange_of(
     alloc: Global,
@@ -114,16 +119,17 @@ fn exchange_of(
     fails: &[u64],
     max: Option<usize>,
 ) -> Option<Exchange> {
-    let bytes = responses(alloc, come).ok()?;
-    let fails = Vec::from_slice(alloc, fails).ok()?;
-    exchange_over(alloc, link_of(alloc, bytes, fails).ok()?, max)
+    let link = link_for(alloc, come, fails).ok()?;
+    exchange_over(alloc, link, max)
 }
 
 /// Whether the sends of a case are answered as it says.
 fn holds(alloc: Global, case: &Case) -> Option<bool> {
     let mut exchange = exchange_of(alloc, case.come, case.fails, case.max)?;
     let first = asked(alloc, &mut exchange) == case.first;
-    Some(asked(alloc, &mut exchange) == case.second && first)
+    let second = asked(alloc, &mut exchange) == case.second;
+    drop(exchange);
+    Some(first && second)
 }
 
 #[test]
@@ -160,7 +166,9 @@ fn requests_go_out_as_frames(rt: HostRuntime) {
 fn is_unreachable(alloc: Global, dial: &mut ListDialer) -> bool {
     let draws = ListDraws::new(Vec::new(alloc), Vec::new(alloc));
     let made = TcpExchange::connect(alloc, dial, server(), None, 5000, None, draws);
-    is_fault(&made, IoKind::AddrNotAvailable)
+    let held = is_fault(&made, IoKind::AddrNotAvailable);
+    drop(made);
+    held
 }
 
 /// Whether a reply is a fault of a kind.

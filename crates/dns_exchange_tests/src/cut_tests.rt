@@ -113,15 +113,22 @@ fn frames(alloc: Global, count: u32) -> Result<Vec<u8>, NoMemory> {
     Ok(bytes)
 }
 
+fn count_of<M>(messages: &Result<Vec<M>, NetError>) -> Result<usize, Option<IoKind>> {
+    match messages {
+        Ok(messages) => Ok(messages.len()),
+        Err(NetError::Io(kind)) => Err(Some(*kind)),
+        Err(_) => Err(None),
+    }
+}
+
 /// How many messages pieces give, or the kind of the fault.
 fn counted(alloc: Global, pieces: Vec<Octets>) -> Result<usize, Option<IoKind>>
     requires { All (λ piece. piece ≢ []) pieces.items }
 {
-    match unframe(alloc, pieces) {
-        Ok(messages) => Ok(messages.len()),
-        Err(NetError::Io(kind)) => Err(Some(kind)),
-        Err(_) => Err(None),
-    }
+    let messages = unframe(alloc, pieces);
+    let counted = count_of(&messages);
+    drop(messages);
+    counted
 }
 
 /// How many messages bytes give that are cut into single bytes, or the kind of the fault.

@@ -1,10 +1,11 @@
 use crate::exchange_parts::{Heard, asked, response};
+use crate::stream_heard::{Heard as Told, read_next, write_all};
+use crate::stream_loopback_tests::{accepted, listener};
+use crate::stream_parts::{behind, put};
 use dns_exchange::TcpExchange;
-use dns_handle::NetError;
 use dns_link::{Link, SocketDialer, SocketLink};
-use dns_mux::{BufDnsStreamHandle, Draws, RandDraws, SerialMessage};
-use dns_name::Octets;
-use dns_transport::{Feed, TcpStream};
+use dns_mux::{Draws, RandDraws};
+use dns_transport::TcpStream;
 use std::alloc::Global;
 use std::net;
 use std::net::{SocketAddr, TcpListener};
@@ -13,84 +14,29 @@ use std::thread::join;
 /// So many requests are sent over one connection.
 const REQUESTS: u32 = 1000;
 
-/// A listener of this machine, and its address.
-fn listener(rt: &HostRuntime) -> Option<(TcpListener, SocketAddr)> {
-    let listener = TcpListener::bind(rt, "127.0.0.1:0").ok()?;
-    let addr = listener.local_addr().ok()?;
-    Some((listener, addr))
-}
-
-/// The server's side of a connection.
-fn accepted(
-    alloc: Global,
-    listener: &TcpListener,
-) -> Option<TcpStream<SocketLink<net::TcpStream>>> {
-    let (socket, peer) = listener.accept().ok()?;
-    let (stream, _) = TcpStream::from_stream(alloc, SocketLink::new(socket), peer);
-    Some(stream)
-}
-
-/// The id of a message that a read gave; none where it gave an end or a fault.
-fn id_of(reply: &Result<Feed, NetError>) -> Option<u16> {
-    match reply {
-        Ok(Feed::Message(message)) => match message.bytes.as_slice() {
-            [high, low, ..] => Some(u16::from(*high) * 256 + u16::from(*low)),
-            _ => None,
-        },
+/// The id of the next message; none at the end, or where a read fails.
+fn next_id<L: Link + Drop>(alloc: Global, stream: &mut TcpStream<L>) -> Option<u16> {
+    let mut read = Vec::new(alloc);
+    if read_next(stream, &mut read) != Told::Message {
+        return None;
+    }
+    match read.as_slice() {
+        [high, low, ..] => Some(u16::from_be_bytes([*high, *low])),
         _ => None,
     }
-}
-
-/// Whether a read gave a part of a message.
-fn is_part(reply: &Result<Feed, NetError>) -> bool {
-    matches!(reply, Ok(Feed::More))
-}
-
-/// The id of the next message; none at the end.
-fn next_id<L: Link + Drop>(stream: &mut TcpStream<L>) -> Option<u16> {
-    for _ in 0..200_000u32 {
-        let reply = stream.feed();
-        if !is_part(&reply) {
-            return id_of(&reply);
-        }
-    }
-    None
-}
-
-/// Whether all that waits is written.
-fn is_written<L: Link + Drop>(stream: &mut TcpStream<L>) -> bool {
-    for _ in 0..1000u32 {
-        match stream.drain() {
-            Ok(true) => return true,
-            Ok(false) => (),
-            Err(_) => return false,
-        }
-    }
-    false
 }
 
 /// Sends a response to a request with an id, and tells whether it was written.
 fn is_replied<L: Link + Drop>(alloc: Global, stream: &mut TcpStream<L>, id: u16) -> bool {
     let frame = response(id);
-    let Ok(bytes) = Octets::from_slice(alloc, &frame[2..]) else {
-        return false;
-    };
-    let addr = stream.peer_addr();
-    let (mut handle, _) = BufDnsStreamHandle::new(alloc, addr);
-    if bytes.is_empty() {
-        return false;
-    }
-    stream
-        .enqueue(&mut handle, SerialMessage { bytes, addr })
-        .is_ok()
-        && is_written(stream)
+    put(alloc, stream, behind(&frame)) && write_all(stream) == Told::Written
 }
 
 /// Answers the requests of one connection until it ends, and counts them.
 fn served<L: Link + Drop>(alloc: Global, stream: &mut TcpStream<L>) -> u32 {
     let mut count: u32 = 0;
     for _ in 0..REQUESTS {
-        match next_id(stream) {
+        match next_id(alloc, stream) {
             Some(id) => {
                 if is_replied(alloc, stream, id) {
                     count = count.saturating_add(1);

@@ -1,5 +1,6 @@
 ghost use Rattle.std.specs.Prelude.{◌≢◌, [], All, IfOk};
 
+use crate::stream_parts::server;
 use dns_exchange::TcpExchange;
 use dns_handle::{DnsHandle, DnsRequest, DnsRequestOptions, DnsResponse, IoKind, NetError};
 use dns_link::{Link, PairLink};
@@ -8,7 +9,6 @@ use dns_mux::{Draws, ListDraws};
 use dns_name::{NoMemory, Octets};
 use dns_transport::TcpStream;
 use std::alloc::Global;
-use std::net::{IpAddr, Ipv4Addr, SocketAddr};
 
 /// What a send answered: the id of a response, or what the error is.
 #[derive(Clone, Copy, PartialEq, Eq)]
@@ -47,16 +47,14 @@ pub(crate) fn asked<L: Link + Drop, R: Draws + Drop>(
     alloc: Global,
     exchange: &mut TcpExchange<L, R>,
 ) -> Heard {
-    heard_as(&exchange.send(alloc, request(alloc), 1000))
+    let reply = exchange.send(alloc, request(alloc), 1000);
+    let heard = heard_as(&reply);
+    drop(reply);
+    heard
 }
 
 /// An exchange in memory.
 pub(crate) type Exchange = TcpExchange<PairLink, ListDraws>;
-
-/// The server of all tests in memory.
-pub(crate) fn server() -> SocketAddr {
-    SocketAddr::new(IpAddr::V4(Ipv4Addr::new(192, 0, 2, 1)), 53)
-}
 
 /// The frame of a response without a question (RFC 1035, 4.1.1 and 4.2.2).
 pub(crate) fn response(id: u16) -> [u8; 14] {
@@ -94,10 +92,15 @@ pub(crate) fn link_of(
     PairLink::new(alloc, pieces, 100, fails)
 }
 
+/// Three ids of 7.
+fn draws(alloc: Global) -> Option<ListDraws> {
+    let ids = Vec::from_slice(alloc, &[7u16, 7, 7]).ok()?;
+    Some(ListDraws::new(ids, Vec::new(alloc)))
+}
+
 /// An exchange over a link, whose first three requests all have the id 7, with so many live requests at most.
 pub(crate) fn exchange_over(alloc: Global, link: PairLink, max: Option<usize>) -> Option<Exchange> {
-    let ids = Vec::from_slice(alloc, &[7u16, 7, 7]).ok()?;
-    let draws = ListDraws::new(ids, Vec::new(alloc));
+    let draws = draws(alloc)?;
     let (stream, _) = TcpStream::from_stream(alloc, link, server());
     TcpExchange::over(alloc, stream, draws, 5000, max).ok()
 }

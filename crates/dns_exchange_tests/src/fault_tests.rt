@@ -105,15 +105,18 @@ fn refusing(alloc: Global) -> Result<ListDialer, NoMemory> {
 
 /// Whether dialing a stream answers a fault of a kind.
 fn is_refused(alloc: Global, dial: &mut ListDialer, kind: IoKind) -> bool {
-    is_fault(&TcpStream::with_future(alloc, dial, server(), 5000), kind)
+    let made = TcpStream::with_future(alloc, dial, server(), 5000);
+    let held = is_fault(&made, kind);
+    drop(made);
+    held
 }
 
 /// Whether dialing a client's stream does.
 fn is_refused_to_client(alloc: Global, dial: &mut ListDialer, kind: IoKind) -> bool {
-    is_fault(
-        &TcpClientStream::new(alloc, dial, server(), None, 5000),
-        kind,
-    )
+    let made = TcpClientStream::new(alloc, dial, server(), None, 5000);
+    let held = is_fault(&made, kind);
+    drop(made);
+    held
 }
 
 /// Whether dialing answers first a link's refusal and then that there is none.

@@ -86,13 +86,32 @@ fn put_for_client(
     if message.bytes.is_empty() || !stream.has_room(handle) {
         return false;
     }
-    stream.enqueue(handle, message).is_ok()
+    let put = stream.enqueue(handle, message);
+    let held = put.is_ok();
+    drop(put);
+    held
+}
+
+/// Reads once for a client.
+fn feed_for_client(stream: &mut TcpClientStream<PairLink>, read: &mut Vec<u8>) -> Heard {
+    let reply = stream.feed();
+    let heard = heard_feed(&reply, read);
+    drop(reply);
+    heard
+}
+
+/// Writes once for a client.
+fn drain_for_client(stream: &mut TcpClientStream<PairLink>) -> Heard {
+    let reply = stream.drain();
+    let heard = heard_drain(&reply);
+    drop(reply);
+    heard
 }
 
 /// Reads until something else than a part of a message comes for a client.
 fn next_for_client(stream: &mut TcpClientStream<PairLink>, read: &mut Vec<u8>) -> Heard {
     for _ in 0..200_000u32 {
-        let heard = heard_feed(&stream.feed(), read);
+        let heard = feed_for_client(stream, read);
         if heard != Heard::More {
             return heard;
         }
@@ -109,7 +128,7 @@ fn carries_for_client(
 ) -> bool {
     let mut read = Vec::new(alloc);
     put_for_client(alloc, stream, handle, behind(frame))
-        && heard_drain(&stream.drain()) == Heard::Written
+        && drain_for_client(stream) == Heard::Written
         && next_for_client(stream, &mut read) == Heard::Message
         && *read.as_slice() == *behind(frame)
 }

@@ -52,12 +52,18 @@ pub(crate) fn heard_drain(reply: &Result<bool, NetError>) -> Heard {
 
 /// Reads once.
 pub(crate) fn feed<L: Link + Drop>(stream: &mut TcpStream<L>, read: &mut Vec<u8>) -> Heard {
-    heard_feed(&stream.feed(), read)
+    let reply = stream.feed();
+    let heard = heard_feed(&reply, read);
+    drop(reply);
+    heard
 }
 
 /// Writes once.
 pub(crate) fn drain<L: Link + Drop>(stream: &mut TcpStream<L>) -> Heard {
-    heard_drain(&stream.drain())
+    let reply = stream.drain();
+    let heard = heard_drain(&reply);
+    drop(reply);
+    heard
 }
 
 /// Reads until something else than a part of a message comes.

@@ -7,14 +7,14 @@ use std::net;
 use std::net::{SocketAddr, TcpListener};
 
 /// A listener of this machine, and its address.
-fn listener(rt: &HostRuntime) -> Option<(TcpListener, SocketAddr)> {
+pub(crate) fn listener(rt: &HostRuntime) -> Option<(TcpListener, SocketAddr)> {
     let listener = TcpListener::bind(rt, "127.0.0.1:0").ok()?;
     let addr = listener.local_addr().ok()?;
     Some((listener, addr))
 }
 
 /// The server's side of a connection.
-fn accepted(
+pub(crate) fn accepted(
     alloc: Global,
     listener: &TcpListener,
 ) -> Option<TcpStream<SocketLink<net::TcpStream>>> {

@@ -75,7 +75,10 @@ pub(crate) fn put_by<L: Link + Drop>(
     if message.bytes.is_empty() {
         return false;
     }
-    stream.enqueue(handle, message).is_ok()
+    let put = stream.enqueue(handle, message);
+    let held = put.is_ok();
+    drop(put);
+    held
 }
 
 /// The same by a handle of the usual size to an address.

@@ -184,34 +184,55 @@ pub(crate) fn anchored(alloc: Global, row: &Row) -> Result<Link, NameError> {
     })
 }
 
+/// The row's key, and what it is known by.
+fn key_and_by(alloc: Global, row: &Row) -> Result<(Rdata, Rdata), NameError> {
+    let key = rdata(alloc, row.key)?;
+    let by = rdata(alloc, row.by)?;
+    Ok((key, by))
+}
+
 fn matched(alloc: Global, row: &Row) -> Result<Link, NameError> {
+    let owner = Name::from_ascii(alloc, row.owner)?;
+    let (key, ds) = key_and_by(alloc, row)?;
     Ok(Link::Matched {
-        owner: Name::from_ascii(alloc, row.owner)?,
+        owner,
         class: DNSClass(row.class),
-        key: rdata(alloc, row.key)?,
+        key,
         ds_link: row.number,
-        ds: rdata(alloc, row.by)?,
+        ds,
     })
 }
 
 fn key_set(alloc: Global, row: &Row) -> Result<Link, NameError> {
+    let keys = rdatas(alloc, row.rdatas)?;
+    let links = numbers(alloc, row.numbers)?;
+    let owner = Name::from_ascii(alloc, row.owner)?;
     Ok(Link::KeySet {
-        owner: Name::from_ascii(alloc, row.owner)?,
+        owner,
         class: DNSClass(row.class),
-        keys: rdatas(alloc, row.rdatas)?,
-        links: numbers(alloc, row.numbers)?,
+        keys,
+        links,
     })
 }
 
+/// The row's rdatas, and their owner.
+fn owned(alloc: Global, row: &Row) -> Result<(Vec<Rdata>, Name), NameError> {
+    let rdatas = rdatas(alloc, row.rdatas)?;
+    let owner = Name::from_ascii(alloc, row.owner)?;
+    Ok((rdatas, owner))
+}
+
 fn signed(alloc: Global, row: &Row) -> Result<Link, NameError> {
+    let (rdatas, owner) = owned(alloc, row)?;
+    let (key, sig) = key_and_by(alloc, row)?;
     Ok(Link::Signed {
-        owner: Name::from_ascii(alloc, row.owner)?,
+        owner,
         class: DNSClass(row.class),
         record_type: RecordType(row.record_type),
-        rdatas: rdatas(alloc, row.rdatas)?,
-        sig: rdata(alloc, row.by)?,
+        rdatas,
+        sig,
         key_link: row.number,
-        key: rdata(alloc, row.key)?,
+        key,
     })
 }
 

@@ -101,12 +101,16 @@ fn are_octets(alloc: Global, text: &String) -> Result<bool, NameError> {
     Ok(copy.as_slice().len() == MANY && copy == octets)
 }
 
+fn is_text(alloc: Global, text: &String) -> Result<bool, NameError> {
+    let own = Text::from_str(alloc, text.as_str())?;
+    let copy = own.try_clone()?;
+    Ok(copy.as_str() == text.as_str())
+}
+
 fn are_copied(alloc: Global) -> Result<bool, NameError> {
     let mut text = String::new(alloc);
     fill_text(&mut text, "b", MANY)?;
-    let own = Text::from_str(alloc, text.as_str())?;
-    let copy = own.try_clone()?;
-    Ok(copy.as_str() == text.as_str() && are_octets(alloc, &text)?)
+    Ok(is_text(alloc, &text)? && are_octets(alloc, &text)?)
 }
 
 #[test]

@@ -110,17 +110,18 @@ fn is_streamed(alloc: Global, row: &Row, cx: &mut Context<'_>) -> Result<bool, N
 #[test]
 fn streams_end_at_a_time_out(rt: HostRuntime) {
     let alloc = rt.alloc();
-    let Some(task) = task(&rt) else {
-        return;
-    };
-    for row in rows() {
-        check_row(
-            &rt,
-            row.message,
-            task.enter(|cx| is_streamed(alloc, row, cx)),
-        );
+    let made = task(&rt);
+    assert!(rt; made.is_some());
+    if let Some(task) = made {
+        for row in rows() {
+            check_row(
+                &rt,
+                row.message,
+                task.enter(|cx| is_streamed(alloc, row, cx)),
+            );
+        }
+        drop(task);
     }
-    drop(task);
 }
 
 /// Whether a receiver that was refused gives the error once, whatever it is told later.
@@ -138,12 +139,13 @@ fn is_refused(alloc: Global, cx: &mut Context<'_>) -> bool {
 #[test]
 fn a_refusal_is_given_once(rt: HostRuntime) {
     let alloc = rt.alloc();
-    let Some(task) = task(&rt) else {
-        return;
-    };
-    let held = task.enter(|cx| is_refused(alloc, cx));
-    drop(task);
-    check_row(&rt, "a refused receiver", Ok(held));
+    let made = task(&rt);
+    assert!(rt; made.is_some());
+    if let Some(task) = made {
+        let held = task.enter(|cx| is_refused(alloc, cx));
+        drop(task);
+        check_row(&rt, "a refused receiver", Ok(held));
+    }
 }
 
 fn single_gives(alloc: Global, item: Said, polls: &[Given], cx: &mut Context<'_>) -> bool {
@@ -164,12 +166,13 @@ fn singles_give(alloc: Global, cx: &mut Context<'_>) -> bool {
 #[test]
 fn a_single_item_is_given_once(rt: HostRuntime) {
     let alloc = rt.alloc();
-    let Some(task) = task(&rt) else {
-        return;
-    };
-    let held = task.enter(|cx| singles_give(alloc, cx));
-    drop(task);
-    check_row(&rt, "a single item", Ok(held));
+    let made = task(&rt);
+    assert!(rt; made.is_some());
+    if let Some(task) = made {
+        let held = task.enter(|cx| singles_give(alloc, cx));
+        drop(task);
+        check_row(&rt, "a single item", Ok(held));
+    }
 }
 
 /// What the first answer of a stream says, and what a poll after it says.
@@ -198,15 +201,16 @@ fn is_answered(alloc: Global, row: &Row, cx: &mut Context<'_>) -> Result<bool, N
 #[test]
 fn a_first_answer_comes_once(rt: HostRuntime) {
     let alloc = rt.alloc();
-    let Some(task) = task(&rt) else {
-        return;
-    };
-    for row in rows() {
-        check_row(
-            &rt,
-            row.message,
-            task.enter(|cx| is_answered(alloc, row, cx)),
-        );
+    let made = task(&rt);
+    assert!(rt; made.is_some());
+    if let Some(task) = made {
+        for row in rows() {
+            check_row(
+                &rt,
+                row.message,
+                task.enter(|cx| is_answered(alloc, row, cx)),
+            );
+        }
+        drop(task);
     }
-    drop(task);
 }

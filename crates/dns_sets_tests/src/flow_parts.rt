@@ -1,23 +1,11 @@
-//! What tests are made of: queries, messages and sets.
+//! What tests of flows are made of: messages and sets.
+use crate::sets_tests::rdata;
 use dns_evidence::{ChainedSet, MarkedSet};
 use dns_message::Message;
 use dns_model::{NameError, Proof, Section};
-use dns_name::{Name, NoMemory};
-use dns_record::{DNSClass, OpCode, Query, Rdata, Record, RecordSet, RecordType, ResponseCode};
+use dns_name::Name;
+use dns_record::{DNSClass, OpCode, Record, RecordSet, RecordType, ResponseCode};
 use std::alloc::Global;
-
-pub(crate) fn query(
-    alloc: Global,
-    owner: &str,
-    record_type: RecordType,
-) -> Result<Query, NameError> {
-    let name = Name::from_ascii(alloc, owner)?;
-    Ok(Query {
-        name,
-        query_type: record_type,
-        query_class: DNSClass::IN,
-    })
-}
 
 /// A message without records.
 pub(crate) fn message(alloc: Global) -> Message {
@@ -38,13 +26,6 @@ pub(crate) fn message(alloc: Global) -> Message {
         additionals: Vec::new(alloc),
         edns: None,
     }
-}
-
-fn rdata(alloc: Global, bytes: &[u8]) -> Result<Rdata, NoMemory> {
-    if bytes.len() > 65535 {
-        return Err(NoMemory);
-    }
-    Rdata::from_slice(alloc, bytes)
 }
 
 fn record(

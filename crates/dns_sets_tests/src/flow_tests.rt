@@ -1,5 +1,7 @@
-use crate::flow_parts::{message, only_insecure, query, set};
+use crate::cause_tests::is_found;
+use crate::flow_parts::{message, only_insecure, set};
 use crate::rows::check_row;
+use crate::sets_tests::query;
 use dns_evidence::{Limits, Listed, PlacedSet};
 use dns_flow::{Ask, Got, Need, Phase, after, start_ending, start_set, turn};
 use dns_message::Message;
@@ -11,28 +13,30 @@ use std::alloc::Global;
 
 /// What an ask comes to: what is seen of NS records, a refusal, or an answer that has `b.` Insecure.
 #[derive(Clone, Copy)]
-enum Reply {
+pub(crate) enum Reply {
     Seen(NsProbe),
     Refused,
     Insecure,
 }
 
 /// An ask that is to be made, and what it comes to.
-struct Asked {
+pub(crate) struct Asked {
     owner: &'static str,
     record_type: RecordType,
     judged: bool,
-    reply: Reply,
+    pub(crate) reply: Reply,
 }
 
-/// A set without records, with the rdata of its signature, if it has one; the asks that it makes, and its mark.
-struct Row {
-    shows: &'static str,
+/// A set without records, with the rdata of its signature, if it has one; the asks that it makes, its mark, and the text of the error
+/// that is found of it.
+pub(crate) struct Row {
+    pub(crate) shows: &'static str,
     owner: &'static str,
     record_type: RecordType,
     signature: &'static [u8],
-    asks: &'static [Asked],
+    pub(crate) asks: &'static [Asked],
     mark: Proof,
+    pub(crate) found: &'static str,
 }
 
 /// The NS records of `b.` and of `a.b.` aren't seen.
@@ -72,6 +76,7 @@ const UNSIGNED: Row = Row {
     signature: b"",
     asks: FROM_NAME,
     mark: Proof::Bogus,
+    found: "Bogus: ds record should exist: a.b.",
 };
 
 /// A signature of type A by `b.`
@@ -85,11 +90,13 @@ const ROWS: &[Row] = &[
             reply: Reply::Seen(NsProbe::Failed),
             ..NO_A_B
         }],
+        found: "Bogus: communication failure for query: a.b. IN NS",
         ..UNSIGNED
     },
     Row {
         shows: "the DS set of the zone is asked for",
         asks: &[NO_A_B, B, DS],
+        found: "Bogus: communication failure for query: b. IN DS",
         ..UNSIGNED
     },
     Row {
@@ -103,18 +110,21 @@ const ROWS: &[Row] = &[
             },
         ],
         mark: Proof::Insecure,
+        found: "Insecure: ds record does not exist: b.",
         ..UNSIGNED
     },
     Row {
         shows: "an NSEC3 set is searched from its parent",
         record_type: RecordType::NSEC3,
         asks: FROM_PARENT,
+        found: "Bogus: ds record should exist: b.",
         ..UNSIGNED
     },
     Row {
         shows: "a DS set without a signature asks nothing",
         record_type: RecordType::DS,
         asks: &[],
+        found: "Bogus: rrsigs are not present for: a.b. record_type: DS",
         ..UNSIGNED
     },
     Row {
@@ -123,6 +133,7 @@ const ROWS: &[Row] = &[
         record_type: RecordType::DNSKEY,
         signature: BY_B,
         asks: &[DS],
+        found: "Bogus: communication failure for query: b. IN DS",
         ..UNSIGNED
     },
     Row {
@@ -132,11 +143,23 @@ const ROWS: &[Row] = &[
             record_type: RecordType::DNSKEY,
             ..DS
         }],
+        found: "Bogus: communication failure for query: b. IN DNSKEY",
+        ..UNSIGNED
+    },
+    Row {
+        shows: "keys that aren't in the answer leave the signature unproved",
+        signature: BY_B,
+        asks: &[Asked {
+            record_type: RecordType::DNSKEY,
+            reply: Reply::Insecure,
+            ..DS
+        }],
+        found: "Bogus: rrsigs were not able to be verified: a.b., type: A",
         ..UNSIGNED
     },
 ];
 
-fn got(alloc: Global, reply: Reply) -> Result<Got, NameError> {
+pub(crate) fn got(alloc: Global, reply: Reply) -> Result<Got, NameError> {
     match reply {
         Reply::Seen(probe) => Ok(Got::Probe(probe)),
         Reply::Refused => Ok(Got::Answer(None)),
@@ -170,7 +193,11 @@ fn phase_of(need: Need) -> Option<Phase> {
 }
 
 /// The phase that needs this ask, given back; None where it needs another.
-fn asking(alloc: Global, asked: &Asked, phase: Phase) -> Result<Option<Phase>, NameError> {
+pub(crate) fn asking(
+    alloc: Global,
+    asked: &Asked,
+    phase: Phase,
+) -> Result<Option<Phase>, NameError> {
     let need = turn(alloc, phase)?;
     if is_asked(alloc, asked, &need) {
         Ok(phase_of(need))
@@ -182,10 +209,10 @@ fn asking(alloc: Global, asked: &Asked, phase: Phase) -> Result<Option<Phase>, N
 
 /// By what is judged, and the query of the step with the message that it got.
 #[derive(Clone, Copy)]
-struct Step<'a> {
-    judge: &'a Judge<'a, Listed>,
-    query: &'a Query,
-    message: &'a Message,
+pub(crate) struct Step<'a> {
+    pub(crate) judge: &'a Judge<'a, Listed>,
+    pub(crate) query: &'a Query,
+    pub(crate) message: &'a Message,
 }
 
 /// The phase to which this ask leads; None where another is made.
@@ -195,12 +222,49 @@ fn next(
     asked: &Asked,
     phase: Phase,
 ) -> Result<Option<Phase>, NameError> {
+    let got = got(alloc, asked.reply)?;
     match asking(alloc, asked, phase)? {
         Some(same) => {
-            let got = got(alloc, asked.reply)?;
             let phase = after(alloc, step.judge, step.query, step.message, same, got)?;
             Ok(Some(phase))
         }
+        None => Ok(None),
+    }
+}
+
+/// Puts the phase to which this ask leads in the place of the last one; false where another is made.
+fn go_on(
+    alloc: Global,
+    step: &Step<'_>,
+    asked: &Asked,
+    phases: &mut Vec<Phase>,
+) -> Result<bool, NameError> {
+    match phases.pop() {
+        Some(phase) => push_next(alloc, step, asked, phase, phases),
+        None => Ok(false),
+    }
+}
+
+fn push_next(
+    alloc: Global,
+    step: &Step<'_>,
+    asked: &Asked,
+    phase: Phase,
+    phases: &mut Vec<Phase>,
+) -> Result<bool, NameError> {
+    match next(alloc, step, asked, phase)? {
+        Some(led) => {
+            phases.push(led)?;
+            Ok(true)
+        }
+        None => Ok(false),
+    }
+}
+
+/// What the last phase needs.
+fn last_need(alloc: Global, phases: &mut Vec<Phase>) -> Result<Option<Need>, NameError> {
+    match phases.pop() {
+        Some(phase) => Ok(Some(turn(alloc, phase)?)),
         None => Ok(None),
     }
 }
@@ -212,14 +276,15 @@ fn led(
     phase: Phase,
     asks: &[Asked],
 ) -> Result<Option<Need>, NameError> {
-    let mut phase = phase;
+    // (to let a list of one go is one call, while the drop of a phase goes over all its parts)
+    let mut phases = Vec::new(alloc);
+    phases.push(phase)?;
     for asked in asks {
-        let Some(led) = next(alloc, step, asked, phase)? else {
+        if !go_on(alloc, step, asked, &mut phases)? {
             return Ok(None);
-        };
-        phase = led;
+        }
     }
-    Ok(Some(turn(alloc, phase)?))
+    last_need(alloc, &mut phases)
 }
 
 /// Whether a set has ended with this mark.
@@ -230,7 +295,7 @@ fn is_marked(need: &Option<Need>, mark: Proof) -> bool {
     }
 }
 
-fn placed(alloc: Global, row: &Row) -> Result<PlacedSet, NameError> {
+pub(crate) fn placed(alloc: Global, row: &Row) -> Result<PlacedSet, NameError> {
     let set = set(alloc, row.owner, row.record_type, row.signature)?;
     Ok(PlacedSet {
         section: Section::Answer,
@@ -269,10 +334,11 @@ fn ending_holds(alloc: Global, step: &Step<'_>, asks: &[Asked]) -> Result<bool, 
     Ok(held)
 }
 
-/// What is tried in a step: a row, or an ending by these asks.
+/// What is tried in a step: a row, what is found by it, or an ending by these asks.
 #[derive(Clone, Copy)]
-enum Tried<'a> {
+pub(crate) enum Tried<'a> {
     Set(&'a Row),
+    Found(&'a Row),
     Ending(&'a [Asked]),
 }
 
@@ -292,6 +358,7 @@ fn holds_by(
     };
     let held = match tried {
         Tried::Set(row) => set_holds(alloc, &step, row),
+        Tried::Found(row) => is_found(alloc, &step, row),
         Tried::Ending(asks) => ending_holds(alloc, &step, asks),
     };
     drop(message);
@@ -299,7 +366,11 @@ fn holds_by(
     held
 }
 
-fn holds(alloc: Global, asked: RecordType, tried: &Tried<'_>) -> Result<bool, NameError> {
+pub(crate) fn holds(
+    alloc: Global,
+    asked: RecordType,
+    tried: &Tried<'_>,
+) -> Result<bool, NameError> {
     let anchors = TrustAnchors::empty(alloc);
     let verifier = Listed::new(alloc);
     let judge = Judge {
@@ -307,10 +378,13 @@ fn holds(alloc: Global, asked: RecordType, tried: &Tried<'_>) -> Result<bool, Na
         anchors: &anchors,
         moment: 500,
     };
-    holds_by(alloc, &judge, asked, tried)
+    let held = holds_by(alloc, &judge, asked, tried);
+    drop(verifier);
+    drop(anchors);
+    held
 }
 
-fn rows() -> &'static [Row] {
+pub(crate) fn rows() -> &'static [Row] {
     ROWS
 }
 

@@ -7,6 +7,7 @@ use dns_model::{Denial, NameError, Proof, Section};
 use dns_outcome::{Outcome, outcome_of};
 use dns_record::{Query, Record, RecordSet, RecordType, ResponseCode};
 use std::alloc::Global;
+use std::mem;
 use std::process::Abort;
 
 /// How far a lookup goes, if nothing else is said.
@@ -146,13 +147,20 @@ fn put_sets(alloc: Global, message: &mut Message, all: &[Told]) -> Result<(), Na
 fn response(alloc: Global, row: &Row) -> Result<Message, NameError> {
     let mut message = bare_message(alloc)?;
     message.response_code = row.code;
-    put_sets(alloc, &mut message, row.told)?;
-    Ok(message)
+    match put_sets(alloc, &mut message, row.told) {
+        Ok(()) => Ok(message),
+        Err(error) => {
+            drop(message);
+            Err(error)
+        }
+    }
 }
 
 fn signed_set(alloc: Global, told: &Told) -> Result<RecordSet, NameError> {
+    let mut rrsigs = Vec::new(alloc);
+    put_signatures(alloc, &mut rrsigs, told)?;
     let mut set = set_of(alloc, &record_of(told))?;
-    put_signatures(alloc, &mut set.rrsigs, told)?;
+    drop(mem::replace(&mut set.rrsigs, rrsigs));
     Ok(set)
 }
 
@@ -184,7 +192,10 @@ fn outcome_to(
     row: &Row,
     sets: &[ChainedSet],
 ) -> Result<Outcome, NameError> {
-    Ok(outcome_of(alloc, &LIMITS, query, &response(alloc, row)?, sets)?)
+    let response = response(alloc, row)?;
+    let outcome = outcome_of(alloc, &LIMITS, query, &response, sets);
+    drop(response);
+    Ok(outcome?)
 }
 
 /// How a step of these sets ends.

@@ -8,6 +8,7 @@ use dns_name::Name;
 use dns_record::{DNSClass, Record, RecordSet};
 use dns_sets::finished;
 use std::alloc::Global;
+use std::mem;
 
 const ADDRESS: Met = Met {
     section: Section::Answer,
@@ -63,11 +64,18 @@ struct JudgedSet {
 }
 
 fn signed_set(alloc: Global, signatures: &[Met]) -> Result<RecordSet, NameError> {
+    let rrsigs = signatures_of(alloc, signatures)?;
     let mut set = set_of(alloc, &ADDRESS)?;
-    for signature in signatures {
-        put(alloc, &mut set.rrsigs, signature)?;
-    }
+    drop(mem::replace(&mut set.rrsigs, rrsigs));
     Ok(set)
+}
+
+fn signatures_of(alloc: Global, signatures: &[Met]) -> Result<Vec<Record>, NameError> {
+    let mut rrsigs = Vec::new(alloc);
+    for signature in signatures {
+        put(alloc, &mut rrsigs, signature)?;
+    }
+    Ok(rrsigs)
 }
 
 /// The key by which a section's chain is told from others.
@@ -124,8 +132,9 @@ fn answer(
     rows: &[JudgedSet],
     told: &[Met],
 ) -> Result<DnsResponse, NameError> {
+    let sets = judged_sets(alloc, rows)?;
     let message = message(alloc, told)?;
-    answer_of(alloc, now, judged_sets(alloc, rows)?, message)
+    answer_of(alloc, now, sets, message)
 }
 
 fn answer_of(

@@ -78,7 +78,10 @@ const ENDED: &[Ended] = &[
 ];
 
 fn outcome_to(alloc: Global, query: &Query, records: &[Met]) -> Result<Outcome, NameError> {
-    Ok(outcome_of(alloc, &LIMITS, query, &message(alloc, records)?, &[])?)
+    let message = message(alloc, records)?;
+    let outcome = outcome_of(alloc, &LIMITS, query, &message, &[]);
+    drop(message);
+    Ok(outcome?)
 }
 
 fn ends(alloc: Global, row: &Ended) -> Result<bool, NameError> {
@@ -413,7 +416,10 @@ const ENDED_IN_ZONE: &[EndedInZone] = &[
 ];
 
 fn in_zone(alloc: Global, query: &Query, row: &EndedInZone) -> Result<Outcome, NameError> {
-    Ok(outcome_by_zone(query, &message(alloc, row.records)?, row.mark))
+    let message = message(alloc, row.records)?;
+    let outcome = outcome_by_zone(query, &message, row.mark);
+    drop(message);
+    Ok(outcome)
 }
 
 fn ends_in_zone(alloc: Global, row: &EndedInZone) -> Result<bool, NameError> {
@@ -466,7 +472,9 @@ fn has_foreign_type_in(alloc: Global, message: &Message, want: u16) -> Result<bo
 fn has_foreign_type(alloc: Global, records: &[Met], want: u16) -> Result<bool, NameError> {
     let mut message = message(alloc, records)?;
     make_foreign(&mut message.additionals);
-    has_foreign_type_in(alloc, &message, want)
+    let held = has_foreign_type_in(alloc, &message, want);
+    drop(message);
+    held
 }
 
 #[test]

@@ -41,8 +41,12 @@ const OVER_SOA: &[u8] = b"\0\x06\x08\0\0\0\0\xc8\0\0\x03\xe8\0\0\0\0\0\x01\0\x01
 
 const OVER_TXT: &[u8] = b"\0\x10\x08\x01\0\0\0\xc8\0\0\x03\xe8\0\0\0\0\0\x01\0\x01";
 
+/// One that is too long fails its test by the error.
 pub(crate) fn rdata(alloc: Global, bytes: &[u8]) -> Result<Rdata, NameError> {
-    Ok(Rdata::from_slice(alloc, &bytes[..bytes.len().min(65535)])?)
+    if bytes.len() > 65535 {
+        return Err(NameError::LongName);
+    }
+    Ok(Rdata::from_slice(alloc, bytes)?)
 }
 
 pub(crate) fn record(alloc: Global, met: &Met) -> Result<Record, NameError> {
@@ -123,10 +127,20 @@ fn message_of(queries: Vec<Query>, alloc: Global) -> Message {
 /// A message of these records.
 pub(crate) fn message(alloc: Global, records: &[Met]) -> Result<Message, NameError> {
     let mut message = bare_message(alloc)?;
-    for met in records {
-        put(alloc, records_of(&mut message, met.section), met)?;
+    match put_all(alloc, &mut message, records) {
+        Ok(()) => Ok(message),
+        Err(error) => {
+            drop(message);
+            Err(error)
+        }
     }
-    Ok(message)
+}
+
+fn put_all(alloc: Global, message: &mut Message, records: &[Met]) -> Result<(), NameError> {
+    for met in records {
+        put(alloc, records_of(message, met.section), met)?;
+    }
+    Ok(())
 }
 
 /// A set that is wanted: its section and type, and how many records and signatures it has.
@@ -262,7 +276,9 @@ fn are_grouped(placed: &[PlacedSet], want: &[Grouped]) -> bool {
 /// The records make these sets at a depth.
 fn makes(alloc: Global, depth: u16, want: &[Grouped]) -> Result<bool, NameError> {
     let message = message(alloc, met_rows())?;
-    Ok(are_grouped(&judged_part(alloc, depth, &message)?, want))
+    let placed = judged_part(alloc, depth, &message);
+    drop(message);
+    Ok(are_grouped(&placed?, want))
 }
 
 #[test]
@@ -290,7 +306,9 @@ fn are_unmarked(message: &Message) -> bool {
 fn are_cleared(alloc: Global) -> Result<bool, NameError> {
     let mut message = message(alloc, met_rows())?;
     clear_marks(&mut message);
-    Ok(are_unmarked(&message))
+    let held = are_unmarked(&message);
+    drop(message);
+    Ok(held)
 }
 
 #[test]

@@ -58,8 +58,12 @@ fn judged(alloc: Global, case: bool, from: Origin, bytes: &[u8]) -> Option<Kind>
     }
     let request = Message::from_vec(alloc, ASKED).ok()?;
     let server = address(Origin::Server);
-    let accepted = accept_datagram(alloc, &request, server, case, address(from), bytes).ok()?;
-    Some(kind_of(&accepted))
+    let accepted = accept_datagram(alloc, &request, server, case, address(from), bytes);
+    drop(request);
+    let accepted = accepted.ok()?;
+    let kind = kind_of(&accepted);
+    drop(accepted);
+    Some(kind)
 }
 
 /// A datagram and what it comes to.

@@ -1,9 +1,9 @@
+use crate::watching::Watching;
 use dns_handle::{IoKind, NetError};
 use dns_link::Dialer;
 use dns_mux::ListDraws;
 use dns_name::NoMemory;
 use dns_sockets::{UdpSocket, UdpStream};
-use dns_watching::Watching;
 use std::alloc::Global;
 use std::collections::BTreeSet;
 use std::net::{IpAddr, Ipv4Addr, SocketAddr};
@@ -44,31 +44,57 @@ fn avoided(alloc: Global, port: Option<u16>) -> Result<BTreeSet<u16>, NoMemory> 
     Ok(ports)
 }
 
-/// How a stream is bound, for which 2000 and 2001 and then 1024 are drawn.
-fn bound(alloc: Global, wanted: Wanted) -> Result<End, NoMemory> {
-    let mut dial = Watching::new(alloc);
-    dial.refusals = wanted.refusals;
+/// The fault of what was made, if it is one of the outside.
+fn fault_of<T>(made: &Result<T, NetError>) -> Option<IoKind> {
+    match made {
+        Err(NetError::Io(kind)) => Some(*kind),
+        _ => None,
+    }
+}
+
+/// 2000 and 2001 and then 1024 are drawn.
+fn draws(alloc: Global) -> Result<ListDraws, NoMemory> {
     let ports = Vec::from_slice(alloc, &[2000u16, 2001])?;
-    let mut draws = ListDraws::new(Vec::new(alloc), ports);
-    let avoid = avoided(alloc, wanted.avoided)?;
+    Ok(ListDraws::new(Vec::new(alloc), ports))
+}
+
+/// The fault with which a stream is made.
+fn fault_over(
+    alloc: Global,
+    dial: &mut Watching,
+    draws: &mut ListDraws,
+    avoid: BTreeSet<u16>,
+    wanted: Wanted,
+) -> Option<IoKind> {
     let made = UdpStream::new(
         alloc,
-        &mut dial,
-        &mut draws,
+        dial,
+        draws,
         server(),
         wanted.bind,
         Some(avoid),
         wanted.os_ports,
     );
-    let fault = match made {
-        Err(NetError::Io(kind)) => Some(kind),
-        _ => None,
-    };
-    Ok(End {
-        binds: dial.bound.len(),
-        last: dial.bound.last().copied(),
-        fault,
-    })
+    let fault = fault_of(&made);
+    drop(made);
+    fault
+}
+
+fn bound_by(alloc: Global, draws: &mut ListDraws, avoid: BTreeSet<u16>, wanted: Wanted) -> End {
+    let mut dial = Watching::new(alloc);
+    dial.refusals = wanted.refusals;
+    let fault = fault_over(alloc, &mut dial, draws, avoid, wanted);
+    let binds = dial.bound.len();
+    let last = dial.bound.last().copied();
+    drop(dial);
+    End { binds, last, fault }
+}
+
+/// How a stream is bound.
+fn bound(alloc: Global, wanted: Wanted) -> Result<End, NoMemory> {
+    let mut draws = draws(alloc)?;
+    let avoid = avoided(alloc, wanted.avoided)?;
+    Ok(bound_by(alloc, &mut draws, avoid, wanted))
 }
 
 /// Whether a stream is bound so.

@@ -42,3 +42,5 @@ mod udp_loopback_tests;
 mod udp_message_tests;
 #[cfg(test)]
 mod udp_parts;
+#[cfg(test)]
+mod watching;

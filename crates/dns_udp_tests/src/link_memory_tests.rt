@@ -7,17 +7,24 @@ use std::net::{IpAddr, Ipv4Addr, SocketAddr};
 
 /// Whether a link of seventy thousand pieces gives them all, and takes as many bytes as it has room for.
 fn is_large(alloc: Global) -> Result<bool, NoMemory> {
+    let bytes = seventy_thousand_and_one(alloc)?;
     let pieces = single_bytes(alloc, 70_000)?;
     let mut link = PairLink::new(alloc, pieces, 70_000, Vec::new(alloc))?;
+    Ok(takes_and_gives(&mut link, &bytes))
+}
+
+fn seventy_thousand_and_one(alloc: Global) -> Result<Vec<u8>, NoMemory> {
     let mut bytes = Vec::new(alloc);
     bytes.resize(70_001, 7u8)?;
-    let written = link.write(&bytes);
-    Ok(
-        reads_of(&mut link) == (70_000, None)
-            && written == Ok(70_000)
-            && link.write(&bytes) == Ok(0)
-            && link.taken().len() == 70_000,
-    )
+    Ok(bytes)
+}
+
+fn takes_and_gives(link: &mut PairLink, bytes: &[u8]) -> bool {
+    let written = link.write(bytes);
+    reads_of(link) == (70_000, None)
+        && written == Ok(70_000)
+        && link.write(bytes) == Ok(0)
+        && link.taken().len() == 70_000
 }
 
 #[test]

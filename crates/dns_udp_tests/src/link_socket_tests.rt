@@ -15,18 +15,44 @@ fn accepted(listener: &TcpListener) -> Result<SocketLink<TcpStream>, IoKind> {
     Ok(SocketLink::new(stream))
 }
 
+/// Whether a byte goes from one side to the other.
+fn is_sent<L: Link, M: Link>(client: &mut L, server: &mut M) -> Result<bool, IoKind> {
+    let mut buf = [0u8; 8];
+    let written = client.write(&[7])?;
+    let read = server.read(&mut buf)?;
+    Ok(written == 1 && read == 1 && buf[0] == 7)
+}
+
+fn has_ended<L: Link>(link: &mut L) -> Result<bool, IoKind> {
+    let mut buf = [0u8; 8];
+    Ok(link.read(&mut buf)? == 0)
+}
+
+/// Whether a byte comes over a new connection to an address, which then ends.
+fn is_heard<D: Dialer>(
+    dial: &mut D,
+    listener: &TcpListener,
+    addr: SocketAddr,
+) -> Result<bool, IoKind> {
+    let mut client = dial.connect(addr, None, 5000)?;
+    match accepted(listener) {
+        Ok(mut server) => {
+            let sent = is_sent(&mut client, &mut server);
+            dial.retire(client);
+            Ok(sent? && has_ended(&mut server)?)
+        }
+        Err(kind) => {
+            dial.retire(client);
+            Err(kind)
+        }
+    }
+}
+
 /// Whether a byte goes over a connection of this machine, which then ends.
 fn is_carried(rt: &HostRuntime) -> Result<bool, IoKind> {
     let (listener, addr) = listener(rt)?;
     let mut dial = SocketDialer::new(rt);
-    let mut client = dial.connect(addr, None, 5000)?;
-    let mut server = accepted(&listener)?;
-    let mut buf = [0u8; 8];
-    let written = client.write(&[7])?;
-    let read = server.read(&mut buf)?;
-    dial.retire(client);
-    let rest = server.read(&mut buf)?;
-    Ok(written == 1 && read == 1 && buf[0] == 7 && rest == 0)
+    is_heard(&mut dial, &listener, addr)
 }
 
 #[test]

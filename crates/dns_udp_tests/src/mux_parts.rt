@@ -5,6 +5,7 @@ use dns_mux::{BufDnsStreamHandle, DnsMultiplexer, ListDraws};
 use dns_name::{Name, NoMemory, Octets};
 use dns_record::{DNSClass, Rdata, Record, RecordType};
 use std::alloc::Global;
+use std::mem;
 use std::net::{IpAddr, Ipv4Addr, SocketAddr};
 
 /// The server of all tests.
@@ -34,20 +35,31 @@ pub(crate) fn request(alloc: Global) -> DnsRequest {
     }
 }
 
-/// A request whose encoding has 12 bytes for the header, 11 for the rest of a record at the root, and these of its rdata.
-pub(crate) fn long_request(alloc: Global, rdata: usize) -> Result<DnsRequest, NoMemory> {
-    let mut long = request(alloc);
+fn long_record(alloc: Global, rdata: usize) -> Result<Record, NoMemory> {
     let mut bytes = Vec::new(alloc);
     bytes.resize(rdata.min(65535), 0u8)?;
-    let record = Record {
-        name: Name::root(alloc)?,
+    let name = Name::root(alloc)?;
+    Ok(Record {
+        name,
         record_type: RecordType(65280),
         dns_class: DNSClass::IN,
         ttl: 0,
         rdata: Rdata::from_octets(Octets::from_vec(bytes)),
         proof: Proof::Indeterminate,
-    };
-    long.message.answers.push(record)?;
+    })
+}
+
+fn long_answers(alloc: Global, rdata: usize) -> Result<Vec<Record>, NoMemory> {
+    let mut answers = Vec::new(alloc);
+    answers.push(long_record(alloc, rdata)?)?;
+    Ok(answers)
+}
+
+/// A request whose encoding has 12 bytes for the header, 11 for the rest of a record at the root, and these of its rdata.
+pub(crate) fn long_request(alloc: Global, rdata: usize) -> Result<DnsRequest, NoMemory> {
+    let answers = long_answers(alloc, rdata)?;
+    let mut long = request(alloc);
+    drop(mem::replace(&mut long.message.answers, answers));
     Ok(long)
 }
 

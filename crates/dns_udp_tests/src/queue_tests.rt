@@ -19,19 +19,42 @@ fn message(alloc: Global, byte: u8) -> Result<SerialMessage, NoMemory>
 /// How many of these messages the queue of a size takes.
 fn taken(alloc: Global, size: usize, count: u8) -> Result<usize, NoMemory> {
     let (mut handle, mut queue) = BufDnsStreamHandle::with_buffer_size(alloc, server(), size);
-    let mut full: usize = 0;
-    for byte in 0..count {
-        let sent = handle.send(&mut queue, message(alloc, byte)?);
-        if matches!(sent, Err(NetError::Message(Notice::SendQueueFull))) {
-            full = full.saturating_add(1);
-        }
-    }
-    let taken = usize::from(count).saturating_sub(full);
+    let full = refused(alloc, &mut handle, &mut queue, count);
+    let taken = usize::from(count).saturating_sub(full?);
     Ok(if queue.len() == taken && is_in_order(&mut queue) {
         taken
     } else {
         0
     })
+}
+
+/// Whether a message of one byte is refused, since the queue is full.
+fn is_refused(
+    alloc: Global,
+    handle: &mut BufDnsStreamHandle,
+    queue: &mut StreamReceiver,
+    byte: u8,
+) -> Result<bool, NoMemory> {
+    let sent = handle.send(queue, message(alloc, byte)?);
+    let held = matches!(&sent, Err(NetError::Message(Notice::SendQueueFull)));
+    drop(sent);
+    Ok(held)
+}
+
+/// How many of these messages are refused.
+fn refused(
+    alloc: Global,
+    handle: &mut BufDnsStreamHandle,
+    queue: &mut StreamReceiver,
+    count: u8,
+) -> Result<usize, NoMemory> {
+    let mut full: usize = 0;
+    for byte in 0..count {
+        if is_refused(alloc, handle, queue, byte)? {
+            full = full.saturating_add(1);
+        }
+    }
+    Ok(full)
 }
 
 /// Whether what waits are the bytes from 0 on.

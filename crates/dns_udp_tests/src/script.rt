@@ -1,6 +1,8 @@
 use crate::mux_parts::{long_request, multiplexer, request, response_bytes};
 use dns_handle::{IoKind, NetError, Notice, ProtoError};
-use dns_mux::{Arrival, DnsMultiplexer, DnsRequestSender, ListDraws, RequestId, Taken};
+use dns_mux::{
+    Arrival, DnsMultiplexer, DnsRequestSender, ListDraws, RequestId, SerialMessage, Taken,
+};
 use dns_name::NoMemory;
 use std::alloc::Global;
 
@@ -75,6 +77,18 @@ fn refusal_of(error: &NetError) -> Option<Refusal> {
     }
 }
 
+/// The send has the number, or the refusal.
+fn is_told(
+    sent: &Result<RequestId, NetError>,
+    number: Option<u64>,
+    refused: Option<Refusal>,
+) -> bool {
+    match sent {
+        Ok(RequestId(sent)) => number == Some(*sent),
+        Err(error) => number.is_none() && refusal_of(error) == refused,
+    }
+}
+
 fn is_sent(
     alloc: Global,
     mux: &mut DnsMultiplexer<ListDraws>,
@@ -85,9 +99,19 @@ fn is_sent(
     if mux.is_shutdown() {
         return false;
     }
-    match mux.send_message(alloc, &request(alloc), now) {
-        Ok(RequestId(sent)) => number == Some(sent),
-        Err(error) => number.is_none() && refusal_of(&error) == refused,
+    let request = request(alloc);
+    let sent = mux.send_message(alloc, &request, now);
+    drop(request);
+    let held = is_told(&sent, number, refused);
+    drop(sent);
+    held
+}
+
+fn is_sent_or_too_long(told: &Result<RequestId, NetError>, sent: bool) -> bool {
+    match told {
+        Ok(_) => sent,
+        Err(NetError::Proto(ProtoError::TooLong)) => !sent,
+        Err(_) => false,
     }
 }
 
@@ -101,19 +125,46 @@ fn is_long(
         return Ok(false);
     }
     let long = long_request(alloc, rdata)?;
-    Ok(match mux.send_message(alloc, &long, 0) {
-        Ok(_) => sent,
-        Err(NetError::Proto(ProtoError::TooLong)) => !sent,
-        Err(_) => false,
-    })
+    let told = mux.send_message(alloc, &long, 0);
+    drop(long);
+    let held = is_sent_or_too_long(&told, sent);
+    drop(told);
+    Ok(held)
+}
+
+/// The id of a message, if there is one.
+fn id_of(message: &Option<SerialMessage>) -> Option<u16> {
+    match message.as_ref()?.bytes.as_slice() {
+        [high, low, ..] => Some(u16::from_be_bytes([*high, *low])),
+        _ => None,
+    }
 }
 
 fn is_popped(mux: &mut DnsMultiplexer<ListDraws>, id: Option<u16>) -> bool {
-    match (mux.pop_outbound(), id) {
-        (None, None) => true,
-        (Some(message), Some(id)) => message.bytes.as_slice().get(..2) == Some(&id.to_be_bytes()),
-        _ => false,
+    let message = mux.pop_outbound();
+    let held = message.is_some() == id.is_some() && id_of(&message) == id;
+    drop(message);
+    held
+}
+
+/// What waits for the request is this.
+fn is_taken(mux: &mut DnsMultiplexer<ListDraws>, number: u64, item: Given) -> bool {
+    let taken = mux.take(RequestId(number));
+    let held = given_by(&taken) == item;
+    drop(taken);
+    held
+}
+
+fn is_queued(
+    alloc: Global,
+    mux: &mut DnsMultiplexer<ListDraws>,
+    bytes: &[u8],
+    number: u64,
+) -> Result<bool, NoMemory> {
+    if bytes.len() > 65535 {
+        return Ok(false);
     }
+    Ok(mux.arrive(alloc, bytes)? == Arrival::Queued(RequestId(number)))
 }
 
 fn is_echoed(
@@ -121,14 +172,14 @@ fn is_echoed(
     mux: &mut DnsMultiplexer<ListDraws>,
     number: u64,
 ) -> Result<bool, NoMemory> {
-    let Some(message) = mux.pop_outbound() else {
-        return Ok(false);
-    };
-    let bytes = message.bytes.as_slice();
-    if bytes.len() > 65535 {
-        return Ok(false);
+    match mux.pop_outbound() {
+        Some(message) => {
+            let held = is_queued(alloc, mux, message.bytes.as_slice(), number);
+            drop(message);
+            held
+        }
+        None => Ok(false),
     }
-    Ok(mux.arrive(alloc, bytes)? == Arrival::Queued(RequestId(number)))
 }
 
 fn plays(
@@ -145,7 +196,7 @@ fn plays(
         }
         Step::Echoes(number) => is_echoed(alloc, mux, *number)?,
         Step::Arrives(id, arrival) => mux.arrive(alloc, &response_bytes(*id))? == *arrival,
-        Step::Takes(number, item) => given_by(&mux.take(RequestId(*number))) == *item,
+        Step::Takes(number, item) => is_taken(mux, *number, *item),
         Step::Cancels(number) => {
             mux.cancel(RequestId(*number));
             true
@@ -162,13 +213,25 @@ fn plays(
     })
 }
 
+fn steps_of(
+    alloc: Global,
+    mux: &mut DnsMultiplexer<ListDraws>,
+    steps: &[Step],
+) -> Result<usize, NoMemory> {
+    let mut place: usize = 0;
+    for step in steps {
+        if !plays(alloc, mux, step)? {
+            return Ok(place);
+        }
+        place = place.saturating_add(1);
+    }
+    Ok(place)
+}
+
 /// The first step that was answered otherwise, counted from 0; as many as there are where none was.
 pub(crate) fn steps_played(alloc: Global, script: &Script) -> Result<usize, NoMemory> {
     let mut mux = multiplexer(alloc, script.size, script.maximum, script.ids)?;
-    for place in 0..script.steps.len() {
-        if !plays(alloc, &mut mux, &script.steps[place])? {
-            return Ok(place);
-        }
-    }
-    Ok(script.steps.len())
+    let played = steps_of(alloc, &mut mux, script.steps);
+    drop(mux);
+    played
 }

@@ -42,17 +42,62 @@ fn long_socket(alloc: Global) -> Result<ListDatagrams, NoMemory> {
     Ok(ListDatagrams::new(incoming, Vec::new(alloc)))
 }
 
-/// How many of 40 messages are taken to be sent, and what comes then and after that.
-fn carried(alloc: Global) -> Result<(u32, Option<(usize, u8)>, Option<(usize, u8)>), NetError> {
-    let (mut stream, mut handle) = UdpStream::with_bound(alloc, long_socket(alloc)?, server());
+/// Whether a message is taken to be sent.
+fn is_put<G: Datagrams + Drop>(
+    alloc: Global,
+    stream: &mut UdpStream<G>,
+    handle: &mut BufDnsStreamHandle,
+) -> bool {
+    let sent = put(alloc, stream, handle, 1);
+    let held = sent.is_ok();
+    drop(sent);
+    held
+}
+
+/// How many of 40 messages are taken to be sent.
+fn taken<G: Datagrams + Drop>(
+    alloc: Global,
+    stream: &mut UdpStream<G>,
+    handle: &mut BufDnsStreamHandle,
+) -> u32 {
     let mut taken: u32 = 0;
     for _ in 0..40u32 {
-        if put(alloc, &mut stream, &mut handle, 1).is_ok() {
+        if is_put(alloc, stream, handle) {
             taken = taken.saturating_add(1);
         }
     }
-    let first = came(&stream.receive(alloc)?);
-    let second = came(&stream.receive(alloc)?);
+    taken
+}
+
+/// What comes next.
+fn received<G: Datagrams + Drop>(
+    alloc: Global,
+    stream: &mut UdpStream<G>,
+) -> Result<Option<(usize, u8)>, NetError> {
+    let message = stream.receive(alloc)?;
+    let came = came(&message);
+    drop(message);
+    Ok(came)
+}
+
+/// What comes next, and after that.
+fn received_twice<G: Datagrams + Drop>(
+    alloc: Global,
+    stream: &mut UdpStream<G>,
+) -> Result<(Option<(usize, u8)>, Option<(usize, u8)>), NetError> {
+    let first = received(alloc, stream)?;
+    Ok((first, received(alloc, stream)?))
+}
+
+/// How many of 40 messages are taken to be sent, and what comes then and after that.
+fn carried(alloc: Global) -> Result<(u32, Option<(usize, u8)>, Option<(usize, u8)>), NetError> {
+    let socket = long_socket(alloc)?;
+    let (mut stream, mut handle) = UdpStream::with_bound(alloc, socket, server());
+    let taken = taken(alloc, &mut stream, &mut handle);
+    let came = received_twice(alloc, &mut stream);
+    drop(handle);
+    drop(stream);
+    let (first, second) = came?;
     Ok((taken, first, second))
 }
 

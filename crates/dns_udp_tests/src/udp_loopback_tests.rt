@@ -1,7 +1,7 @@
 ghost use Rattle.std.specs.Prelude.{◌≤◌, IfOk, length};
 
 use crate::udp_parts::request;
-use dns_handle::DnsResponse;
+use dns_handle::{DnsRequest, DnsResponse, NetError};
 use dns_link::SocketDialer;
 use dns_mux::RandDraws;
 use dns_udp::UdpClientStream;
@@ -61,24 +61,38 @@ fn serve(socket: &UdpSocket, other: &UdpSocket, before: Before) -> io::Result<()
 }
 
 /// Whether the answer has the request's id and is a response.
-fn is_answer(response: &DnsResponse) -> bool {
-    response.message.id == 1 && response.message.response && response.message.queries.len() == 1
+fn is_answer(reply: &Result<DnsResponse, NetError>) -> bool {
+    match reply {
+        Ok(DnsResponse { message, .. }) => {
+            message.id == 1 && message.response && message.queries.len() == 1
+        }
+        Err(_) => false,
+    }
 }
 
-/// Whether a server's answer comes.
-fn is_answered<N: Net + Alloc<A = Global>>(rt: &N, server: SocketAddr) -> bool {
+/// Whether a server's answer to a request comes.
+fn answers<N: Net + Alloc<A = Global>>(rt: &N, server: SocketAddr, request: &DnsRequest) -> bool {
     let alloc = rt.alloc();
     let mut dial = SocketDialer::new(rt);
     let mut draws = RandDraws::from_seed(5);
     let mut stream = UdpClientStream::builder(alloc, server)
         .with_os_port_selection(true)
         .build();
-    let Some(request) = request(alloc) else {
-        return false;
-    };
-    match stream.send_message(alloc, &mut dial, &mut draws, &request) {
-        Ok(response) => is_answer(&response),
-        Err(_) => false,
+    let reply = stream.send_message(alloc, &mut dial, &mut draws, request);
+    let held = is_answer(&reply);
+    drop(reply);
+    held
+}
+
+/// Whether a server's answer comes.
+fn is_answered<N: Net + Alloc<A = Global>>(rt: &N, server: SocketAddr) -> bool {
+    match request(rt.alloc()) {
+        Some(request) => {
+            let held = answers(rt, server, &request);
+            drop(request);
+            held
+        }
+        None => false,
     }
 }
 

@@ -1,7 +1,7 @@
-use crate::udp_parts::{ANSWER, OTHER, datagrams, no_draws, request, server};
-use dns_handle::{DnsResponse, NetError, Notice};
+use crate::udp_parts::{ANSWER, OTHER, let_come, no_draws, request, server};
+use crate::watching::Watching;
+use dns_handle::{DnsRequest, DnsResponse, NetError, Notice};
 use dns_udp::UdpClientStream;
-use dns_watching::Watching;
 use std::alloc::Global;
 
 /// What a call came to.
@@ -27,31 +27,57 @@ fn end_of(reply: &Result<DnsResponse, NetError>) -> End {
     }
 }
 
-/// The end of a call over a dialer, and on how many sockets it was sent, in the same bytes.
-fn ended(alloc: Global, dial: &mut Watching, timeout: u64) -> Option<(End, usize)> {
+/// The end of a call over a dialer.
+fn end_over(alloc: Global, dial: &mut Watching, request: &DnsRequest, timeout: u64) -> End {
     let mut stream = UdpClientStream::builder(alloc, server())
         .with_timeout(Some(timeout))
         .build();
-    let request = request(alloc)?;
     let mut draws = no_draws(alloc);
-    let end = end_of(&stream.send_message(alloc, dial, &mut draws, &request));
-    let bytes = request.message.to_vec().ok()?;
-    if !dial.sent.iter().all(|sent| *sent == bytes) {
-        return None;
-    }
-    Some((end, dial.sent.len()))
+    let reply = stream.send_message(alloc, dial, &mut draws, request);
+    let end = end_of(&reply);
+    drop(reply);
+    end
 }
 
-/// A dialer to whose first sockets so many datagrams come.
-fn dialer(alloc: Global, first: (&[u8], u32), second: (&[u8], u32)) -> Option<Watching> {
-    let mut dial = Watching::new(alloc);
-    dial.incoming
-        .push_back(datagrams(alloc, first.0, first.1)?)
-        .ok()?;
-    dial.incoming
-        .push_back(datagrams(alloc, second.0, second.1)?)
-        .ok()?;
-    Some(dial)
+/// Whether the request's bytes went out on each socket.
+fn is_sent_alike(dial: &Watching, request: &DnsRequest) -> Option<bool> {
+    let bytes = request.message.to_vec().ok()?;
+    Some(dial.sent.iter().all(|sent| *sent == bytes))
+}
+
+/// The end of a call over a dialer, and on how many sockets it was sent, in the same bytes.
+fn ended_by(
+    alloc: Global,
+    dial: &mut Watching,
+    request: &DnsRequest,
+    timeout: u64,
+) -> Option<(End, usize)> {
+    let end = end_over(alloc, dial, request, timeout);
+    if is_sent_alike(dial, request)? {
+        Some((end, dial.sent.len()))
+    } else {
+        None
+    }
+}
+
+fn ended(alloc: Global, dial: &mut Watching, timeout: u64) -> Option<(End, usize)> {
+    let request = request(alloc)?;
+    let ended = ended_by(alloc, dial, &request, timeout);
+    drop(request);
+    ended
+}
+
+/// The same where so many datagrams come to the first sockets.
+fn ended_after(
+    alloc: Global,
+    dial: &mut Watching,
+    first: (&[u8], u32),
+    second: (&[u8], u32),
+    timeout: u64,
+) -> Option<(End, usize)> {
+    let_come(alloc, dial, first.0, first.1)?;
+    let_come(alloc, dial, second.0, second.1)?;
+    ended(alloc, dial, timeout)
 }
 
 /// The end of a call to whose sockets these datagrams come.
@@ -61,8 +87,10 @@ fn answered(
     second: (&[u8], u32),
     timeout: u64,
 ) -> Option<(End, usize)> {
-    let mut dial = dialer(alloc, first, second)?;
-    ended(alloc, &mut dial, timeout)
+    let mut dial = Watching::new(alloc);
+    let ended = ended_after(alloc, &mut dial, first, second, timeout);
+    drop(dial);
+    ended
 }
 
 #[test]
@@ -95,7 +123,9 @@ fn a_flood_ends_a_call(rt: HostRuntime) {
 fn short(alloc: Global) -> Option<(End, usize)> {
     let mut dial = Watching::new(alloc);
     dial.is_short = true;
-    ended(alloc, &mut dial, 5000)
+    let ended = ended(alloc, &mut dial, 5000);
+    drop(dial);
+    ended
 }
 
 #[test]
@@ -103,18 +133,35 @@ fn a_short_send_is_told(rt: HostRuntime) {
     assert!(rt; short(rt.alloc()) == Some((End::Short, 1)));
 }
 
-/// How many sockets get the request where none is answered, by interval, most tasks and timeout.
-fn tries(alloc: Global, interval: u64, tasks: u8, timeout: u64) -> Option<usize> {
-    let mut dial = Watching::new(alloc);
+/// When a request is sent again: its interval, most tasks and timeout.
+#[derive(Clone, Copy)]
+struct Times(u64, u8, u64);
+
+fn send_over(alloc: Global, dial: &mut Watching, request: &DnsRequest, times: Times) {
     let mut stream = UdpClientStream::builder(alloc, server())
-        .with_timeout(Some(timeout))
-        .with_retry_interval_floor(interval)
-        .with_max_retries(tasks)
+        .with_timeout(Some(times.2))
+        .with_retry_interval_floor(times.0)
+        .with_max_retries(times.1)
         .build();
-    let request = request(alloc)?;
     let mut draws = no_draws(alloc);
-    drop(stream.send_message(alloc, &mut dial, &mut draws, &request));
-    Some(dial.sent.len())
+    drop(stream.send_message(alloc, dial, &mut draws, request));
+}
+
+/// How many sockets get a request where none is answered.
+fn sockets_of(alloc: Global, request: &DnsRequest, times: Times) -> usize {
+    let mut dial = Watching::new(alloc);
+    send_over(alloc, &mut dial, request, times);
+    let sockets = dial.sent.len();
+    drop(dial);
+    sockets
+}
+
+/// The same by interval, most tasks and timeout.
+fn tries(alloc: Global, interval: u64, tasks: u8, timeout: u64) -> Option<usize> {
+    let request = request(alloc)?;
+    let sockets = sockets_of(alloc, &request, Times(interval, tasks, timeout));
+    drop(request);
+    Some(sockets)
 }
 
 #[test]

@@ -1,3 +1,4 @@
+use crate::watching::Watching;
 use dns_handle::{DnsRequest, DnsRequestOptions};
 use dns_message::Message;
 use dns_mux::ListDraws;
@@ -44,17 +45,23 @@ pub(crate) fn request_of(alloc: Global, bytes: &[u8]) -> Option<DnsRequest> {
 }
 
 /// So many datagrams of these bytes from the server.
-pub(crate) fn datagrams(
-    alloc: Global,
-    bytes: &[u8],
-    count: u32,
-) -> Option<Vec<(Octets, SocketAddr)>> {
+fn datagrams(alloc: Global, bytes: &[u8], count: u32) -> Option<Vec<(Octets, SocketAddr)>> {
     let mut all = Vec::new(alloc);
     for _ in 0..count {
-        let next = Octets::from_slice(alloc, bytes).ok()?;
-        all.push((next, server())).ok()?;
+        put_datagram(alloc, &mut all, bytes)?;
     }
     Some(all)
+}
+
+fn put_datagram(alloc: Global, all: &mut Vec<(Octets, SocketAddr)>, bytes: &[u8]) -> Option<()> {
+    let next = Octets::from_slice(alloc, bytes).ok()?;
+    all.push((next, server())).ok()
+}
+
+/// Lets so many datagrams of these bytes come to the next socket.
+pub(crate) fn let_come(alloc: Global, dial: &mut Watching, bytes: &[u8], count: u32) -> Option<()> {
+    let datagrams = datagrams(alloc, bytes, count)?;
+    dial.incoming.push_back(datagrams).ok()
 }
 
 /// Draws nothing but the least port.

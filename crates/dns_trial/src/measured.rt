@@ -1,0 +1,142 @@
+//! The multiplexer beside the plain machine: what it answers to the same events.
+
+use crate::four_ids::FourIds;
+use crate::plain_mux::{Answer, Event, MAXIMUM, SIZE, TIMEOUT};
+use dns_handle::{DnsRequest, DnsRequestOptions, IoKind, NetError, Notice};
+use dns_message::Message;
+use dns_mux::{
+    BufDnsStreamHandle, DnsMultiplexer, DnsRequestSender, Draws, RequestId, SerialMessage, Taken,
+};
+use dns_name::NoMemory;
+use dns_record::ResponseCode;
+use std::alloc::Global;
+use std::net::{IpAddr, Ipv4Addr, SocketAddr};
+
+/// The server of all requests.
+pub(crate) fn server() -> SocketAddr {
+    SocketAddr::new(IpAddr::V4(Ipv4Addr::new(192, 0, 2, 1)), 53)
+}
+
+/// A query without a question.
+pub(crate) fn request(alloc: Global) -> DnsRequest {
+    DnsRequest {
+        message: Message::query(alloc),
+        options: DnsRequestOptions::default(),
+        original: None,
+    }
+}
+
+/// A multiplexer with the settings of the plain machine.
+pub(crate) fn multiplexer(alloc: Global, draws: FourIds) -> DnsMultiplexer<FourIds> {
+    let (handle, queue) = BufDnsStreamHandle::with_buffer_size(alloc, server(), SIZE);
+    DnsMultiplexer::new(alloc, server(), handle, queue, draws)
+        .with_timeout(TIMEOUT)
+        .with_max_active_requests(MAXIMUM)
+}
+
+// A response without a question, whose code is the mark (RFC 1035, 4.1.1).
+fn response_bytes(id: u16, mark: u8) -> [u8; 12] {
+    let [high, low] = id.to_be_bytes();
+    [high, low, 0x80, mark % 16, 0, 0, 0, 0, 0, 0, 0, 0]
+}
+
+fn refusal(error: &NetError) -> Answer {
+    match error {
+        NetError::Busy => Answer::Busy,
+        NetError::Message(Notice::IdSpaceExhausted) => Answer::Exhausted,
+        NetError::Message(Notice::SendQueueFull) => Answer::QueueFull,
+        _ => Answer::Other,
+    }
+}
+
+// What a send answered.
+fn told_by(sent: &Result<RequestId, NetError>) -> Result<Answer, NoMemory> {
+    match sent {
+        Ok(RequestId(number)) => Ok(Answer::Sent(*number)),
+        Err(NetError::NoMemory) => Err(NoMemory),
+        Err(error) => Ok(refusal(error)),
+    }
+}
+
+fn send<R: Draws + Drop>(
+    alloc: Global,
+    mux: &mut DnsMultiplexer<R>,
+    moment: u64,
+) -> Result<Answer, NoMemory> {
+    if mux.is_shutdown() {
+        return Ok(Answer::Other);
+    }
+    let request = request(alloc);
+    let sent = mux.send_message(alloc, &request, moment);
+    drop(request);
+    let told = told_by(&sent);
+    drop(sent);
+    told
+}
+
+fn mark_of(code: ResponseCode) -> u8 {
+    (code.0 % 16) as u8
+}
+
+fn given(taken: &Taken) -> Answer {
+    match taken {
+        Taken::Item(Ok(response)) => Answer::Response(mark_of(response.message.response_code)),
+        Taken::Item(Err(NetError::Io(IoKind::UnexpectedEof))) => Answer::Fault,
+        Taken::Item(Err(_)) => Answer::Other,
+        Taken::Pending => Answer::Pending,
+        Taken::Ended => Answer::Ended,
+    }
+}
+
+fn taken<R: Draws + Drop>(mux: &mut DnsMultiplexer<R>, number: u64) -> Answer {
+    let taken = mux.take(RequestId(number));
+    let answer = given(&taken);
+    drop(taken);
+    answer
+}
+
+fn outbound(message: &Option<SerialMessage>) -> Answer {
+    match message {
+        None => Answer::Nothing,
+        Some(message) => match message.bytes.as_slice() {
+            [high, low, ..] => Answer::Popped(u16::from_be_bytes([*high, *low])),
+            _ => Answer::Other,
+        },
+    }
+}
+
+fn popped<R: Draws + Drop>(mux: &mut DnsMultiplexer<R>) -> Answer {
+    let message = mux.pop_outbound();
+    let answer = outbound(&message);
+    drop(message);
+    answer
+}
+
+/// What the multiplexer answers to an event.
+pub(crate) fn answer<R: Draws + Drop>(
+    alloc: Global,
+    mux: &mut DnsMultiplexer<R>,
+    event: Event,
+) -> Result<Answer, NoMemory> {
+    match event {
+        Event::Send(moment) => send(alloc, mux, moment),
+        Event::Arrive(id, mark) => {
+            let arrival = mux.arrive(alloc, &response_bytes(id, mark))?;
+            Ok(Answer::Arrived(arrival))
+        }
+        Event::Take(number) => Ok(taken(mux, number)),
+        Event::Cancel(number) => {
+            mux.cancel(RequestId(number));
+            Ok(Answer::Nothing)
+        }
+        Event::Tick(now) => {
+            mux.tick(now);
+            Ok(Answer::Nothing)
+        }
+        Event::Close => {
+            mux.close(IoKind::UnexpectedEof);
+            Ok(Answer::Nothing)
+        }
+        Event::Pop => Ok(popped(mux)),
+    }
+}
