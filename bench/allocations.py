@@ -1,5 +1,5 @@
 #!/usr/bin/env python3
-"""Instructions and allocations of one lookup of each session, as valgrind's callgrind counts them.
+"""Instructions and allocations of one lookup of each session from an empty cache, as valgrind's callgrind counts them.
 
     python3 bench/allocations.py [--program PROGRAM] SESSION..
 
@@ -21,7 +21,7 @@ FUNCTION = re.compile(r"c?fn=\((\d+)\)(?: (.*))?")
 
 def counted(program, session, lookups, file):
     """Instructions of a run, and how often it called each function of another."""
-    words = ["valgrind", "--tool=callgrind", f"--callgrind-out-file={file}", program, "lookup", str(lookups)]
+    words = ["valgrind", "--tool=callgrind", f"--callgrind-out-file={file}", program, "anew", str(lookups)]
     with open(session, "rb") as text:
         ended = subprocess.run(words, stdin=text, stdout=subprocess.DEVNULL, stderr=subprocess.DEVNULL, check=False)
     if ended.returncode != 0:

@@ -1,4 +1,4 @@
-"""Sessions that are put to `dns_denial_trial`, for `tools/zones` and `tools/verdicts`."""
+"""Sessions that are put to `dns_bench verdicts`, for `tools/zones` and `tools/verdicts`."""
 import concurrent.futures
 import os
 import subprocess
@@ -6,12 +6,12 @@ import sys
 import tempfile
 
 TOP = os.path.realpath(os.path.join(os.path.dirname(os.path.realpath(__file__)), ".."))
-CRATE = os.path.join(TOP, "crates", "dns_denial_trial")
+CRATE = os.path.join(TOP, "crates", "dns_bench")
 
 
 def run_program(program, sessions):
     def run(text):
-        return subprocess.run([program], input=text.encode(), capture_output=True, check=False).stdout.decode()
+        return subprocess.run([program, "verdicts"], input=text.encode(), capture_output=True, check=False).stdout.decode()
     with concurrent.futures.ThreadPoolExecutor(os.cpu_count()) as pool:
         return list(pool.map(run, sessions))
 
@@ -22,7 +22,7 @@ def run_tried(sessions):
         for number, text in enumerate(sessions):
             with open(os.path.join(folder, f"case-{number:06}"), "w", encoding="ascii") as file:
                 file.write(text)
-        ran = subprocess.run(["rt", "try", "--cases", folder], cwd=CRATE, capture_output=True, check=False)
+        ran = subprocess.run(["rt", "try", "--cases", folder, "--", "verdicts"], cwd=CRATE, capture_output=True, check=False)
     parts = ran.stdout.decode().split("== case-")[1:]
     outputs = {int(part[:6]): part.partition("\n")[2] for part in parts}
     if len(outputs) != len(sessions):
