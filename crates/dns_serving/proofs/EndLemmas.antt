@@ -1,5 +1,5 @@
--- The last link of a chain, and tests of which the dearer is made last.
-use Rattle.std.proofs.Common.{◌≡◌, ◌-◌, Bool, true, false, ◌&&◌, List, map, length, Option, None, Some, slice_get, refl, sym, ap, ◌∙◌}
+-- The last link of a chain.
+use Rattle.std.proofs.Common.{◌≡◌, ◌-◌, List, map, length, Option, slice_get, sym, ap, ◌∙◌}
 use Rattle.std.specs.Option.{option_map}
 use Rattle.std.proofs.lemmas.List.{length-map}
 use Rattle.std.proofs.lemmas.Option.{slice_get-map}
@@ -15,13 +15,3 @@ last_value links o is =
     sym (slice_get-last (map link_value links))
     ∙ ap (λ n. slice_get (map link_value links) (n - 1)) (length-map links link_value)
     ∙ slice_get-map link_value links (length links - 1) ∙ ap (option_map link_value) (sym is)
-
--- of two tests the second fails
-pub second_fails : (first second : Bool) → second ≡ false → false ≡ (first && second)
-second_fails true second h = sym h
-second_fails false second h = refl
-
--- the second passes, so that the first decides
-pub first_decides : (first second b : Bool) → second ≡ true → b ≡ first → b ≡ (first && second)
-first_decides true second b h is = is ∙ sym h
-first_decides false second b h is = is

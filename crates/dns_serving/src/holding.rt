@@ -1,15 +1,16 @@
 //! Whether what an entry says of a set still holds.
 
-ghost use Rattle.std.specs.Prelude.{◌≡◌, ◌&&◌, IfOk, slice_get};
+ghost use Rattle.std.specs.Prelude.{◌≡◌, IfOk, slice_get};
 ghost use Rattle.std.specs.Option.{option_and_then, option_copied};
+ghost use Rattle.dns_cache.specs.Caches.{HasAccepted};
 ghost use Rattle.dns_rules.specs.CacheEntries.{mark_of as mark_in, sig_of as sig_in};
-ghost use Rattle.dns_model.specs.Chains.{ends_at, justified, last_link};
-ghost use Rattle.dns_rules.specs.Serving.{has_place as has_place_in, names_decider, still_holds as holds_in};
+ghost use Rattle.dns_rules.specs.Serving.{has_place as has_place_in, still_holds as holds_in};
+ghost use Rattle.dns_serving.specs.Fitting.{fitting_chain as fitting_in};
 ghost use Rattle.dns_trust.specs.Judge.{judge_of};
 
 use crate::chain_end::ends_by;
 use dns_cache::Entry;
-use dns_chain_check::check_chain;
+use dns_chain_check::{check_chain, is_trusted};
 use dns_evidence::{Chain, PlacedSet, Verifier};
 use dns_model::Proof;
 use dns_name::NoMemory;
@@ -22,6 +23,7 @@ use std::alloc::Global;
 /// decided is there, and its chain is justified by the judge's anchors, verifier and moment, ends at the set, and names that signature,
 /// or is a key set where none decided; any other mark holds as it was found (RFC 4035, 4.5, 5.3.1 and 5.3.3). The only error is want
 /// of memory.
+#[tactic(auto, using(crate::proofs::FittingLemmas::fitting_decides))]
 pub fn still_holds<V: Verifier>(
     alloc: Global,
     judge: &Judge<'_, V>,
@@ -33,33 +35,45 @@ pub fn still_holds<V: Verifier>(
     if mark_of(&kept.result) != Proof::Secure {
         return Ok(true);
     }
-    let place = sig_of(&kept.result);
-    if !has_place(&placed.set, place) {
-        return Ok(false);
+    match fitting_chain(&placed.set, kept) {
+        Some(chain) => check_chain(alloc, judge.anchors, judge.verifier, judge.moment, chain),
+        None => Ok(false),
     }
-    let Some(chain) = &kept.chain else {
-        return Ok(false);
-    };
-    let decider = signature_at(&placed.set, place);
-    proves(alloc, judge, &placed.set, decider, chain)
 }
 
-// The chain proves the set, which this signature decided.
-#[tactic(auto, using(crate::proofs::EndLemmas::second_fails, crate::proofs::EndLemmas::first_decides))]
-fn proves<V: Verifier>(
-    alloc: Global,
-    judge: &Judge<'_, V>,
-    set: &RecordSet,
-    decider: Option<&Record>,
-    chain: &Chain,
-) -> Result<bool, NoMemory>
-    ensures { IfOk result (λ b. b ≡ (justified (judge_of V.answers judge.now) chain.now.links
-        && (ends_at chain.now.links set.now && names_decider (last_link chain.now.links) (option_copied decider.entry)))) }
+/// The same of an entry whose chain, where it says Secure, the judge's verifier accepts by itself: of the chain only anchors and moment
+/// are tested then, and nothing is put to the verifier.
+#[tactic(auto, using(crate::proofs::FittingLemmas::fitting_decides))]
+pub fn still_trusted<V: Verifier>(judge: &Judge<'_, V>, placed: &PlacedSet, kept: &Entry) -> bool
+    requires accepted { HasAccepted (V.answers judge.now.verifier.now) kept.now }
+    ensures { result ≡ holds_in (judge_of V.answers judge.now) placed.now kept.now }
 {
-    if !ends_by(&chain.links, set, decider) {
-        return Ok(false);
+    if mark_of(&kept.result) != Proof::Secure {
+        return true;
     }
-    check_chain(alloc, judge.anchors, judge.verifier, judge.moment, chain)
+    match fitting_chain(&placed.set, kept) {
+        Some(chain) => is_trusted(judge.anchors, judge.moment, chain),
+        None => false,
+    }
+}
+
+// The entry's chain, where the place that it names is that of a signature of the set, and the chain ends at the set by that signature.
+#[tactic(auto, using(crate::proofs::FittingLemmas::unplaced))]
+fn fitting_chain<'a>(set: &RecordSet, kept: &'a Entry) -> Option<&'a Chain>
+    ensures { option_copied result ≡ fitting_in set.now kept.now }
+{
+    let place = sig_of(&kept.result);
+    if !has_place(set, place) {
+        return None;
+    }
+    let Some(chain) = &kept.chain else {
+        return None;
+    };
+    if ends_by(&chain.links, set, signature_at(set, place)) {
+        Some(chain)
+    } else {
+        None
+    }
 }
 
 /// The mark that was found.

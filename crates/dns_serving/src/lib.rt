@@ -4,4 +4,4 @@
 mod chain_end;
 mod holding;
 
-pub use holding::{mark_of, sig_of, still_holds};
+pub use holding::{mark_of, sig_of, still_holds, still_trusted};

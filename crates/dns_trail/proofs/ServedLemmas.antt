@@ -1,4 +1,5 @@
--- Kept entries by their keys: those that serve are among those with the key of the set, and those whose time is up are passed over.
+-- Kept entries by their keys: those that serve are among those with the key of the set, and those whose time is up are
+-- passed over.
 use Rattle.std.proofs.Common.{◌≡◌, ℕ, ◌+◌, ◌<◌, Bool, true, false, ◌&&◌, ◌||◌, List, [], ◌∷◌, ◌++◌, length, take, get_or, refl, sym, ap, ◌∙◌, subst, arith}
 use Rattle.std.specs.Prelude.{Vec, if◌then◌else◌}
 use Rattle.std.specs.List.{list_any}

@@ -30,14 +30,16 @@ pub asks_next : (visit : ℕ → Counts → Option Counts) (n : ℕ) (asks : Lis
     → count_asks visit n (drop i asks) counts ≡ whole
     → count_asks visit n (drop (i + 1) asks) next ≡ whole
 asks_next visit n asks i ask counts next whole within one rest =
-    sym (asks_from visit n asks i ask counts within ∙ ap (λ o. and_then_some o (count_asks visit n (drop (i + 1) asks))) one) ∙ rest
+    sym (asks_from visit n asks i ask counts within ∙ ap (λ o. and_then_some o (count_asks visit n (drop (i + 1) asks))) one)
+    ∙ rest
 
 pub asks_cut : (visit : ℕ → Counts → Option Counts) (n : ℕ) (asks : List AskRef) (i : ℕ) (ask : AskRef)
     (counts : Counts) (whole : Option Counts)
     → i < length asks → count_ask visit n (get_or asks i ask) counts ≡ None
     → count_asks visit n (drop i asks) counts ≡ whole → None ≡ whole
 asks_cut visit n asks i ask counts whole within one rest =
-    sym (asks_from visit n asks i ask counts within ∙ ap (λ o. and_then_some o (count_asks visit n (drop (i + 1) asks))) one) ∙ rest
+    sym (asks_from visit n asks i ask counts within ∙ ap (λ o. and_then_some o (count_asks visit n (drop (i + 1) asks))) one)
+    ∙ rest
 
 pub asks_end : (visit : ℕ → Counts → Option Counts) (n : ℕ) (asks : List AskRef) (i : ℕ) (counts : Counts)
     (whole : Option Counts)

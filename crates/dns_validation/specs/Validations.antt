@@ -1,13 +1,17 @@
 -- What contracts see of a validation.
-use Rattle.std.specs.Prelude.{ℕ, Bool, Option, None, Some}
+use Rattle.std.specs.Prelude.{ℕ, ◌≡◌, Bool, Option, None, Some, IfSome}
 use Rattle.std.specs.Option.{option_map}
 use Rattle.dns_model.specs.Keys.{VerifierAnswers}
 use Rattle.dns_model.specs.Chains.{Judge}
 use Rattle.dns_model.specs.Records.{Question}
+use Rattle.dns_rules.specs.CacheEntries.{EntryValue}
 use Rattle.dns_rules.specs.CacheKeys.{key_of}
 use Rattle.dns_handle.specs.Requests.{RequestValue}
 use Rattle.dns_handle.specs.declared.request.DnsRequestOptions.{DnsRequestOptions}
+use Rattle.dns_cache.specs.Caches.{HasAccepted}
 use Rattle.dns_cache.specs.Expiry.{TtlRangesValue}
+use Rattle.dns_cache.specs.declared.acceptance.Acceptance.{Acceptance}
+use Rattle.dns_cache.specs.declared.acceptance.Acceptance.TheVariants.{Kept}
 use Rattle.dns_evidence.specs.declared.limits.IterationLimits.{IterationLimits}
 use Rattle.dns_flow.specs.declared.asks.Ask.{Ask}
 use Rattle.dns_validation.specs.Machine.{Terms, SeekingValue, StateValue, none_open}
@@ -45,3 +49,7 @@ wanted_in t s = wanted_by t s s.seeking
 abbrev pub terms_by : Judge → Question → RequestValue → DnsRequestOptions → IterationLimits → TtlRangesValue → ℕ → Terms
 terms_by j q request options iterations ranges now =
     record { judge = j; query = q; request = request; options = options; iterations = iterations; ranges = ranges; now = now }
+
+-- of what was kept, whoever says `Kept` speaks true: the verifier accepts the chain of a Secure entry by itself (RFC 4035, 5.3.3)
+abbrev pub AcceptedWhereKept : VerifierAnswers → Option (EntryValue × Acceptance) → Type 0
+AcceptedWhereKept answers given = IfSome given (λ p. p.1 ≡ Kept → HasAccepted answers p.0)

@@ -4,12 +4,15 @@ ghost use Rattle.std.specs.Prelude.{◌≡◌, None, Some, IfOk, OnOk, length, m
 ghost use Rattle.std.specs.Option.{option_map};
 ghost use Rattle.dns_model.specs.SoundAnswers.{is_secure as is_secure_mark};
 ghost use Rattle.dns_rules.specs.Serving.{links_of as links_in};
+ghost use Rattle.dns_cache.specs.Caches.{HasAccepted};
+ghost use Rattle.dns_cache.specs.declared.acceptance.Acceptance.TheVariants.{Kept};
 ghost use Rattle.dns_evidence.specs.Link.{link_value};
 ghost use Rattle.dns_proof.specs.Kinds.{kind_value};
 ghost use Rattle.dns_trust.specs.Judge.{judge_of};
 ghost use Rattle.dns_flow.specs.Causes.{found_of as found_in, is_net as is_net_in};
 ghost use Rattle.dns_validation.specs.Machine.{chain_of as chain_in, entry_if, entry_if_kept, first_kept, found as found_by, given_out, giving, holds_given as holds_in, is_kept as is_kept_in, keeping, leaving, origin_of as origin_in, served_entry, served_set as served_set_of, serving as serving_of, went_on, with_set};
 ghost use Rattle.dns_validation.specs.Terms.{terms_of};
+ghost use Rattle.dns_validation.specs.Validations.{AcceptedWhereKept};
 
 use crate::context::Context;
 use crate::made::made_by;
@@ -23,7 +26,7 @@ use dns_model::{MarkOrigin, Proof};
 use dns_name::NoMemory;
 use dns_proof::{ProofError, ProofErrorKind, RrsetProof};
 use dns_record::Query;
-use dns_serving::{mark_of, sig_of, still_holds};
+use dns_serving::{mark_of, sig_of, still_holds, still_trusted};
 use std::alloc::Global;
 
 /// Takes what was kept of the set that waits, if anything was, with whose acceptance its chain has.
@@ -32,6 +35,7 @@ pub(crate) fn find<V: Verifier>(
     state: &mut State,
     given: Option<(Entry, Acceptance)>,
 ) -> Result<(), NoMemory>
+    requires accepted { AcceptedWhereKept (terms_of V.answers context.now).judge.answers given }
     ensures { OnOk result (state.new ≡ found_by (terms_of V.answers context.now) given state.old) }
 {
     let Some(seeking) = state.seeking.take() else {
@@ -53,6 +57,7 @@ fn serving<V: Verifier>(
     placed: &PlacedSet,
     given: Option<(Entry, Acceptance)>,
 ) -> Result<Option<Entry>, NoMemory>
+    requires accepted { AcceptedWhereKept (terms_of V.answers context.now).judge.answers given }
     ensures { IfOk result (λ o. o ≡ serving_of (judge_of V.answers context.now.judge) placed.now given) }
 {
     let Some((entry, acceptance)) = given else {
@@ -65,17 +70,19 @@ fn serving<V: Verifier>(
     }
 }
 
-// Whether what was found before holds of the set: another verifier's acceptance counts for nothing where it says Secure.
+// Whether what was found before holds of the set. Where it says Secure, of a chain that this verifier accepted only anchors and times are
+// tested, and another verifier's acceptance counts for nothing.
 fn holds_given<V: Verifier>(
     context: &Context<'_, V>,
     placed: &PlacedSet,
     entry: &Entry,
     acceptance: Acceptance,
 ) -> Result<bool, NoMemory>
+    requires accepted { acceptance ≡ Kept → HasAccepted (terms_of V.answers context.now).judge.answers entry.now }
     ensures { IfOk result (λ b. b ≡ holds_in acceptance (judge_of V.answers context.now.judge) placed.now entry.now) }
 {
     match acceptance {
-        Acceptance::Kept => still_holds(context.alloc, &context.judge, placed, entry),
+        Acceptance::Kept => Ok(still_trusted(&context.judge, placed, entry)),
         Acceptance::Unknown => still_holds(context.alloc, &context.judge, placed, entry),
         Acceptance::Other => Ok(!is_secure(mark_of(&entry.result))),
     }

@@ -9,7 +9,7 @@ ghost use Rattle.dns_validation.specs.Comes.{Comes};
 ghost use Rattle.dns_validation.specs.Runs.{Sent, Run, IsOut, HasHeard, HasTaken, GoesOn, TakesOn, moves as moves_on, request_at};
 ghost use Rattle.std.specs.Option.{option_map};
 ghost use Rattle.dns_validation.specs.Terms.{terms_of};
-ghost use Rattle.dns_validation.specs.Validations.{asking_at, wanted_in as wanted_of};
+ghost use Rattle.dns_validation.specs.Validations.{AcceptedWhereKept, asking_at, wanted_in as wanted_of};
 
 use crate::context::Context;
 use crate::hearing::hear;
@@ -56,7 +56,7 @@ pub struct Asking {
 impl<'a, V: Verifier> Validation<'a, V> {
     ghost use Rattle.dns_validation.specs.Left.{IsLeft};
     ghost use Rattle.dns_validation.specs.Machine.{first_kept, given_out};
-    ghost use Rattle.dns_validation.specs.Validations.{terms_in, state_of, terms_by, wanted_in};
+    ghost use Rattle.dns_validation.specs.Validations.{AcceptedWhereKept, terms_in, state_of, terms_by, wanted_in};
 
     /// Begins with a query. Its own request is sent for it, as that of each judged ask: with EDNS and DO, AD set and CD clear. The
     /// only error is want of memory. NSEC3 records prove something up to so many iterations of their hash.
@@ -131,8 +131,10 @@ impl<'a, V: Verifier> Validation<'a, V> {
     }
 
     /// Takes what was kept of the set that it asked for, if anything was, with whose acceptance its chain has, and goes on. The entry has the
-    /// key that was asked for, and `Kept` is true. Want of memory ends it. Where no set waits, it lets the entry go.
+    /// key that was asked for. `Kept` is true, as it is of what `AcceptedBy::get_for` gives for the validation's verifier: of such a chain
+    /// only anchors and times are tested. Want of memory ends it. Where no set waits, it lets the entry go.
     pub fn found(&mut self, given: Option<(Entry, Acceptance)>)
+        requires accepted { AcceptedWhereKept (terms_in V.answers self.old).judge.answers given }
         ensures terms { terms_in V.answers self.new ≡ terms_in V.answers self.old }
         ensures idle { (state_of self.old).seeking ≡ None → state_of self.new ≡ state_of self.old }
         ensures taken { IsSome (state_of self.old).seeking → IsOut (state_of self.new)
@@ -251,6 +253,7 @@ fn take_entry<V: Verifier>(
     state: &mut State,
     given: Option<(Entry, Acceptance)>,
 )
+    requires accepted { AcceptedWhereKept (terms_of V.answers context.now).judge.answers given }
     ensures idle { state.old.seeking ≡ None → state.new ≡ state.old }
     ensures taken { IsSome state.old.seeking → IsOut state.new
         ⊎ HasTaken (terms_of V.answers context.now) state.old given state.new }
@@ -270,6 +273,7 @@ fn find_on<V: Verifier>(
     state: &mut State,
     given: Option<(Entry, Acceptance)>,
 ) -> Result<(), NoMemory>
+    requires accepted { AcceptedWhereKept (terms_of V.answers context.now).judge.answers given }
     ensures { OnOk result (HasTaken (terms_of V.answers context.now) state.old given state.new) }
 {
     find(context, state, given)?;

@@ -1,5 +1,5 @@
 //! A validation that is driven by hand gives what a lookup gives: the same answer, with the same trail.
-use dns_cache::{AcceptedBy, CacheKey, ListCache, TtlRanges, ValidationCache};
+use dns_cache::{Acceptance, CacheKey, ListCache, TtlRanges, ValidationCache};
 use dns_evidence::{IterationLimits, Listed};
 use dns_handle::{DnsHandle, DnsResponse, NetError};
 use dns_recorded::Recorded;
@@ -71,14 +71,7 @@ fn driven(alloc: Global, session: Session, whole: bool) -> Result<DnsResponse, N
     };
     let mut cache = ListCache::new(alloc, 1_000);
     for _ in 0..10_000_u32 {
-        if !serves(
-            alloc,
-            &mut upstream,
-            &mut cache,
-            &verifier,
-            &mut validation,
-            moment,
-        ) {
+        if !serves(alloc, &mut upstream, &mut cache, &mut validation, moment) {
             break;
         }
     }
@@ -104,14 +97,17 @@ fn reply_told(
 fn entry_told(
     alloc: Global,
     cache: &mut ListCache,
-    verifier: &Listed,
     validation: &mut Validation<'_, Listed>,
     key: &CacheKey,
     moment: u64,
 ) -> bool {
-    match cache.get_for(alloc, key, moment, verifier) {
-        Ok(given) => {
-            validation.found(given);
+    match cache.get(alloc, key, moment) {
+        Ok(Some(entry)) => {
+            validation.found(Some((entry, Acceptance::Unknown)));
+            true
+        }
+        Ok(None) => {
+            validation.found(None);
             true
         }
         Err(_) => false,
@@ -135,7 +131,6 @@ fn gives(
     alloc: Global,
     upstream: &mut Recorded,
     cache: &mut ListCache,
-    verifier: &Listed,
     validation: &mut Validation<'_, Listed>,
     moment: u64,
 ) -> bool {
@@ -145,7 +140,7 @@ fn gives(
             reply_told(alloc, upstream, validation, ask, moment);
             true
         }
-        Some(Wanted::Entry(key)) => entry_told(alloc, cache, verifier, validation, &key, moment),
+        Some(Wanted::Entry(key)) => entry_told(alloc, cache, validation, &key, moment),
     }
 }
 
@@ -154,11 +149,10 @@ pub(crate) fn serves(
     alloc: Global,
     upstream: &mut Recorded,
     cache: &mut ListCache,
-    verifier: &Listed,
     validation: &mut Validation<'_, Listed>,
     moment: u64,
 ) -> bool {
-    if !gives(alloc, upstream, cache, verifier, validation, moment) {
+    if !gives(alloc, upstream, cache, validation, moment) {
         return false;
     }
     for _ in 0..10_000_u32 {

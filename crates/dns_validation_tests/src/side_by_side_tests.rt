@@ -135,14 +135,7 @@ fn all_begun<'a>(alloc: Global, world: &'a World) -> Option<Vec<Driven<'a>>> {
 /// One ask is made and answered, or one set served; false where it wants nothing, and then a further reply is let go.
 fn goes_on(alloc: Global, world: &World, upstream: &mut Recorded, driven: &mut Driven<'_>) -> bool {
     let Driven { validation, cache } = driven;
-    if serves(
-        alloc,
-        upstream,
-        cache,
-        &world.verifier,
-        validation,
-        world.moment,
-    ) {
+    if serves(alloc, upstream, cache, validation, world.moment) {
         return true;
     }
     validation.answer(Err(NetError::Timeout));

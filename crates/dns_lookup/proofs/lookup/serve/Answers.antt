@@ -1,8 +1,9 @@
-use Rattle.std.proofs.Common.{ℕ, Some, ap, ◌∙◌}
+use Rattle.std.proofs.Common.{ℕ, Some, ap, subst, sym, ◌∙◌}
 use Rattle.std.proofs.lemmas.Result.{err_from_is_err_and}
 use Rattle.std.specs.Option.{option_map}
 use Rattle.dns_name.specs.declared.no_memory.NoMemory.{NoMemory}
-use Rattle.dns_validation.specs.Validations.{state_of}
+use Rattle.dns_validation.specs.Machine.{Terms}
+use Rattle.dns_validation.specs.Validations.{AcceptedWhereKept, state_of}
 use Rattle.dns_lookup.specs.Driving.{cache_state}
 use Rattle.dns_lookup.proofs.ServingLoop.{serving_kept, kept_empty, failed_keeping, failed_getting, wished, serves_none, serves_reply, got_at, hits_any, serving_told, serving_fewer}
 use Rattle.dns_lookup.proofs.WorkLemmas.{fewer_kept}
@@ -45,6 +46,15 @@ returns-in_err-given-in-Some-Entry-clause-serves g c =
     c.in_ok-keep.ensures.state
     c.in_ok-keep.ensures.left c.keep.ensures.hits)
     c.in_err-given-in-Some-Entry.ensures.after)
+
+pub found-requires : goal.found-requires
+found-requires g c =
+    let terms = c.next.ensures.terms ∙ c.keep.ensures.terms ∙ c.sets.invariant.terms in
+    record {
+      accepted = subst (λ answers. AcceptedWhereKept answers c.in_ok-given-in-Some-Entry.given)
+          (sym (ap (λ (t : Terms). t.judge.answers) terms ∙ c.requires.verifier))
+          c.in_ok-given-in-Some-Entry.ensures.accepted;
+    }
 
 pub sets-smaller : goal.sets-smaller
 sets-smaller g c =
