@@ -38,6 +38,7 @@ PLACES = (
         "anchor www.example. 0 00", "anchor www.example 0 00", "accept 1 - - -", "accept 255 Aa bB 0C",
      ), (
         "anchor . 13", "anchor . 13 ", "anchor . 13 a", "anchor . 13 aabbc", "anchor . 13 ag", "anchor . 13 --",
+        "anchor . 13 0x",
         "anchor . 13 aa bb", "anchor . 13  aa", "anchor . 256 aa", "anchor . 013 aa", "anchor .. 13 aa",
         "anchor a..b 13 aa", "anchor a\\256 13 aa", "accept 13 - -", "accept 13 - - - -", "reply . A -", "empty . A -",
         "fault . A io", "end",
@@ -48,7 +49,7 @@ PLACES = (
         "query . ANY", "query \\065.\\*.b NSEC3PARAM", "query . TYPE0", "query . TYPE65535", "query . TYPE3",
      ), (
         "query . TYPE1", "query . TYPE03", "query . TYPE65536", "query . TYPE", "query . a", "query . A IN", "query .",
-        "query  . A",
+        "query  . A", "query . ", "query . Ns", "query . AA", "query . type3", "query . TYPE 3",
      )),
     # a reply
     ("dns-session 1\nmoment 0\nalgorithms\nanchor . 1 -\nquery . A\n",

@@ -1,0 +1,80 @@
+//! Which NSEC record covers a name. `rows/verdicts.txt` has the verdicts (RFC 4035, 5.4).
+use crate::record_tests::record;
+use crate::rows::{NameRow, check_names};
+use dns_denial::nsec_covering;
+use dns_model::NameError;
+use dns_name::Name;
+use dns_rdata::NsecRecord;
+use std::alloc::Global;
+
+/// An NSEC record: its owner and its rdata.
+type Told = (&'static str, &'static [u8]);
+
+fn nsec_of(alloc: Global, told: &Told) -> Result<Option<NsecRecord>, NameError> {
+    let from = record(alloc, told.0, 47, told.1)?;
+    let read = NsecRecord::of(alloc, &from);
+    drop(from);
+    Ok(read?)
+}
+
+fn push_nsec(alloc: Global, records: &mut Vec<NsecRecord>, told: &Told) -> Result<(), NameError> {
+    match nsec_of(alloc, told)? {
+        Some(nsec) => Ok(records.push(nsec)?),
+        None => Ok(()),
+    }
+}
+
+fn records_of(alloc: Global, all: &[Told]) -> Result<Vec<NsecRecord>, NameError> {
+    let mut records = Vec::new(alloc);
+    for told in all {
+        push_nsec(alloc, &mut records, told)?;
+    }
+    Ok(records)
+}
+
+/// From `a.` to `z.`, with A.
+const WIDE: Told = ("a.", b"\x01z\0\0\x01\x40");
+
+/// Both of the first cover `m.`, and the second owner is the nearer one; the third's types say that `m.` lies below a
+/// zone cut.
+const BELOW: &[Told] = &[
+    (".", b"\x01z\0\0\x01\x22"),
+    ("l.", b"\x01n\0\0\x01\x40"),
+    ("m.", b"\x01n\0\0\x01\x20"),
+];
+
+/// Records, and the number of the one that covers the row's name.
+struct Nearest(&'static [Told], Option<u32>);
+
+const COVERS: &[(&str, Nearest)] = &[
+    (
+        "m.",
+        Nearest(&[WIDE, ("b.", b"\x01c\0\0\x01\x40")], Some(0)),
+    ),
+    ("m.", Nearest(&[WIDE, WIDE], Some(0))),
+    ("m.", Nearest(&[], None)),
+    ("m.", Nearest(BELOW, Some(1))),
+    ("a.m.", Nearest(BELOW, None)),
+];
+
+fn is_covering(name: &Name, records: &[NsecRecord], number: Option<u32>) -> bool {
+    records.len() < 10 && nsec_covering(name, records) == number
+}
+
+impl NameRow for Nearest {
+    fn holds(&self, alloc: Global, name: &Name) -> bool {
+        match records_of(alloc, self.0) {
+            Ok(records) => {
+                let held = is_covering(name, &records, self.1);
+                drop(records);
+                held
+            }
+            Err(_) => false,
+        }
+    }
+}
+
+#[test]
+fn the_nearest_record_covers(rt: HostRuntime) {
+    check_names(&rt, rt.alloc(), COVERS);
+}
