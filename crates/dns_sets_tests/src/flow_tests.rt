@@ -1,263 +1,218 @@
-use crate::cause_tests::is_found;
-use crate::flow_parts::{message, only_insecure, set};
+//! What sets and endings ask, and what is found of a set by the asks that it makes.
+use crate::flow_rows::{Asked, FROM_NAME, FROM_PARENT, INSECURE_B, Reply, Row, rows};
+use crate::judged_steps::{LIMITS, Told, judged_sets, signed_set};
 use crate::rows::check_row;
-use crate::sets_tests::query;
-use dns_evidence::{Limits, Listed, PlacedSet};
-use dns_flow::{Ask, Got, Need, Phase, after, start_ending, start_set, turn};
+use crate::sets_tests::{message_of, query};
+use dns_evidence::{Listed, MarkedSet, PlacedSet};
+use dns_flow::{
+    Ask, Got, Need, Phase, after, cause_after, found_of, start_cause, start_ending, start_set, turn,
+};
 use dns_message::Message;
-use dns_model::{NameError, Proof, Section};
+use dns_model::{NameError, Proof};
 use dns_outcome::Outcome;
+use dns_proof::{ProofError, ProofErrorKind};
 use dns_record::{Query, RecordType};
-use dns_trust::{Judge, NsProbe, TrustAnchors};
+use dns_trust::{Judge, TrustAnchors};
 use std::alloc::Global;
 
-/// What an ask comes to: what is seen of NS records, a refusal, or an answer that has `b.` Insecure.
-#[derive(Clone, Copy)]
-pub(crate) enum Reply {
-    Seen(NsProbe),
-    Refused,
-    Insecure,
-}
-
-/// An ask that is to be made, and what it comes to.
-pub(crate) struct Asked {
-    owner: &'static str,
-    record_type: RecordType,
-    judged: bool,
-    pub(crate) reply: Reply,
-}
-
-/// A set without records, with the rdata of its signature, if it has one; the asks that it makes, its mark, and the text of the error
-/// that is found of it.
-pub(crate) struct Row {
-    pub(crate) shows: &'static str,
-    owner: &'static str,
-    record_type: RecordType,
-    signature: &'static [u8],
-    pub(crate) asks: &'static [Asked],
-    mark: Proof,
-    pub(crate) found: &'static str,
-}
-
-/// The NS records of `b.` and of `a.b.` aren't seen.
-const NO_B: Asked = Asked {
-    owner: "b.",
-    record_type: RecordType::NS,
-    judged: false,
-    reply: Reply::Seen(NsProbe::Absent),
-};
-
-const NO_A_B: Asked = Asked {
-    owner: "a.b.",
-    ..NO_B
-};
-
-/// Those of `b.` are.
-const B: Asked = Asked {
-    reply: Reply::Seen(NsProbe::Found),
-    ..NO_B
-};
-
-const DS: Asked = Asked {
-    owner: "b.",
-    record_type: RecordType::DS,
-    judged: true,
-    reply: Reply::Refused,
-};
-
-const FROM_NAME: &[Asked] = &[NO_A_B, NO_B];
-
-const FROM_PARENT: &[Asked] = &[NO_B];
-
-const UNSIGNED: Row = Row {
-    shows: "up to the root no zone is found",
-    owner: "a.b.",
-    record_type: RecordType::A,
-    signature: b"",
-    asks: FROM_NAME,
-    mark: Proof::Bogus,
-    found: "Bogus: ds record should exist: a.b.",
-};
-
-/// A signature of type A by `b.`
-const BY_B: &[u8] = b"\0\x01\x08\x02\0\0\0\xc8\0\0\x03\xe8\0\0\0\0\0\x01\x01b\0\x01";
-
-const ROWS: &[Row] = &[
-    UNSIGNED,
-    Row {
-        shows: "a fault ends the search",
-        asks: &[Asked {
-            reply: Reply::Seen(NsProbe::Failed),
-            ..NO_A_B
-        }],
-        found: "Bogus: communication failure for query: a.b. IN NS",
-        ..UNSIGNED
-    },
-    Row {
-        shows: "the DS set of the zone is asked for",
-        asks: &[NO_A_B, B, DS],
-        found: "Bogus: communication failure for query: b. IN DS",
-        ..UNSIGNED
-    },
-    Row {
-        shows: "a zone that is Insecure leaves Insecure",
-        asks: &[
-            NO_A_B,
-            B,
-            Asked {
-                reply: Reply::Insecure,
-                ..DS
-            },
-        ],
-        mark: Proof::Insecure,
-        found: "Insecure: ds record does not exist: b.",
-        ..UNSIGNED
-    },
-    Row {
-        shows: "an NSEC3 set is searched from its parent",
-        record_type: RecordType::NSEC3,
-        asks: FROM_PARENT,
-        found: "Bogus: ds record should exist: b.",
-        ..UNSIGNED
-    },
-    Row {
-        shows: "a DS set without a signature asks nothing",
-        record_type: RecordType::DS,
-        asks: &[],
-        found: "Bogus: rrsigs are not present for: a.b. record_type: DS",
-        ..UNSIGNED
-    },
-    Row {
-        shows: "a key set asks for the DS set of its owner",
-        owner: "b.",
-        record_type: RecordType::DNSKEY,
-        signature: BY_B,
-        asks: &[DS],
-        found: "Bogus: communication failure for query: b. IN DS",
-        ..UNSIGNED
-    },
-    Row {
-        shows: "a signature asks for its signer's keys",
-        signature: BY_B,
-        asks: &[Asked {
-            record_type: RecordType::DNSKEY,
-            ..DS
-        }],
-        found: "Bogus: communication failure for query: b. IN DNSKEY",
-        ..UNSIGNED
-    },
-    Row {
-        shows: "keys that aren't in the answer leave the signature unproved",
-        signature: BY_B,
-        asks: &[Asked {
-            record_type: RecordType::DNSKEY,
-            reply: Reply::Insecure,
-            ..DS
-        }],
-        found: "Bogus: rrsigs were not able to be verified: a.b., type: A",
-        ..UNSIGNED
-    },
-];
-
-pub(crate) fn got(alloc: Global, reply: Reply) -> Result<Got, NameError> {
+fn got(alloc: Global, reply: Reply) -> Result<Got, NameError> {
     match reply {
         Reply::Seen(probe) => Ok(Got::Probe(probe)),
         Reply::Refused => Ok(Got::Answer(None)),
-        Reply::Insecure => Ok(Got::Answer(Some(only_insecure(alloc)?))),
+        Reply::Insecure => Ok(Got::Answer(Some(judged_sets(alloc, INSECURE_B)?))),
     }
+}
+
+/// By what is judged, and the query of the step with the message that it got.
+#[derive(Clone, Copy)]
+struct Step<'a> {
+    judge: &'a Judge<'a, Listed>,
+    query: &'a Query,
+    message: &'a Message,
+}
+
+/// A list of one, which one call lets go, while the drop of a phase goes over all its parts.
+fn one<T: Drop>(alloc: Global, item: T) -> Result<Vec<T>, NameError> {
+    let mut list = Vec::new(alloc);
+    list.push(item)?;
+    Ok(list)
 }
 
 fn is_query(alloc: Global, asked: &Asked, ask: &Ask) -> Result<bool, NameError> {
     let expected = query(alloc, asked.owner, asked.record_type)?;
     let same = ask.query == expected;
     drop(expected);
-    Ok(same)
+    Ok(same && ask.judged == asked.judged)
 }
 
-/// Whether a need is this ask.
-fn is_asked(alloc: Global, asked: &Asked, need: &Need) -> bool {
-    match need {
-        Need::Asks(ask, _) => {
-            ask.judged == asked.judged && matches!(is_query(alloc, asked, ask), Ok(true))
-        }
-        _ => false,
-    }
-}
-
-/// The phase that an ask gives back.
-fn phase_of(need: Need) -> Option<Phase> {
-    match need {
-        Need::Asks(_, phase) => Some(phase),
-        _ => None,
-    }
-}
-
-/// The phase that needs this ask, given back; None where it needs another.
-pub(crate) fn asking(
+/// Whether a need is this ask; the phase that asks is put back.
+fn is_asked(
     alloc: Global,
     asked: &Asked,
-    phase: Phase,
-) -> Result<Option<Phase>, NameError> {
-    let need = turn(alloc, phase)?;
-    if is_asked(alloc, asked, &need) {
-        Ok(phase_of(need))
-    } else {
-        drop(need);
-        Ok(None)
+    need: Need,
+    phases: &mut Vec<Phase>,
+) -> Result<bool, NameError> {
+    match need {
+        Need::Asks(ask, phase) => {
+            let held = is_query(alloc, asked, &ask);
+            drop(ask);
+            phases.push(phase)?;
+            held
+        }
+        other => {
+            drop(other);
+            Ok(false)
+        }
     }
 }
 
-/// By what is judged, and the query of the step with the message that it got.
-#[derive(Clone, Copy)]
-pub(crate) struct Step<'a> {
-    pub(crate) judge: &'a Judge<'a, Listed>,
-    pub(crate) query: &'a Query,
-    pub(crate) message: &'a Message,
+/// Whether the phase needs this ask.
+fn asks(alloc: Global, asked: &Asked, phases: &mut Vec<Phase>) -> Result<bool, NameError> {
+    match phases.pop() {
+        Some(phase) => is_asked(alloc, asked, turn(alloc, phase)?, phases),
+        None => Ok(false),
+    }
 }
 
-/// The phase to which this ask leads; None where another is made.
-fn next(
+/// Puts the cause to which this answer leads in the place of the last one, if there is one.
+fn lead_cause(
     alloc: Global,
     step: &Step<'_>,
-    asked: &Asked,
-    phase: Phase,
-) -> Result<Option<Phase>, NameError> {
-    let got = got(alloc, asked.reply)?;
-    match asking(alloc, asked, phase)? {
-        Some(same) => {
-            let phase = after(alloc, step.judge, step.query, step.message, same, got)?;
-            Ok(Some(phase))
-        }
-        None => Ok(None),
+    phase: &Phase,
+    got: &Got,
+    causes: &mut Vec<ProofErrorKind>,
+) -> Result<(), NameError> {
+    match causes.pop() {
+        Some(cause) => Ok(causes.push(cause_after(alloc, step.judge, phase, got, cause)?)?),
+        None => Ok(()),
     }
 }
 
-/// Puts the phase to which this ask leads in the place of the last one; false where another is made.
+/// The same with the phase.
+fn lead_phase(
+    alloc: Global,
+    step: &Step<'_>,
+    got: Got,
+    phases: &mut Vec<Phase>,
+) -> Result<bool, NameError> {
+    match phases.pop() {
+        Some(phase) => {
+            phases.push(after(alloc, step.judge, step.query, step.message, phase, got)?)?;
+            Ok(true)
+        }
+        None => {
+            drop(got);
+            Ok(false)
+        }
+    }
+}
+
+fn lead_causes(
+    alloc: Global,
+    step: &Step<'_>,
+    got: &Got,
+    phases: &[Phase],
+    causes: &mut Vec<ProofErrorKind>,
+) -> Result<(), NameError> {
+    match phases.first() {
+        Some(phase) => lead_cause(alloc, step, phase, got, causes),
+        None => Ok(()),
+    }
+}
+
+/// Puts what an answer leads to in the place of what asked.
+fn lead(
+    alloc: Global,
+    step: &Step<'_>,
+    got: Got,
+    phases: &mut Vec<Phase>,
+    causes: &mut Vec<ProofErrorKind>,
+) -> Result<bool, NameError> {
+    match lead_causes(alloc, step, &got, phases, causes) {
+        Ok(()) => lead_phase(alloc, step, got, phases),
+        Err(error) => {
+            drop(got);
+            Err(error)
+        }
+    }
+}
+
+/// The same of an ask; false where another is made.
 fn go_on(
     alloc: Global,
     step: &Step<'_>,
     asked: &Asked,
     phases: &mut Vec<Phase>,
+    causes: &mut Vec<ProofErrorKind>,
 ) -> Result<bool, NameError> {
-    match phases.pop() {
-        Some(phase) => push_next(alloc, step, asked, phase, phases),
+    if !asks(alloc, asked, phases)? {
+        return Ok(false);
+    }
+    lead(alloc, step, got(alloc, asked.reply)?, phases, causes)
+}
+
+/// Whether these asks are made, one after another.
+fn go(
+    alloc: Global,
+    step: &Step<'_>,
+    all: &[Asked],
+    phases: &mut Vec<Phase>,
+    causes: &mut Vec<ProofErrorKind>,
+) -> Result<bool, NameError> {
+    for asked in all {
+        if !go_on(alloc, step, asked, phases, causes)? {
+            return Ok(false);
+        }
+    }
+    Ok(true)
+}
+
+/// The mark and the cause of an error read so.
+fn reads(alloc: Global, error: &ProofError, want: &str) -> Result<bool, NameError> {
+    let text = format!(in alloc; "{error}")?;
+    Ok(text.as_str() == want)
+}
+
+/// What is found of a judged set is an error that reads so.
+fn is_error(
+    alloc: Global,
+    judged: &MarkedSet,
+    cause: ProofErrorKind,
+    want: &str,
+) -> Result<bool, NameError> {
+    match found_of(500, judged, cause) {
+        Ok(_) => Ok(false),
+        Err(error) => {
+            let held = reads(alloc, &error, want);
+            drop(error);
+            held
+        }
+    }
+}
+
+/// The same with the cause that is left.
+fn is_found_by(
+    alloc: Global,
+    judged: &MarkedSet,
+    causes: &mut Vec<ProofErrorKind>,
+    want: &str,
+) -> Result<bool, NameError> {
+    match causes.pop() {
+        Some(cause) => is_error(alloc, judged, cause, want),
         None => Ok(false),
     }
 }
 
-fn push_next(
+/// The same of a need.
+fn is_found_in(
     alloc: Global,
-    step: &Step<'_>,
-    asked: &Asked,
-    phase: Phase,
-    phases: &mut Vec<Phase>,
+    need: &Need,
+    causes: &mut Vec<ProofErrorKind>,
+    want: &str,
 ) -> Result<bool, NameError> {
-    match next(alloc, step, asked, phase)? {
-        Some(led) => {
-            phases.push(led)?;
-            Ok(true)
-        }
-        None => Ok(false),
+    match need {
+        Need::SetEnds(ended) => is_found_by(alloc, &ended.judged, causes, want),
+        _ => Ok(false),
     }
 }
 
@@ -269,77 +224,133 @@ fn last_need(alloc: Global, phases: &mut Vec<Phase>) -> Result<Option<Need>, Nam
     }
 }
 
-/// What a phase needs after these asks; None where it makes others.
-fn led(
+/// Whether a set has ended, and what is found of it reads so.
+fn ends(
     alloc: Global,
-    step: &Step<'_>,
-    phase: Phase,
-    asks: &[Asked],
-) -> Result<Option<Need>, NameError> {
-    // (to let a list of one go is one call, while the drop of a phase goes over all its parts)
-    let mut phases = Vec::new(alloc);
-    phases.push(phase)?;
-    for asked in asks {
-        if !go_on(alloc, step, asked, &mut phases)? {
-            return Ok(None);
+    phases: &mut Vec<Phase>,
+    causes: &mut Vec<ProofErrorKind>,
+    want: &str,
+) -> Result<bool, NameError> {
+    match last_need(alloc, phases)? {
+        Some(need) => {
+            let held = is_found_in(alloc, &need, causes, want);
+            drop(need);
+            held
         }
-    }
-    last_need(alloc, &mut phases)
-}
-
-/// Whether a set has ended with this mark.
-fn is_marked(need: &Option<Need>, mark: Proof) -> bool {
-    match need {
-        Some(Need::SetEnds(ended)) => ended.judged.mark == mark,
-        _ => false,
+        None => Ok(false),
     }
 }
 
-pub(crate) fn placed(alloc: Global, row: &Row) -> Result<PlacedSet, NameError> {
-    let set = set(alloc, row.owner, row.record_type, row.signature)?;
+fn placed(alloc: Global, told: &Told) -> Result<PlacedSet, NameError> {
     Ok(PlacedSet {
-        section: Section::Answer,
-        set,
+        section: told.section,
+        set: signed_set(alloc, told)?,
     })
 }
 
-fn set_holds(alloc: Global, step: &Step<'_>, row: &Row) -> Result<bool, NameError> {
-    let placed = placed(alloc, row)?;
-    let phase = start_set(alloc, step.judge, step.query, step.message, placed)?;
-    let need = led(alloc, step, phase, row.asks)?;
-    let held = is_marked(&need, row.mark);
-    drop(need);
-    Ok(held)
+fn first_causes(alloc: Global, told: &Told) -> Result<Vec<ProofErrorKind>, NameError> {
+    let set = signed_set(alloc, told)?;
+    let cause = start_cause(&set);
+    drop(set);
+    one(alloc, cause?)
+}
+
+fn first_phases(alloc: Global, step: &Step<'_>, told: &Told) -> Result<Vec<Phase>, NameError> {
+    let placed = placed(alloc, told)?;
+    one(
+        alloc,
+        start_set(alloc, step.judge, step.query, step.message, placed)?,
+    )
+}
+
+fn goes(
+    alloc: Global,
+    step: &Step<'_>,
+    row: &Row,
+    phases: &mut Vec<Phase>,
+    causes: &mut Vec<ProofErrorKind>,
+) -> Result<bool, NameError> {
+    Ok(go(alloc, step, row.asks, phases, causes)? && ends(alloc, phases, causes, row.found)?)
+}
+
+fn goes_by(
+    alloc: Global,
+    step: &Step<'_>,
+    row: &Row,
+    causes: &mut Vec<ProofErrorKind>,
+) -> Result<bool, NameError> {
+    let mut phases = first_phases(alloc, step, &row.set)?;
+    let held = goes(alloc, step, row, &mut phases, causes);
+    drop(phases);
+    held
+}
+
+/// A set makes the asks of its row, and what is found of it reads as the row says.
+fn is_found(alloc: Global, step: &Step<'_>, row: &Row) -> Result<bool, NameError> {
+    let mut causes = first_causes(alloc, &row.set)?;
+    let held = goes_by(alloc, step, row, &mut causes);
+    drop(causes);
+    held
 }
 
 /// Whether a step has ended with a denial that is Bogus.
-fn is_refused(need: &Option<Need>) -> bool {
+fn is_denied(need: &Need) -> bool {
     match need {
-        Some(Need::StepEnds(outcome)) => *outcome == Outcome::Denied(Proof::Bogus),
+        Need::StepEnds(outcome) => *outcome == Outcome::Denied(Proof::Bogus),
         _ => false,
     }
 }
 
-const LIMITS: Limits = Limits {
-    depth: 26,
-    soft: 100,
-    hard: 500,
-};
-
-fn ending_holds(alloc: Global, step: &Step<'_>, asks: &[Asked]) -> Result<bool, NameError> {
-    let phase = start_ending(alloc, &LIMITS, step.query, step.message, &[])?;
-    let need = led(alloc, step, phase, asks)?;
-    let held = is_refused(&need);
-    drop(need);
-    Ok(held)
+fn is_refused(alloc: Global, phases: &mut Vec<Phase>) -> Result<bool, NameError> {
+    match last_need(alloc, phases)? {
+        Some(need) => {
+            let held = is_denied(&need);
+            drop(need);
+            Ok(held)
+        }
+        None => Ok(false),
+    }
 }
 
-/// What is tried in a step: a row, what is found by it, or an ending by these asks.
+fn ending_phases(alloc: Global, step: &Step<'_>) -> Result<Vec<Phase>, NameError> {
+    one(
+        alloc,
+        start_ending(alloc, &LIMITS, step.query, step.message, &[])?,
+    )
+}
+
+fn ends_refused(
+    alloc: Global,
+    step: &Step<'_>,
+    all: &[Asked],
+    phases: &mut Vec<Phase>,
+) -> Result<bool, NameError> {
+    let mut causes = Vec::new(alloc);
+    let gone = go(alloc, step, all, phases, &mut causes);
+    drop(causes);
+    Ok(gone? && is_refused(alloc, phases)?)
+}
+
+/// An ending makes these asks, and the step is refused.
+fn is_ended(alloc: Global, step: &Step<'_>, all: &[Asked]) -> Result<bool, NameError> {
+    let mut phases = ending_phases(alloc, step)?;
+    let held = ends_refused(alloc, step, all, &mut phases);
+    drop(phases);
+    held
+}
+
+/// What is tried in a step: what is found by a row, or an ending by these asks.
 #[derive(Clone, Copy)]
-pub(crate) enum Tried<'a> {
-    Set(&'a Row),
+enum Tried<'a> {
     Found(&'a Row),
     Ending(&'a [Asked]),
+}
+
+fn holds_in(alloc: Global, step: &Step<'_>, tried: &Tried<'_>) -> Result<bool, NameError> {
+    match tried {
+        Tried::Found(row) => is_found(alloc, step, row),
+        Tried::Ending(all) => is_ended(alloc, step, all),
+    }
 }
 
 /// Whether it holds in a step without anchors that asks for `a.b.`
@@ -350,27 +361,19 @@ fn holds_by(
     tried: &Tried<'_>,
 ) -> Result<bool, NameError> {
     let query = query(alloc, "a.b.", asked)?;
-    let message = message(alloc);
+    let message = message_of(Vec::new(alloc), alloc);
     let step = Step {
         judge,
         query: &query,
         message: &message,
     };
-    let held = match tried {
-        Tried::Set(row) => set_holds(alloc, &step, row),
-        Tried::Found(row) => is_found(alloc, &step, row),
-        Tried::Ending(asks) => ending_holds(alloc, &step, asks),
-    };
+    let held = holds_in(alloc, &step, tried);
     drop(message);
     drop(query);
     held
 }
 
-pub(crate) fn holds(
-    alloc: Global,
-    asked: RecordType,
-    tried: &Tried<'_>,
-) -> Result<bool, NameError> {
+fn holds(alloc: Global, asked: RecordType, tried: &Tried<'_>) -> Result<bool, NameError> {
     let anchors = TrustAnchors::empty(alloc);
     let verifier = Listed::new(alloc);
     let judge = Judge {
@@ -384,34 +387,18 @@ pub(crate) fn holds(
     held
 }
 
-pub(crate) fn rows() -> &'static [Row] {
-    ROWS
-}
-
 #[test]
-fn a_set_asks_by_its_row(rt: HostRuntime) {
+fn what_is_found_of_a_set_tells_why_it_is_not_secure(rt: HostRuntime) {
     for row in rows() {
-        let held = holds(rt.alloc(), RecordType::A, &Tried::Set(row));
+        let held = holds(rt.alloc(), RecordType::A, &Tried::Found(row));
         check_row(&rt, row.shows, held);
     }
 }
 
-fn asks_from_parent() -> &'static [Asked] {
-    FROM_PARENT
-}
-
-fn asks_from_name() -> &'static [Asked] {
-    FROM_NAME
-}
-
 #[test]
 fn an_ending_searches_the_zone_of_its_query(rt: HostRuntime) {
-    let from_name = holds(rt.alloc(), RecordType::A, &Tried::Ending(asks_from_name()));
+    let from_name = holds(rt.alloc(), RecordType::A, &Tried::Ending(FROM_NAME));
     check_row(&rt, "from the name", from_name);
-    let from_parent = holds(
-        rt.alloc(),
-        RecordType::DS,
-        &Tried::Ending(asks_from_parent()),
-    );
+    let from_parent = holds(rt.alloc(), RecordType::DS, &Tried::Ending(FROM_PARENT));
     check_row(&rt, "a DS from the parent", from_parent);
 }

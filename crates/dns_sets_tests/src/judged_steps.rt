@@ -156,7 +156,7 @@ fn response(alloc: Global, row: &Row) -> Result<Message, NameError> {
     }
 }
 
-fn signed_set(alloc: Global, told: &Told) -> Result<RecordSet, NameError> {
+pub(crate) fn signed_set(alloc: Global, told: &Told) -> Result<RecordSet, NameError> {
     let mut rrsigs = Vec::new(alloc);
     put_signatures(alloc, &mut rrsigs, told)?;
     let mut set = set_of(alloc, &record_of(told))?;
@@ -178,7 +178,7 @@ fn judged(alloc: Global, told: &Told) -> Result<ChainedSet, NameError> {
     })
 }
 
-fn judged_sets(alloc: Global, all: &[Told]) -> Result<Vec<ChainedSet>, NameError> {
+pub(crate) fn judged_sets(alloc: Global, all: &[Told]) -> Result<Vec<ChainedSet>, NameError> {
     let mut sets = Vec::new(alloc);
     for told in all {
         sets.push(judged(alloc, told)?)?;
@@ -201,13 +201,17 @@ fn outcome_to(
 /// How a step of these sets ends.
 fn outcome(alloc: Global, row: &Row, sets: &[ChainedSet]) -> Result<Outcome, NameError> {
     let query = query(alloc, row.name, row.record_type)?;
-    outcome_to(alloc, &query, row, sets)
+    let outcome = outcome_to(alloc, &query, row, sets);
+    drop(query);
+    outcome
 }
 
 /// The step of a row ends as it says.
 fn ends(alloc: Global, row: &Row) -> Result<bool, NameError> {
     let sets = judged_sets(alloc, row.told)?;
-    Ok(outcome(alloc, row, &sets)? == row.outcome)
+    let outcome = outcome(alloc, row, &sets);
+    drop(sets);
+    Ok(outcome? == row.outcome)
 }
 
 /// Each step ends as its row says.

@@ -1,13 +1,11 @@
-//! Tests of the sets of a message, of how a step ends, and of marking, by what `dns_sets` gives; and of what sets and endings ask and
-//! why a set isn't Secure, by what `dns_flow` gives.
+//! Tests of the sets of a message, of how a step ends, of what sets and endings ask, and of why a set isn't Secure, by what
+//! `dns_grouping`, `dns_outcome` and `dns_flow` give. What an answer's records are marked by is shown by the rows of rows/.
 //!
 //! They stand apart, since a crate with tests of its own is proved twice.
 #![tactic(auto)]
 
 #[cfg(test)]
-mod cause_tests;
-#[cfg(test)]
-mod flow_parts;
+mod flow_rows;
 #[cfg(test)]
 mod flow_tests;
 #[cfg(test)]
@@ -16,8 +14,6 @@ mod judged_steps;
 mod rows;
 #[cfg(test)]
 mod sets_denial_tests;
-#[cfg(test)]
-mod sets_marking_tests;
 #[cfg(test)]
 mod sets_outcome_tests;
 #[cfg(test)]

@@ -67,6 +67,7 @@ const ABSENT: Outcome = Outcome::Given(Denial::Absent(Proof::Secure));
 
 const EXPANDED: Outcome = Outcome::Given(Denial::Expanded(Proof::Secure));
 
+#[rattlefmt::skip]
 const DENIALS: &[Row] = &[
     NO_NAME,
     Row {
@@ -81,17 +82,8 @@ const DENIALS: &[Row] = &[
         outcome: BOGUS,
         ..NO_NAME
     },
-    Row {
-        shows: "a record that can't be read says nothing",
-        told: &[UNREADABLE],
-        outcome: BOGUS,
-        ..NO_NAME
-    },
-    Row {
-        shows: "and the others still count",
-        told: &[APEX, UNREADABLE, COVERS_ML],
-        ..NO_NAME
-    },
+    Row { shows: "a record that can't be read says nothing", told: &[UNREADABLE], outcome: BOGUS, ..NO_NAME },
+    Row { shows: "and the others still count", told: &[APEX, UNREADABLE, COVERS_ML], ..NO_NAME },
     Row {
         shows: "two zones made the records",
         told: &[
@@ -161,11 +153,7 @@ const DENIALS: &[Row] = &[
         told: &[COVERS_ML],
         outcome: ABSENT,
     },
-    Row {
-        shows: "an Insecure set beside them leaves what they say",
-        told: &[APEX, UNSIGNED, COVERS_ML],
-        ..NO_NAME
-    },
+    Row { shows: "an Insecure set beside them leaves what they say", told: &[APEX, UNSIGNED, COVERS_ML], ..NO_NAME },
 ];
 
 /// An answer that was expanded from `*.w.example.`, with the denial of closer names; the rows are this one with other sets.
@@ -178,14 +166,10 @@ const FROM_WILDCARD: Row = Row {
     outcome: EXPANDED,
 };
 
+#[rattlefmt::skip]
 const EXPANSIONS: &[Row] = &[
     FROM_WILDCARD,
-    Row {
-        shows: "closer names aren't denied",
-        told: &[FROM_W],
-        outcome: BOGUS,
-        ..FROM_WILDCARD
-    },
+    Row { shows: "closer names aren't denied", told: &[FROM_W], outcome: BOGUS, ..FROM_WILDCARD },
     Row {
         shows: "nor where another set of the answer section was expanded",
         name: "ml.example.",
@@ -199,11 +183,7 @@ const EXPANSIONS: &[Row] = &[
         told: &[FROM_W, FROM_EXAMPLE, BELOW_EXAMPLE],
         ..FROM_WILDCARD
     },
-    Row {
-        shows: "whatever stands first",
-        told: &[FROM_EXAMPLE, FROM_W, BELOW_EXAMPLE],
-        ..FROM_WILDCARD
-    },
+    Row { shows: "whatever stands first", told: &[FROM_EXAMPLE, FROM_W, BELOW_EXAMPLE], ..FROM_WILDCARD },
     Row {
         shows: "a name that is closer than it isn't denied",
         told: &[FROM_W, FROM_EXAMPLE, BELOW_W],

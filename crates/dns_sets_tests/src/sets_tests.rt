@@ -1,6 +1,6 @@
 use crate::rows::check_row;
 use dns_evidence::PlacedSet;
-use dns_grouping::{clear_marks, judged_part};
+use dns_grouping::judged_part;
 use dns_message::Message;
 use dns_model::{NameError, Proof, Section};
 use dns_name::Name;
@@ -16,22 +16,16 @@ pub(crate) struct Met {
     pub(crate) rdata: &'static [u8],
 }
 
-pub(crate) const A: u16 = 1;
-
-pub(crate) const CNAME: u16 = 5;
+const A: u16 = 1;
 
 const SOA: u16 = 6;
 
-pub(crate) const TXT: u16 = 16;
-
 const AAAA: u16 = 28;
 
-pub(crate) const RRSIG: u16 = 46;
+const RRSIG: u16 = 46;
 
 /// Signatures by the root over A, over a CNAME and so on, of original ttl 200, valid until second 1000.
-pub(crate) const OVER_A: &[u8] = b"\0\x01\x08\x01\0\0\0\xc8\0\0\x03\xe8\0\0\0\0\0\x01\0\x01";
-
-pub(crate) const OVER_A_TOO: &[u8] = b"\0\x01\x08\x01\0\0\0\xc8\0\0\x03\xe8\0\0\0\0\0\x01\0\x02";
+const OVER_A: &[u8] = b"\0\x01\x08\x01\0\0\0\xc8\0\0\x03\xe8\0\0\0\0\0\x01\0\x01";
 
 pub(crate) const OVER_CNAME: &[u8] = b"\0\x05\x08\x01\0\0\0\xc8\0\0\x03\xe8\0\0\0\0\0\x01\0\x01";
 
@@ -42,14 +36,14 @@ const OVER_SOA: &[u8] = b"\0\x06\x08\0\0\0\0\xc8\0\0\x03\xe8\0\0\0\0\0\x01\0\x01
 const OVER_TXT: &[u8] = b"\0\x10\x08\x01\0\0\0\xc8\0\0\x03\xe8\0\0\0\0\0\x01\0\x01";
 
 /// One that is too long fails its test by the error.
-pub(crate) fn rdata(alloc: Global, bytes: &[u8]) -> Result<Rdata, NameError> {
+fn rdata(alloc: Global, bytes: &[u8]) -> Result<Rdata, NameError> {
     if bytes.len() > 65535 {
         return Err(NameError::LongName);
     }
     Ok(Rdata::from_slice(alloc, bytes)?)
 }
 
-pub(crate) fn record(alloc: Global, met: &Met) -> Result<Record, NameError> {
+fn record(alloc: Global, met: &Met) -> Result<Record, NameError> {
     let name = Name::from_ascii(alloc, met.owner)?;
     let rdata = rdata(alloc, met.rdata)?;
     Ok(Record {
@@ -104,7 +98,7 @@ pub(crate) fn bare_message(alloc: Global) -> Result<Message, NameError> {
     Ok(message_of(queries(alloc)?, alloc))
 }
 
-fn message_of(queries: Vec<Query>, alloc: Global) -> Message {
+pub(crate) fn message_of(queries: Vec<Query>, alloc: Global) -> Message {
     Message {
         id: 0,
         response: false,
@@ -125,7 +119,7 @@ fn message_of(queries: Vec<Query>, alloc: Global) -> Message {
 }
 
 /// A message of these records.
-pub(crate) fn message(alloc: Global, records: &[Met]) -> Result<Message, NameError> {
+fn message(alloc: Global, records: &[Met]) -> Result<Message, NameError> {
     let mut message = bare_message(alloc)?;
     match put_all(alloc, &mut message, records) {
         Ok(()) => Ok(message),
@@ -151,31 +145,12 @@ struct Grouped {
     signatures: usize,
 }
 
+#[rattlefmt::skip]
 const GROUPED: &[Grouped] = &[
-    Grouped {
-        section: Section::Answer,
-        record_type: A,
-        records: 2,
-        signatures: 1,
-    },
-    Grouped {
-        section: Section::Answer,
-        record_type: AAAA,
-        records: 1,
-        signatures: 0,
-    },
-    Grouped {
-        section: Section::Authority,
-        record_type: A,
-        records: 1,
-        signatures: 0,
-    },
-    Grouped {
-        section: Section::Authority,
-        record_type: SOA,
-        records: 1,
-        signatures: 0,
-    },
+    Grouped { section: Section::Answer, record_type: A, records: 2, signatures: 1 },
+    Grouped { section: Section::Answer, record_type: AAAA, records: 1, signatures: 0 },
+    Grouped { section: Section::Authority, record_type: A, records: 1, signatures: 0 },
+    Grouped { section: Section::Authority, record_type: SOA, records: 1, signatures: 0 },
 ];
 
 /// The sets that are judged below the top, here the SOA record's alone.
@@ -188,61 +163,17 @@ const GROUPED_BELOW: &[Grouped] = &[Grouped {
 
 /// A signature before its set, a name in another case, a signature that can't be read, one that covers nothing, and one in
 /// another section than what it covers.
+#[rattlefmt::skip]
 const MET: &[Met] = &[
-    Met {
-        section: Section::Answer,
-        owner: "A.",
-        record_type: RRSIG,
-        rdata: OVER_A,
-    },
-    Met {
-        section: Section::Answer,
-        owner: "a.",
-        record_type: A,
-        rdata: b"\x01\x01\x01\x01",
-    },
-    Met {
-        section: Section::Answer,
-        owner: "a.",
-        record_type: AAAA,
-        rdata: b"\x02",
-    },
-    Met {
-        section: Section::Answer,
-        owner: "A.",
-        record_type: A,
-        rdata: b"\x03\x03\x03\x03",
-    },
-    Met {
-        section: Section::Answer,
-        owner: "a.",
-        record_type: RRSIG,
-        rdata: b"\0\x1c",
-    },
-    Met {
-        section: Section::Answer,
-        owner: "a.",
-        record_type: RRSIG,
-        rdata: OVER_TXT,
-    },
-    Met {
-        section: Section::Authority,
-        owner: "a.",
-        record_type: A,
-        rdata: b"\x04\x04\x04\x04",
-    },
-    Met {
-        section: Section::Authority,
-        owner: ".",
-        record_type: SOA,
-        rdata: b"\x05",
-    },
-    Met {
-        section: Section::Additional,
-        owner: ".",
-        record_type: RRSIG,
-        rdata: OVER_SOA,
-    },
+    Met { section: Section::Answer, owner: "A.", record_type: RRSIG, rdata: OVER_A },
+    Met { section: Section::Answer, owner: "a.", record_type: A, rdata: b"\x01\x01\x01\x01" },
+    Met { section: Section::Answer, owner: "a.", record_type: AAAA, rdata: b"\x02" },
+    Met { section: Section::Answer, owner: "A.", record_type: A, rdata: b"\x03\x03\x03\x03" },
+    Met { section: Section::Answer, owner: "a.", record_type: RRSIG, rdata: b"\0\x1c" },
+    Met { section: Section::Answer, owner: "a.", record_type: RRSIG, rdata: OVER_TXT },
+    Met { section: Section::Authority, owner: "a.", record_type: A, rdata: b"\x04\x04\x04\x04" },
+    Met { section: Section::Authority, owner: ".", record_type: SOA, rdata: b"\x05" },
+    Met { section: Section::Additional, owner: ".", record_type: RRSIG, rdata: OVER_SOA },
 ];
 
 fn met_rows() -> &'static [Met] {
@@ -285,33 +216,4 @@ fn makes(alloc: Global, depth: u16, want: &[Grouped]) -> Result<bool, NameError>
 fn records_are_grouped_into_sets(rt: HostRuntime) {
     check_row(&rt, "at the top", makes(rt.alloc(), 0, grouped_at_top()));
     check_row(&rt, "below it", makes(rt.alloc(), 1, grouped_below()));
-}
-
-fn is_unmarked(records: &[Record]) -> bool {
-    for record in records {
-        if record.proof != Proof::Indeterminate {
-            return false;
-        }
-    }
-    true
-}
-
-fn are_unmarked(message: &Message) -> bool {
-    is_unmarked(&message.answers)
-        && is_unmarked(&message.authorities)
-        && is_unmarked(&message.additionals)
-}
-
-/// Marks from outside are cleared in each section.
-fn are_cleared(alloc: Global) -> Result<bool, NameError> {
-    let mut message = message(alloc, met_rows())?;
-    clear_marks(&mut message);
-    let held = are_unmarked(&message);
-    drop(message);
-    Ok(held)
-}
-
-#[test]
-fn marks_from_outside_are_cleared(rt: HostRuntime) {
-    check_row(&rt, "each section", are_cleared(rt.alloc()));
 }
