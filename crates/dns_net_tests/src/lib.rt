@@ -1,21 +1,16 @@
-//! Tests of messages; of requests, errors and links; of the order of a trail; of the queue of requests, of what is polled for them,
-//! and of sends that are made again: by what `dns_wire`, `dns_handle`, `dns_recorded`, `dns_trail`, `dns_requests` and `dns_retry` give.
+//! Tests of messages; of requests, errors and links; of the order of a trail; of the queue of requests, of what is polled for
+//! them, and of sends that are made again: by what `dns_message`, `dns_handle`, `dns_recorded`, `dns_trail`, `dns_requests` and
+//! `dns_retry` give.
 //!
 //! They stand apart, since a crate with tests of its own is proved twice.
 #![tactic(auto)]
 
 #[cfg(test)]
-mod long_order_tests;
-#[cfg(test)]
-mod long_request_tests;
-#[cfg(test)]
 mod message_pointer_tests;
 #[cfg(test)]
-mod message_rows;
+mod message_shape_tests;
 #[cfg(test)]
 mod message_tests;
-#[cfg(test)]
-mod message_writing_tests;
 #[cfg(test)]
 mod net_error_tests;
 #[cfg(test)]
@@ -26,8 +21,6 @@ mod net_negative_tests;
 mod net_request_tests;
 #[cfg(test)]
 mod net_shown_tests;
-#[cfg(test)]
-mod net_trail_tests;
 #[cfg(test)]
 mod net_turn_tests;
 #[cfg(test)]
@@ -42,5 +35,7 @@ mod request_parts;
 mod request_queue_tests;
 #[cfg(test)]
 mod retry_tests;
+#[cfg(test)]
+mod rows;
 #[cfg(test)]
 mod stream_tests;

@@ -1,10 +1,11 @@
-use crate::net_missing_tests::{denied_by_referral, write_soa};
-use crate::parts::{check, check_number, query, response, shows};
-use dns_handle::{DnsError, IoKind, NetError, NoRecords, Notice, ProtoError};
-use dns_message::{DecodeError, DecodeKind};
+use crate::net_missing_tests::{denied_by_referral, has_soa};
+use crate::parts::{query, response};
+use crate::rows::{Row, check_numbered};
+use dns_handle::{DnsError, DnsResponse, IoKind, NetError, NoRecords, Notice, ProtoError};
+use dns_message::{DecodeError, DecodeKind, Message};
 use dns_model::{NameError, Proof};
 use dns_name::{Name, NoMemory, Text};
-use dns_record::{DNSClass, Record, RecordType, ResponseCode};
+use dns_record::{DNSClass, RecordType, ResponseCode};
 use std::alloc::Global;
 
 /// An error of each kind.
@@ -47,52 +48,128 @@ enum Sample {
     Foreign,
 }
 
-struct Shown(Sample, &'static str);
+/// What an error tells.
+#[derive(Clone, Copy)]
+enum Tells {
+    Nothing,
+    /// There are no records, by NXDOMAIN.
+    NameMissing,
+    /// There are no records, by NOERROR.
+    TypeMissing,
+    /// There are no records, by NXDOMAIN, with the SOA of a referral.
+    Referral,
+    NoMemory,
+    /// A connection is gone.
+    Closed,
+}
+
+/// An error, what it tells, and its text.
+struct Shown(Sample, Tells, &'static str);
 
 const SHOWN: &[Shown] = &[
-    Shown(Sample::Busy, "resource too busy"),
-    Shown(Sample::Refused, "DNS error: error response: 5"),
+    Shown(Sample::Busy, Tells::Nothing, "resource too busy"),
+    Shown(
+        Sample::Refused,
+        Tells::Nothing,
+        "DNS error: error response: 5",
+    ),
+    Shown(
+        Sample::NameErrorCode,
+        Tells::Nothing,
+        "DNS error: error response: 3",
+    ),
     Shown(
         Sample::MissingOdd,
+        Tells::NameMissing,
         "DNS error: no records found for o\\.g.\\128-. IN DNSKEY",
     ),
     Shown(
         Sample::MissingName,
+        Tells::NameMissing,
+        "DNS error: no records found for a.b. IN TXT",
+    ),
+    Shown(
+        Sample::MissingType,
+        Tells::TypeMissing,
+        "DNS error: no records found for a.b. IN TXT",
+    ),
+    Shown(
+        Sample::Referred,
+        Tells::Referral,
         "DNS error: no records found for a.b. IN TXT",
     ),
     Shown(
         Sample::Denied,
+        Tells::Nothing,
         "DNS error: DNSSEC Negative Record Response for o\\.g.\\128-. IN DNSKEY, Bogus",
     ),
-    Shown(Sample::Bogus, "DNS error: DNSSEC validation failed"),
-    Shown(Sample::ExpiredRrsig, "ExpiredRrsig"),
-    Shown(Sample::WrongDnskey, "WrongDnskey"),
-    Shown(Sample::WrongRrsig, "WrongRrsig"),
-    Shown(Sample::NoQueryInRequest, "no query in request"),
-    Shown(Sample::TooDeep, "exceeded max validation depth"),
-    Shown(Sample::TooMany, "exceeded max nested queries"),
-    Shown(Sample::NoId, "id space exhausted, consider filing an issue"),
-    Shown(Sample::FullQueue, "send queue full"),
-    Shown(Sample::PolledAgain, "polled after completion"),
-    Shown(Sample::CutDatagram, "not all bytes of message sent"),
-    Shown(Sample::OwnText, "the pool is closed"),
-    Shown(Sample::NoConnections, "no connections available"),
-    Shown(Sample::Short, "protocol error: Short 12"),
-    Shown(Sample::DecodedNoMemory, "out of memory"),
-    Shown(Sample::TooLong, "protocol error: TooLong"),
-    Shown(Sample::BrokenPipe, "io error: BrokenPipe"),
-    Shown(Sample::TimedOut, "request timed out"),
-    Shown(Sample::Timeout, "request timed out"),
-    Shown(Sample::Case, "case of query name in response did not match"),
+    Shown(
+        Sample::Bogus,
+        Tells::Nothing,
+        "DNS error: DNSSEC validation failed",
+    ),
+    Shown(Sample::ExpiredRrsig, Tells::Nothing, "ExpiredRrsig"),
+    Shown(Sample::WrongDnskey, Tells::Nothing, "WrongDnskey"),
+    Shown(Sample::WrongRrsig, Tells::Nothing, "WrongRrsig"),
+    Shown(
+        Sample::NoQueryInRequest,
+        Tells::Nothing,
+        "no query in request",
+    ),
+    Shown(
+        Sample::TooDeep,
+        Tells::Nothing,
+        "exceeded max validation depth",
+    ),
+    Shown(
+        Sample::TooMany,
+        Tells::Nothing,
+        "exceeded max nested queries",
+    ),
+    Shown(
+        Sample::NoId,
+        Tells::Nothing,
+        "id space exhausted, consider filing an issue",
+    ),
+    Shown(Sample::FullQueue, Tells::Nothing, "send queue full"),
+    Shown(
+        Sample::PolledAgain,
+        Tells::Nothing,
+        "polled after completion",
+    ),
+    Shown(
+        Sample::CutDatagram,
+        Tells::Nothing,
+        "not all bytes of message sent",
+    ),
+    Shown(Sample::OwnText, Tells::Nothing, "the pool is closed"),
+    Shown(
+        Sample::NoConnections,
+        Tells::Nothing,
+        "no connections available",
+    ),
+    Shown(Sample::Short, Tells::Nothing, "protocol error: Short 12"),
+    Shown(Sample::DecodedNoMemory, Tells::NoMemory, "out of memory"),
+    Shown(Sample::TooLong, Tells::Nothing, "protocol error: TooLong"),
+    Shown(Sample::BrokenPipe, Tells::Closed, "io error: BrokenPipe"),
+    Shown(Sample::TimedOut, Tells::Nothing, "request timed out"),
+    Shown(Sample::Timeout, Tells::Nothing, "request timed out"),
+    Shown(
+        Sample::Case,
+        Tells::Nothing,
+        "case of query name in response did not match",
+    ),
     Shown(
         Sample::Foreign,
+        Tells::Nothing,
         "foreign class record in response: . CH TYPE65534",
     ),
     Shown(
         Sample::Truncated,
+        Tells::Nothing,
         "response was truncated; TCP already tried or no other transport available",
     ),
-    Shown(Sample::NoMemory, "out of memory"),
+    Shown(Sample::NoMemory, Tells::NoMemory, "out of memory"),
 ];
 
 fn shown_rows() -> &'static [Shown] {
@@ -142,10 +219,16 @@ fn missing(alloc: Global, name: &str, record_type: u16, code: u16) -> Result<Net
     Ok(NetError::from(NoRecords::new(alloc, query, ResponseCode(code))))
 }
 
+fn boxed(alloc: Global) -> Result<Box<DnsResponse>, NameError> {
+    Ok(Box::new(alloc, response(alloc, Message::query(alloc)))?)
+}
+
 fn denied(alloc: Global) -> Result<NetError, NameError> {
+    let query = query(alloc, "o\\.g.\\128-.", 48)?;
+    let response = boxed(alloc)?;
     Ok(NetError::from(DnsError::Nsec {
-        query: query(alloc, "o\\.g.\\128-.", 48)?,
-        response: Box::new(alloc, response(alloc, ".", 48, 3)?)?,
+        query,
+        response,
         proof: Proof::Bogus,
     }))
 }
@@ -167,7 +250,7 @@ fn error_of(alloc: Global, sample: Sample) -> Result<NetError, NameError> {
         Sample::MissingOdd => missing(alloc, "o\\.g.\\128-.", 48, 3),
         Sample::MissingName => missing(alloc, "a.b.", 16, 3),
         Sample::MissingType => missing(alloc, "a.b.", 16, 0),
-        Sample::Referred => denied_by_referral(alloc),
+        Sample::Referred => Ok(denied_by_referral(alloc)),
         Sample::Denied => denied(alloc),
         Sample::OwnText => own_text(alloc),
         Sample::Foreign => foreign(alloc),
@@ -175,150 +258,96 @@ fn error_of(alloc: Global, sample: Sample) -> Result<NetError, NameError> {
     }
 }
 
-fn copy_shows(alloc: Global, error: &NetError, text: &str) -> Result<bool, NameError> {
-    let copy = error.try_clone()?;
-    let held = shows(alloc, &copy, text);
-    drop(copy);
+fn shows(alloc: Global, error: &NetError, want: &str) -> bool {
+    match format!(in alloc; "{error}") {
+        Ok(text) => text.as_str() == want,
+        Err(_) => false,
+    }
+}
+
+fn copy_shows(alloc: Global, error: &NetError, want: &str) -> bool {
+    match error.try_clone() {
+        Ok(copy) => {
+            let held = shows(alloc, &copy, want);
+            drop(copy);
+            held
+        }
+        Err(_) => false,
+    }
+}
+
+fn is_told(error: &NetError, want: Tells) -> bool {
+    error.is_nx_domain() == matches!(want, Tells::NameMissing | Tells::Referral)
+        && error.is_no_records_found()
+            == matches!(
+                want,
+                Tells::NameMissing | Tells::TypeMissing | Tells::Referral
+            )
+        && error.is_no_memory() == matches!(want, Tells::NoMemory)
+        && error.is_connection_closed() == matches!(want, Tells::Closed)
+}
+
+fn soa_is(error: NetError, want: Tells) -> bool {
+    let soa = error.into_soa();
+    let held = match want {
+        Tells::Referral => has_soa(&soa, Some(60)),
+        _ => soa.is_none(),
+    };
+    drop(soa);
     held
 }
 
-/// The error and its copy show the text.
-fn both_show(alloc: Global, error: &NetError, text: &str) -> Result<bool, NameError> {
-    Ok(shows(alloc, error, text)? && copy_shows(alloc, error, text)?)
-}
-
-fn is_shown(alloc: Global, row: &Shown) -> Result<bool, NameError> {
-    let error = error_of(alloc, row.0)?;
-    let held = both_show(alloc, &error, row.1);
-    drop(error);
-    held
+/// The error tells this and has no other SOA than it says, and both it and its copy show the text.
+impl Row for Shown {
+    fn holds(&self, alloc: Global) -> bool {
+        match error_of(alloc, self.0) {
+            Ok(error) => {
+                let held = is_told(&error, self.1)
+                    && shows(alloc, &error, self.2)
+                    && copy_shows(alloc, &error, self.2);
+                soa_is(error, self.1) && held
+            }
+            Err(_) => false,
+        }
+    }
 }
 
 #[test]
 fn errors_show_their_texts(rt: HostRuntime) {
-    let alloc = rt.alloc();
-    for row in shown_rows() {
-        check(&rt, row.1, is_shown(alloc, row));
-    }
-}
-
-/// An error, and whether it is NXDOMAIN, there are no records, and memory ran out. No connection is gone.
-struct Tested(Sample, bool, bool, bool);
-
-const TESTED: &[Tested] = &[
-    Tested(Sample::MissingName, true, true, false),
-    Tested(Sample::MissingType, false, true, false),
-    Tested(Sample::NameErrorCode, false, false, false),
-    Tested(Sample::NoMemory, false, false, true),
-    Tested(Sample::Timeout, false, false, false),
-];
-
-fn tested_rows() -> &'static [Tested] {
-    TESTED
+    check_numbered(&rt, rt.alloc(), shown_rows());
 }
 
 /// A kind of fault outside, and whether it says that a connection is gone. None says what is missing.
-struct Outside(IoKind, bool);
+struct Outside(IoKind, Tells);
 
 const OUTSIDE: &[Outside] = &[
     // five kinds say that a connection is gone
-    Outside(IoKind::PermissionDenied, false),
-    Outside(IoKind::ConnectionRefused, false),
-    Outside(IoKind::ConnectionReset, true),
-    Outside(IoKind::ConnectionAborted, true),
-    Outside(IoKind::NotConnected, true),
-    Outside(IoKind::AddrInUse, false),
-    Outside(IoKind::AddrNotAvailable, false),
-    Outside(IoKind::BrokenPipe, true),
-    Outside(IoKind::InvalidData, false),
+    Outside(IoKind::PermissionDenied, Tells::Nothing),
+    Outside(IoKind::ConnectionRefused, Tells::Nothing),
+    Outside(IoKind::ConnectionReset, Tells::Closed),
+    Outside(IoKind::ConnectionAborted, Tells::Closed),
+    Outside(IoKind::NotConnected, Tells::Closed),
+    Outside(IoKind::AddrInUse, Tells::Nothing),
+    Outside(IoKind::AddrNotAvailable, Tells::Nothing),
+    Outside(IoKind::BrokenPipe, Tells::Closed),
+    Outside(IoKind::InvalidData, Tells::Nothing),
     // `Timeout`
-    Outside(IoKind::TimedOut, false),
-    Outside(IoKind::UnexpectedEof, true),
-    Outside(IoKind::RequestTooLong, false),
-    Outside(IoKind::Other, false),
+    Outside(IoKind::TimedOut, Tells::Nothing),
+    Outside(IoKind::UnexpectedEof, Tells::Closed),
+    Outside(IoKind::RequestTooLong, Tells::Nothing),
+    Outside(IoKind::Other, Tells::Nothing),
 ];
 
-fn outside_rows() -> &'static [Outside] {
-    OUTSIDE
-}
-
-fn answers_as(
-    error: NetError,
-    nx_domain: bool,
-    no_records: bool,
-    no_memory: bool,
-    closed: bool,
-) -> bool {
-    let held = tells(&error, nx_domain, no_records, no_memory, closed);
-    drop(error);
-    held
-}
-
-fn tells(
-    error: &NetError,
-    nx_domain: bool,
-    no_records: bool,
-    no_memory: bool,
-    closed: bool,
-) -> bool {
-    error.is_nx_domain() == nx_domain
-        && error.is_no_records_found() == no_records
-        && error.is_no_memory() == no_memory
-        && error.is_connection_closed() == closed
-}
-
-fn is_tested(alloc: Global, row: &Tested) -> Result<bool, NameError> {
-    Ok(answers_as(error_of(alloc, row.0)?, row.1, row.2, row.3, false))
-}
-
-fn is_outside(row: &Outside) -> bool {
-    answers_as(NetError::from(row.0), false, false, false, row.1)
-}
-
-#[test]
-fn errors_tell_what_is_missing(rt: HostRuntime) {
-    let alloc = rt.alloc();
-    for (number, row) in tested_rows().iter().enumerate() {
-        check_number(&rt, number, is_tested(alloc, row));
+impl Row for Outside {
+    fn holds(&self, _alloc: Global) -> bool {
+        let error = NetError::from(self.0);
+        let held = is_told(&error, self.1);
+        drop(error);
+        held
     }
 }
 
 #[test]
 fn errors_of_the_outside_tell_whether_a_connection_is_gone(rt: HostRuntime) {
-    for (number, row) in outside_rows().iter().enumerate() {
-        check_number(&rt, number, Ok(is_outside(row)));
-    }
-}
-
-/// An error, and the owner and the ttl of the SOA that it holds.
-struct Held(Sample, &'static str);
-
-const SOAS: &[Held] = &[
-    Held(Sample::Referred, " C.-60"),
-    Held(Sample::MissingName, " none"),
-    Held(Sample::Busy, " none"),
-];
-
-fn soas() -> &'static [Held] {
-    SOAS
-}
-
-fn soa_has_text(alloc: Global, soa: &Option<Record>, want: &str) -> bool {
-    let mut text = String::new(alloc);
-    write_soa(&mut text, soa).is_ok() && text.as_str() == want
-}
-
-fn holds_soa(alloc: Global, row: &Held) -> Result<bool, NameError> {
-    let soa = error_of(alloc, row.0)?.into_soa();
-    let held = soa_has_text(alloc, &soa, row.1);
-    drop(soa);
-    Ok(held)
-}
-
-#[test]
-fn no_records_give_their_soa(rt: HostRuntime) {
-    let alloc = rt.alloc();
-    for row in soas() {
-        check(&rt, row.1, holds_soa(alloc, row));
-    }
+    check_numbered(&rt, rt.alloc(), OUTSIDE);
 }

@@ -1,10 +1,12 @@
-use crate::parts::{ask_also, check, record, response};
-use dns_handle::{DnsError, DnsResponse, ForwardNSData, NetError, NoRecords};
+use crate::net_negative_tests::{Asked, Became, Held, fill, from_message};
+use crate::parts::is_named;
+use crate::rows::{Row, check_numbered};
+use dns_handle::{DnsError, ForwardNSData, NetError, NoRecords};
 use dns_message::Message;
-use dns_model::NameError;
-use dns_record::Record;
-use std::alloc::{AllocError, Global};
-use std::fmt::Write;
+use dns_model::Section;
+use dns_name::NoMemory;
+use dns_record::{DNSClass, Record, ResponseCode};
+use std::alloc::Global;
 
 /// An SOA of the root, with a minimum of 30 seconds.
 const SOA_RDATA: &[u8] = b"\0\0\0\0\0\x01\0\0\0\x02\0\0\0\x03\0\0\0\x04\0\0\0\x1e";
@@ -12,222 +14,184 @@ const SOA_RDATA: &[u8] = b"\0\0\0\0\0\x01\0\0\0\x02\0\0\0\x03\0\0\0\x04\0\0\0\x1
 /// The name `ns.`.
 const SERVER: &[u8] = b"\x02ns\0";
 
-/// A record by its name, type, ttl and rdata; without a ttl it has the one that is asked for.
-struct Held(&'static str, u16, Option<u32>, &'static [u8]);
-
-/// The authority section of a referral that also denies: NS records, one of whose servers has addresses and one that can't be
-/// read; an SOA that can't be read, and two that can.
-const AUTHORITIES: &[Held] = &[
-    Held("b.", 2, Some(60), SERVER),
-    Held("c.", 6, Some(5), b""),
-    Held("C.", 6, None, SOA_RDATA),
-    Held("b.", 2, Some(60), b"\x02nt\0"),
-    Held("d.", 2, Some(60), b""),
-    Held("e.", 6, Some(1), SOA_RDATA),
+/// A referral that also denies: NS records, one of whose servers has addresses and one that can't be read; an SOA that can't be
+/// read, and two that can; addresses of `ns.` in either case, and records that are none.
+const REFERRAL: &[Held] = &[
+    Held(Section::Authority, "b.", 2, Some(60), SERVER),
+    Held(Section::Authority, "c.", 6, Some(5), b""),
+    Held(Section::Authority, "C.", 6, None, SOA_RDATA),
+    Held(Section::Authority, "b.", 2, Some(60), b"\x02nt\0"),
+    Held(Section::Authority, "d.", 2, Some(60), b""),
+    Held(Section::Authority, "e.", 6, Some(1), SOA_RDATA),
+    Held(
+        Section::Additional,
+        "ns.",
+        28,
+        Some(60),
+        b"0123456789abcdef",
+    ),
+    Held(Section::Additional, "a.", 1, Some(60), b"addr"),
+    Held(Section::Additional, "ns.", 16, Some(60), b"\0"),
+    Held(Section::Additional, "NS.", 1, Some(60), b"addr"),
 ];
 
-fn authorities() -> &'static [Held] {
-    AUTHORITIES
+/// The questions of a response, its code, its records with the ttl of those without one, and what it becomes: question, ttl of
+/// the SOA, how long it may be believed, and how many records of the authority section; if any, they refer.
+struct Missing {
+    asked: &'static [Asked],
+    code: u16,
+    records: &'static [Held],
+    ttl: u32,
+    name: &'static [u8],
+    record_type: u16,
+    soa: Option<u32>,
+    negative_ttl: Option<u32>,
+    authorities: usize,
 }
 
-/// Addresses of `ns.` in either case, and records that are none.
-const ADDITIONALS: &[Held] = &[
-    Held("ns.", 28, Some(60), b"0123456789abcdef"),
-    Held("a.", 1, Some(60), b"addr"),
-    Held("ns.", 16, Some(60), b"\0"),
-    Held("NS.", 1, Some(60), b"addr"),
-];
+const BARE: Missing = Missing {
+    asked: &[("o.", 43)],
+    code: 0,
+    records: &[],
+    ttl: 0,
+    name: b"\x01o\0",
+    record_type: 43,
+    soa: None,
+    negative_ttl: None,
+    authorities: 0,
+};
 
-fn additionals() -> &'static [Held] {
-    ADDITIONALS
-}
+const REFERRED: Missing = Missing {
+    asked: &[("a.b.", 16)],
+    code: 3,
+    records: REFERRAL,
+    ttl: 60,
+    name: b"\x01a\x01b\0",
+    record_type: 16,
+    soa: Some(60),
+    negative_ttl: Some(30),
+    authorities: 6,
+};
 
-fn add(alloc: Global, records: &mut Vec<Record>, held: &[Held], ttl: u32) -> Result<(), NameError> {
-    for one in held {
-        records.push(record(alloc, one.0, one.1, one.2.unwrap_or(ttl), one.3)?)?;
-    }
-    Ok(())
-}
-
-fn refer(alloc: Global, message: &mut Message, ttl: u32) -> Result<(), NameError> {
-    add(alloc, &mut message.authorities, authorities(), ttl)?;
-    add(alloc, &mut message.additionals, additionals(), ttl)
-}
-
-/// What else a response says that leaves no records.
-#[derive(Clone, Copy, Drop)]
-enum Denying {
-    /// It refers to servers, with that ttl of its SOA.
-    Referral(u32),
-    Empty,
-    WithoutQuestions,
-    /// It has `y. A` for its second question.
-    OfTwoQuestions,
-}
-
-fn deny(alloc: Global, message: &mut Message, kind: Denying) -> Result<(), NameError> {
-    match kind {
-        Denying::Referral(ttl) => refer(alloc, message, ttl)?,
-        Denying::Empty => {}
-        Denying::WithoutQuestions => message.queries.clear(),
-        Denying::OfTwoQuestions => ask_also(alloc, &mut message.queries, "y.", 1)?,
-    }
-    Ok(())
-}
-
-/// A response by its question, code and kind, and what it becomes: question, code, SOA with its ttl, how long it may be
-/// believed, servers with their addresses, how many records of the authority section.
-struct Row(&'static str, u16, u16, Denying, &'static str);
-
-const ROWS: &[Row] = &[
-    Row(
-        "a.b.",
-        16,
-        3,
-        Denying::Referral(60),
-        "a.b. IN TXT; 3; C.-60; Some(30); b. ns.-28 NS.-1 b. d.; 6",
-    ),
-    Row(
-        "a.b.",
-        16,
-        0,
-        Denying::Referral(10),
-        "a.b. IN TXT; 0; C.-10; Some(10); b. ns.-28 NS.-1 b. d.; 6",
-    ),
-    Row("o.", 43, 0, Denying::Empty, "o. IN DS; 0; none; None;; 0"),
+const ROWS: &[Missing] = &[
+    BARE,
+    REFERRED,
+    Missing {
+        code: 0,
+        ttl: 10,
+        soa: Some(10),
+        negative_ttl: Some(10),
+        ..REFERRED
+    },
     // where there is no question, it is the root's addresses
-    Row(
-        "a.",
-        1,
-        0,
-        Denying::WithoutQuestions,
-        ". IN A; 0; none; None;; 0",
-    ),
+    Missing {
+        asked: &[],
+        name: b"\0",
+        record_type: 1,
+        ..BARE
+    },
     // the first of more questions
-    Row(
-        "x.",
-        1,
-        3,
-        Denying::OfTwoQuestions,
-        "x. IN A; 3; none; None;; 0",
-    ),
+    Missing {
+        asked: &[("x.", 1), ("y.", 1)],
+        code: 3,
+        name: b"\x01x\0",
+        record_type: 1,
+        ..BARE
+    },
 ];
 
-fn rows() -> &'static [Row] {
+fn rows() -> &'static [Missing] {
     ROWS
 }
 
-/// A response with this question and code, of this kind.
-fn denying_response(
-    alloc: Global,
-    name: &str,
-    record_type: u16,
-    code: u16,
-    kind: Denying,
-) -> Result<DnsResponse, NameError> {
-    let mut made = response(alloc, name, record_type, code)?;
-    deny(alloc, &mut made.message, kind)?;
-    Ok(made)
-}
-
-/// What such a response becomes.
-fn denied(
-    alloc: Global,
-    name: &str,
-    record_type: u16,
-    code: u16,
-    kind: Denying,
-) -> Result<Result<DnsResponse, DnsError>, NameError> {
-    let made = denying_response(alloc, name, record_type, code, kind)?;
-    Ok(DnsError::from_response(alloc, made)?)
-}
-
-/// The error, and where it is none, one that holds nothing.
-fn error_of(became: Result<DnsResponse, DnsError>) -> NetError {
-    match became {
-        Ok(response) => {
-            drop(response);
-            NetError::Busy
-        }
-        Err(error) => NetError::from(error),
-    }
-}
-
-/// The error that a referral becomes.
-pub(crate) fn denied_by_referral(alloc: Global) -> Result<NetError, NameError> {
-    Ok(error_of(denied(alloc, "a.b.", 16, 3, Denying::Referral(60))?))
-}
-
-/// A record's name, and a number that is told of it.
-fn write_named(text: &mut String, record: &Record, number: u32) -> Result<(), AllocError> {
-    write!(text, " {}-{number}", record.name)
-}
-
-pub(crate) fn write_soa(text: &mut String, soa: &Option<Record>) -> Result<(), AllocError> {
+/// The SOA is `C.`'s with this ttl, or there is none.
+pub(crate) fn has_soa(soa: &Option<Record>, ttl: Option<u32>) -> bool {
     match soa {
-        None => text.push_str(" none"),
-        Some(soa) => write_named(text, soa, soa.ttl),
+        Some(soa) => is_named(&soa.name, b"\x01C\0") && Some(soa.ttl) == ttl,
+        None => ttl.is_none(),
     }
 }
 
-fn write_glue(text: &mut String, glue: &[Record]) -> Result<(), AllocError> {
-    for address in glue {
-        write_named(text, address, u32::from(address.record_type.0))?;
+fn is_glue(glue: &[Record]) -> bool {
+    match glue {
+        [one, other] => {
+            is_named(&one.name, b"\x02ns\0")
+                && one.record_type.0 == 28
+                && is_named(&other.name, b"\x02NS\0")
+                && other.record_type.0 == 1
+        }
+        _ => false,
     }
-    Ok(())
 }
 
-fn write_servers(text: &mut String, servers: &[ForwardNSData]) -> Result<(), AllocError> {
-    for server in servers {
-        write!(text, " {}", server.ns.name)?;
-        write_glue(text, &server.glue)?;
+/// The servers of `REFERRAL`.
+fn are_servers(servers: &[ForwardNSData]) -> bool {
+    match servers {
+        [one, two, three] => {
+            is_named(&one.ns.name, b"\x01b\0")
+                && is_glue(&one.glue)
+                && is_named(&two.ns.name, b"\x01b\0")
+                && two.glue.is_empty()
+                && is_named(&three.ns.name, b"\x01d\0")
+                && three.glue.is_empty()
+        }
+        _ => false,
     }
-    Ok(())
 }
 
-fn write_missing(text: &mut String, missing: &NoRecords) -> Result<(), AllocError> {
-    write!(text, "{}; {};", missing.query, missing.response_code.0)?;
-    write_soa(text, &missing.soa)?;
-    write!(text, "; {:?};", missing.negative_ttl)?;
-    write_servers(text, &missing.ns)?;
-    write!(text, "; {}", missing.authorities.len())
+fn is_missing(missing: &NoRecords, row: &Missing) -> bool {
+    is_named(&missing.query.name, row.name)
+        && missing.query.query_type.0 == row.record_type
+        && missing.query.query_class == DNSClass::IN
+        && missing.response_code.0 == row.code
+        && has_soa(&missing.soa, row.soa)
+        && missing.negative_ttl == row.negative_ttl
+        && missing.authorities.len() == row.authorities
+        && missing.ns.is_empty() == row.records.is_empty()
+        && (missing.ns.is_empty() || are_servers(&missing.ns))
 }
 
-fn has_text(alloc: Global, missing: &NoRecords, want: &str) -> bool {
-    let mut text = String::new(alloc);
-    write_missing(&mut text, missing).is_ok() && text.as_str() == want
+/// What becomes of the row's response.
+fn became_of(alloc: Global, row: &Missing) -> Became {
+    let mut message = Message::query(alloc);
+    message.response_code = ResponseCode(row.code);
+    match fill(alloc, &mut message, row.asked, row.records, row.ttl) {
+        Ok(()) => from_message(alloc, message),
+        Err(_) => {
+            drop(message);
+            Err(NoMemory)
+        }
+    }
 }
 
-fn copy_has_text(alloc: Global, missing: &NoRecords, want: &str) -> Result<bool, NameError> {
-    let copy = missing.try_clone()?;
-    let held = has_text(alloc, &copy, want);
-    drop(copy);
-    Ok(held)
+fn holds_missing(became: &Became, row: &Missing) -> bool {
+    match became {
+        Ok(Err(DnsError::NoRecordsFound(missing))) => is_missing(missing, row),
+        _ => false,
+    }
 }
 
-/// What became of a response is such an error, and so is its copy.
-fn have_text(
-    alloc: Global,
-    became: &Result<DnsResponse, DnsError>,
-    want: &str,
-) -> Result<bool, NameError> {
-    let Err(DnsError::NoRecordsFound(missing)) = became else {
-        return Ok(false);
-    };
-    Ok(has_text(alloc, missing, want) && copy_has_text(alloc, missing, want)?)
-}
-
-fn becomes(alloc: Global, row: &Row) -> Result<bool, NameError> {
-    let became = denied(alloc, row.0, row.1, row.2, row.3)?;
-    let held = have_text(alloc, &became, row.4);
-    drop(became);
-    held
+impl Row for Missing {
+    fn holds(&self, alloc: Global) -> bool {
+        let became = became_of(alloc, self);
+        let held = holds_missing(&became, self);
+        drop(became);
+        held
+    }
 }
 
 #[test]
 fn no_records_keep_what_the_server_said(rt: HostRuntime) {
-    let alloc = rt.alloc();
-    for row in rows() {
-        check(&rt, row.4, becomes(alloc, row));
+    check_numbered(&rt, rt.alloc(), rows());
+}
+
+/// The error that a referral becomes.
+pub(crate) fn denied_by_referral(alloc: Global) -> NetError {
+    match became_of(alloc, &REFERRED) {
+        Ok(Err(error)) => NetError::from(error),
+        other => {
+            drop(other);
+            NetError::Busy
+        }
     }
 }

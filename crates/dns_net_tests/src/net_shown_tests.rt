@@ -1,4 +1,5 @@
-use crate::parts::{check_number, rdata};
+use crate::parts::rdata;
+use crate::rows::check_row;
 use dns_evidence::{Chain, Link, all_shown, shows_ds, shows_key, shows_member};
 use dns_model::{NameError, Section};
 use dns_name::{Name, NameRef};
@@ -15,11 +16,17 @@ fn one_key(alloc: Global) -> Result<Vec<Rdata>, NameError> {
     Ok(keys)
 }
 
+fn owner(alloc: Global) -> Result<Name, NameError> {
+    Name::from_ascii(alloc, "ORG.")
+}
+
 fn anchored(alloc: Global) -> Result<Link, NameError> {
+    let owner = owner(alloc)?;
+    let key = key(alloc)?;
     Ok(Link::Anchored {
-        owner: Name::from_ascii(alloc, "ORG.")?,
+        owner,
         class: DNSClass::IN,
-        key: key(alloc)?,
+        key,
     })
 }
 
@@ -30,48 +37,43 @@ fn first_number(alloc: Global) -> Result<Vec<u32>, NameError> {
 }
 
 fn key_set(alloc: Global) -> Result<Link, NameError> {
+    let keys = one_key(alloc)?;
+    let links = first_number(alloc)?;
+    let owner = owner(alloc)?;
     Ok(Link::KeySet {
-        owner: Name::from_ascii(alloc, "org.")?,
+        owner,
         class: DNSClass::IN,
-        keys: one_key(alloc)?,
-        links: first_number(alloc)?,
+        keys,
+        links,
     })
 }
 
 fn delegation(alloc: Global) -> Result<Link, NameError> {
+    let rdatas = one_key(alloc)?;
+    let sig = key(alloc)?;
+    let key = key(alloc)?;
+    let owner = owner(alloc)?;
     Ok(Link::Signed {
-        owner: Name::from_ascii(alloc, "org.")?,
+        owner,
         class: DNSClass::IN,
         record_type: RecordType::DS,
-        rdatas: one_key(alloc)?,
-        sig: key(alloc)?,
+        rdatas,
+        sig,
         key_link: 1,
-        key: key(alloc)?,
+        key,
     })
 }
 
-fn add_links(alloc: Global, links: &mut Vec<Link>) -> Result<(), NameError> {
-    links.push(anchored(alloc)?)?;
-    links.push(key_set(alloc)?)?;
-    links.push(delegation(alloc)?)?;
+fn push(links: &mut Vec<Link>, link: Result<Link, NameError>) -> Result<(), NameError> {
+    links.push(link?)?;
     Ok(())
 }
 
 /// An anchored key, its key set and a signed set of DS records, whose rdatas are alike.
-fn first_chain(alloc: Global) -> Result<Chain, NameError> {
-    let mut chain = Chain {
-        section: Section::Answer,
-        links: Vec::new(alloc),
-    };
-    add_links(alloc, &mut chain.links)?;
-    Ok(chain)
-}
-
-fn chain(alloc: Global) -> Result<Chain, NameError> {
-    let chain = first_chain(alloc)?;
-    let copy = chain.try_clone();
-    drop(chain);
-    Ok(copy?)
+fn add_links(alloc: Global, links: &mut Vec<Link>) -> Result<(), NameError> {
+    push(links, anchored(alloc))?;
+    push(links, key_set(alloc))?;
+    push(links, delegation(alloc))
 }
 
 /// The number of a link, a class and an rdata, and what that link shows of them for `org.`.
@@ -133,26 +135,6 @@ fn shown(links: &[Link], owner: &NameRef, row: &Row) -> u8 {
     key + 2 * member + 4 * ds
 }
 
-fn shows_as(alloc: Global, links: &[Link], row: &Row) -> Result<bool, NameError> {
-    let owner = Name::from_ascii(alloc, "oRg.")?;
-    Ok(shown(links, &owner.borrowed(), row) == row.want)
-}
-
-fn is_shown(alloc: Global, row: &Row) -> Result<bool, NameError> {
-    let chain = chain(alloc)?;
-    let held = shows_as(alloc, &chain.links, row);
-    drop(chain);
-    held
-}
-
-#[test]
-fn links_show_keys_members_and_delegations(rt: HostRuntime) {
-    let alloc = rt.alloc();
-    for (number, row) in rows().iter().enumerate() {
-        check_number(&rt, number, is_shown(alloc, row));
-    }
-}
-
 /// The numbers of links, and whether they show the one key.
 struct Numbered(&'static [u32], bool);
 
@@ -166,33 +148,56 @@ fn numbered_rows() -> &'static [Numbered] {
     NUMBERED
 }
 
-fn show_keys(
-    alloc: Global,
-    links: &[Link],
-    keys: &[Rdata],
-    numbers: &[u32],
-) -> Result<bool, NameError> {
-    let owner = Name::from_ascii(alloc, "org.")?;
-    Ok(all_shown(links, &owner.borrowed(), DNSClass::IN, keys, numbers))
+fn rows_hold(links: &[Link], owner: &NameRef) -> bool {
+    for row in rows() {
+        if shown(links, owner, row) != row.want {
+            return false;
+        }
+    }
+    true
 }
 
-/// The one key is shown by the links with these numbers.
-fn show_the_key(alloc: Global, links: &[Link], numbers: &[u32]) -> Result<bool, NameError> {
+fn numbered_rows_hold(links: &[Link], owner: &NameRef, keys: &[Rdata]) -> bool {
+    for row in numbered_rows() {
+        if all_shown(links, owner, DNSClass::IN, keys, row.0) != row.1 {
+            return false;
+        }
+    }
+    true
+}
+
+/// Whether links show to an owner what the tables say.
+fn all_hold(alloc: Global, links: &[Link]) -> Result<bool, NameError> {
+    let owner = Name::from_ascii(alloc, "oRg.")?;
     let keys = one_key(alloc)?;
-    show_keys(alloc, links, &keys, numbers)
+    let owner = owner.borrowed();
+    Ok(rows_hold(links, &owner) && numbered_rows_hold(links, &owner, &keys))
 }
 
-fn is_all_shown(alloc: Global, row: &Numbered) -> Result<bool, NameError> {
-    let chain = chain(alloc)?;
-    let shown = show_the_key(alloc, &chain.links, row.0);
+/// The same of a copy of the chain.
+fn copy_holds(alloc: Global, chain: &Chain) -> bool {
+    match chain.try_clone() {
+        Ok(copy) => {
+            let held = all_hold(alloc, &copy.links);
+            drop(copy);
+            matches!(held, Ok(true))
+        }
+        Err(_) => false,
+    }
+}
+
+fn is_shown(alloc: Global) -> bool {
+    let mut chain = Chain {
+        section: Section::Answer,
+        links: Vec::new(alloc),
+    };
+    let made = add_links(alloc, &mut chain.links);
+    let held = copy_holds(alloc, &chain);
     drop(chain);
-    Ok(shown? == row.1)
+    made.is_ok() && held
 }
 
 #[test]
-fn each_key_has_its_link(rt: HostRuntime) {
-    let alloc = rt.alloc();
-    for (number, row) in numbered_rows().iter().enumerate() {
-        check_number(&rt, number, is_all_shown(alloc, row));
-    }
+fn links_show_keys_members_and_delegations(rt: HostRuntime) {
+    check_row(&rt, "what links show", is_shown(rt.alloc()));
 }

@@ -1,143 +1,140 @@
-use crate::parts::{bare_set, bare_step, check, check_number};
-use dns_evidence::{Asked, JudgedSet};
-use dns_model::{AskRef, NameError};
+//! The order of a trail's steps, short and long ones, and copies of steps.
+use crate::parts::{is_named, query};
+use crate::rows::{Row, check_numbered, check_rows};
+use dns_evidence::{Asked, Ending, JudgedSet, Reply};
+use dns_model::{AskRef, MarkOrigin, NameError, Proof, Section};
+use dns_name::Name;
+use dns_record::{DNSClass, RecordType};
 use dns_trail::is_in_order;
 use std::alloc::Global;
 use std::slice;
 
-/// A trail, by what each of its steps asks: a point begins a step, and what follows asks for the step with that digit, for one
-/// too deep (`D`) or one too many (`M`), and else (`X`) for the step with the greatest number.
-struct Row {
-    what: &'static str,
-    steps: &'static [u8],
-    is_in_order: bool,
-}
+/// A trail, by what each of its steps asks: a point begins a step, and what follows asks for the step with that digit, for the
+/// one before it (`P`), for all before it (`A`), for all but the last of them (`B`), for one too deep (`D`) or one too many
+/// (`M`), and else (`X`) for the step with the greatest number. Of three texts the second comes so many times. Whether the
+/// steps are in order.
+struct Steps(&'static [u8], &'static [u8], u32, &'static [u8], bool);
 
-const ROWS: &[Row] = &[
-    Row {
-        what: "one step",
-        steps: b".",
-        is_in_order: true,
-    },
-    Row {
-        what: "no step",
-        steps: b"",
-        is_in_order: false,
-    },
-    Row {
-        what: "a chain of steps",
-        steps: b"..0.1",
-        is_in_order: true,
-    },
-    Row {
-        what: "asks in turn, in sets and in the excuse",
-        steps: b"...01..2D3",
-        is_in_order: true,
-    },
-    Row {
-        what: "the first step dropped",
-        steps: b".0.1",
-        is_in_order: false,
-    },
-    Row {
-        what: "a step in the middle dropped",
-        steps: b"..1",
-        is_in_order: false,
-    },
-    Row {
-        what: "the last step dropped",
-        steps: b"..",
-        is_in_order: false,
-    },
-    Row {
-        what: "a step doubled",
-        steps: b"...0.2",
-        is_in_order: false,
-    },
-    Row {
-        what: "a step doubled at the end",
-        steps: b"..0.0",
-        is_in_order: false,
-    },
-    Row {
-        what: "a step before what it names",
-        steps: b".1..0",
-        is_in_order: false,
-    },
-    Row {
-        what: "a step that names itself",
-        steps: b"..1.1",
-        is_in_order: false,
-    },
-    Row {
-        what: "the last step named",
-        steps: b".1.0",
-        is_in_order: false,
-    },
-    Row {
-        what: "a number past the end",
-        steps: b"..02",
-        is_in_order: false,
-    },
-    Row {
-        what: "the greatest number",
-        steps: b".X",
-        is_in_order: false,
-    },
-    Row {
-        what: "a step named twice by one",
-        steps: b"..00",
-        is_in_order: false,
-    },
-    Row {
-        what: "a step named by two",
-        steps: b"..0.01",
-        is_in_order: false,
-    },
-    Row {
-        what: "a step and what it asked named by one",
-        steps: b"..0.10",
-        is_in_order: false,
-    },
-    Row {
-        what: "steps that ended in another order",
-        steps: b"...10",
-        is_in_order: false,
-    },
-    Row {
-        what: "asks that are too deep",
-        steps: b".D.D0D",
-        is_in_order: true,
-    },
-    Row {
-        what: "one too many, where few were sent",
-        steps: b".M",
-        is_in_order: false,
-    },
-    Row {
-        what: "one too many behind a step",
-        steps: b"..0M",
-        is_in_order: false,
-    },
+const ROWS: &[(&str, Steps)] = &[
+    ("one step", Steps(b".", b"", 0, b"", true)),
+    ("no step", Steps(b"", b"", 0, b"", false)),
+    ("a chain of steps", Steps(b"..0.1", b"", 0, b"", true)),
+    (
+        "asks in turn, in sets and in the excuse",
+        Steps(b"...01..2D3", b"", 0, b"", true),
+    ),
+    ("the first step dropped", Steps(b".0.1", b"", 0, b"", false)),
+    (
+        "a step in the middle dropped",
+        Steps(b"..1", b"", 0, b"", false),
+    ),
+    ("the last step dropped", Steps(b"..", b"", 0, b"", false)),
+    ("a step doubled", Steps(b"...0.2", b"", 0, b"", false)),
+    (
+        "a step doubled at the end",
+        Steps(b"..0.0", b"", 0, b"", false),
+    ),
+    (
+        "a step before what it names",
+        Steps(b".1..0", b"", 0, b"", false),
+    ),
+    (
+        "a step that names itself",
+        Steps(b"..1.1", b"", 0, b"", false),
+    ),
+    ("the last step named", Steps(b".1.0", b"", 0, b"", false)),
+    ("a number past the end", Steps(b"..02", b"", 0, b"", false)),
+    ("the greatest number", Steps(b".X", b"", 0, b"", false)),
+    (
+        "a step named twice by one",
+        Steps(b"..00", b"", 0, b"", false),
+    ),
+    ("a step named by two", Steps(b"..0.01", b"", 0, b"", false)),
+    (
+        "a step and what it asked named by one",
+        Steps(b"..0.10", b"", 0, b"", false),
+    ),
+    (
+        "steps that ended in another order",
+        Steps(b"...10", b"", 0, b"", false),
+    ),
+    (
+        "asks that are too deep",
+        Steps(b".D.D0D", b"", 0, b"", true),
+    ),
+    (
+        "one too many, where few were sent",
+        Steps(b".M", b"", 0, b"", false),
+    ),
+    (
+        "one too many behind a step",
+        Steps(b"..0M", b"", 0, b"", false),
+    ),
+    // at most 1,024 steps one below the other
+    ("a chain of 1,024", Steps(b".", b".P", 1023, b"", true)),
+    (
+        "a chain of 1,024 and one too many",
+        Steps(b".M", b".P", 1023, b"", true),
+    ),
+    (
+        "a chain of 1,023 and one too many",
+        Steps(b".M", b".P", 1022, b"", false),
+    ),
+    ("a chain of 1,025", Steps(b".", b".P", 1024, b"", false)),
+    // at most 1,024 steps one beside the other
+    ("a fan of 1,024", Steps(b"", b".", 1023, b".A", true)),
+    (
+        "a fan of 1,024 and one too many",
+        Steps(b"", b".", 1023, b".AM", true),
+    ),
+    (
+        "one too many before the last of 1,024",
+        Steps(b"", b".", 1023, b".BMP", false),
+    ),
+    (
+        "a fan of 1,023 and one too many",
+        Steps(b"", b".", 1022, b".AM", false),
+    ),
+    ("a fan of 1,025", Steps(b"", b".", 1024, b".A", false)),
 ];
 
-fn rows() -> &'static [Row] {
+fn rows() -> &'static [(&'static str, Steps)] {
     ROWS
 }
 
-fn set(alloc: Global, ask: AskRef) -> Result<JudgedSet, NameError> {
-    let mut set = bare_set(alloc)?;
-    set.asked.push(ask)?;
-    Ok(set)
+/// A step that asked so in vain and came upon another class, and told of no set and no further ask.
+fn bare_step(alloc: Global) -> Result<Asked, NameError> {
+    let owner = Name::from_ascii(alloc, "b.")?;
+    let query = query(alloc, "a.", 1)?;
+    Ok(Asked {
+        depth: 0,
+        judged: true,
+        query,
+        reply: Reply::Fault,
+        sets: Vec::new(alloc),
+        ending: Ending::Foreign {
+            owner,
+            class: DNSClass::CH,
+            record_type: RecordType::TXT,
+        },
+        excuse: Vec::new(alloc),
+    })
 }
 
-fn ask_of(byte: u8) -> AskRef {
-    match byte {
-        b'D' => AskRef::TooDeep,
-        b'M' => AskRef::TooMany,
-        b'0'..=b'9' => AskRef::Step(u32::from(byte - b'0')),
-        _ => AskRef::Step(u32::MAX),
-    }
+/// A set of `a. A` that was looked up before, and asks so.
+fn set(alloc: Global, ask: AskRef) -> Result<JudgedSet, NameError> {
+    let mut asked = Vec::new(alloc);
+    asked.push(ask)?;
+    let owner = Name::from_ascii(alloc, "a.")?;
+    Ok(JudgedSet {
+        section: Section::Answer,
+        owner,
+        record_type: RecordType::A,
+        mark: Proof::Bogus,
+        origin: MarkOrigin::Repeat(2),
+        sig: Some(7),
+        asked,
+    })
 }
 
 /// The step asks so too: for its first set, for its second one, and from then on for its excuse.
@@ -150,35 +147,105 @@ fn ask(alloc: Global, step: &mut Asked, ask: AskRef) -> Result<(), NameError> {
     Ok(())
 }
 
-/// A step begins, or the last one asks.
-fn add(alloc: Global, steps: &mut Vec<Asked>, byte: u8) -> Result<(), NameError> {
-    if byte == b'.' {
-        steps.push(bare_step(alloc, "a.", 1)?)?;
-    } else if let Some(step) = steps.last_mut() {
-        ask(alloc, step, ask_of(byte))?;
+fn ask_of(byte: u8, before: u32) -> AskRef {
+    match byte {
+        b'D' => AskRef::TooDeep,
+        b'M' => AskRef::TooMany,
+        b'P' => AskRef::Step(before.saturating_sub(1)),
+        b'0'..=b'9' => AskRef::Step(u32::from(byte - b'0')),
+        _ => AskRef::Step(u32::MAX),
+    }
+}
+
+/// The step asks for so many in turn.
+fn ask_all(alloc: Global, step: &mut Asked, count: u32) -> Result<(), NameError> {
+    for number in 0..count {
+        ask(alloc, step, AskRef::Step(number))?;
     }
     Ok(())
 }
 
-fn add_all(alloc: Global, steps: &mut Vec<Asked>, text: &[u8]) -> Result<(), NameError> {
+/// The step, which has so many before it, asks as the byte says.
+fn ask_so(alloc: Global, step: &mut Asked, byte: u8, before: u32) -> Result<(), NameError> {
+    match byte {
+        b'A' => ask_all(alloc, step, before),
+        b'B' => ask_all(alloc, step, before.saturating_sub(1)),
+        _ => ask(alloc, step, ask_of(byte, before)),
+    }
+}
+
+/// Steps begin, and the last one asks.
+fn add(alloc: Global, steps: &mut Vec<Asked>, text: &[u8]) -> Result<(), NameError> {
     for byte in text {
-        add(alloc, steps, *byte)?;
+        let before = u32::try_from(steps.len())
+            .unwrap_or(u32::MAX)
+            .saturating_sub(1);
+        if *byte == b'.' {
+            steps.push(bare_step(alloc)?)?;
+        } else if let Some(step) = steps.last_mut() {
+            ask_so(alloc, step, *byte, before)?;
+        }
     }
     Ok(())
 }
 
-fn is_right(alloc: Global, row: &Row) -> Result<bool, NameError> {
-    let mut steps = Vec::new(alloc);
-    add_all(alloc, &mut steps, row.steps)?;
-    Ok(is_in_order(&steps) == row.is_in_order)
+fn add_all(alloc: Global, steps: &mut Vec<Asked>, row: &Steps) -> Result<(), NameError> {
+    add(alloc, steps, row.0)?;
+    for _ in 0..row.2 {
+        add(alloc, steps, row.1)?;
+    }
+    add(alloc, steps, row.3)
+}
+
+fn add_copies(copies: &mut Vec<Asked>, steps: &[Asked]) -> Result<(), NameError> {
+    for step in steps {
+        copies.push(step.try_clone()?)?;
+    }
+    Ok(())
+}
+
+/// The steps came upon another class, and their sets were looked up before.
+fn are_bare(steps: &[Asked]) -> bool {
+    for step in steps {
+        if !ends_so(&step.ending) || !are_repeated(&step.sets) {
+            return false;
+        }
+    }
+    true
+}
+
+fn ends_so(ending: &Ending) -> bool {
+    matches!(ending, Ending::Foreign { owner, class, record_type }
+        if is_named(owner, b"\x01b\0") && *class == DNSClass::CH && *record_type == RecordType::TXT)
+}
+
+fn are_repeated(sets: &[JudgedSet]) -> bool {
+    for set in sets {
+        if set.origin != MarkOrigin::Repeat(2) || set.sig != Some(7) {
+            return false;
+        }
+    }
+    true
+}
+
+/// Copies of the steps are as they are, and in order where they are.
+fn copies_are(alloc: Global, steps: &[Asked], want: bool) -> bool {
+    let mut copies = Vec::new(alloc);
+    let made = add_copies(&mut copies, steps);
+    made.is_ok() && copies.len() == steps.len() && are_bare(&copies) && is_in_order(&copies) == want
+}
+
+impl Row for Steps {
+    fn holds(&self, alloc: Global) -> bool {
+        let mut steps = Vec::new(alloc);
+        let made = add_all(alloc, &mut steps, self);
+        made.is_ok() && is_in_order(&steps) == self.4 && copies_are(alloc, &steps, self.4)
+    }
 }
 
 #[test]
 fn a_trail_is_in_order_where_each_step_is_asked_once_and_ends_in_turn(rt: HostRuntime) {
-    let alloc = rt.alloc();
-    for row in rows() {
-        check(&rt, row.what, is_right(alloc, row));
-    }
+    check_rows(&rt, rt.alloc(), rows());
 }
 
 /// One step, by its depth and whether it is to be judged or only to be seen; whether it is in order.
@@ -191,23 +258,22 @@ const TOPS: &[Top] = &[
     Top(65535, false, false),
 ];
 
-fn tops() -> &'static [Top] {
-    TOPS
-}
-
-fn is_top(alloc: Global, row: &Top) -> Result<bool, NameError> {
-    let mut step = bare_step(alloc, "a.", 1)?;
-    step.depth = row.0;
-    step.judged = row.1;
-    let held = is_in_order(slice::from_ref(&step)) == row.2;
-    drop(step);
-    Ok(held)
+impl Row for Top {
+    fn holds(&self, alloc: Global) -> bool {
+        match bare_step(alloc) {
+            Ok(mut step) => {
+                step.depth = self.0;
+                step.judged = self.1;
+                let held = is_in_order(slice::from_ref(&step)) == self.2;
+                drop(step);
+                held
+            }
+            Err(_) => false,
+        }
+    }
 }
 
 #[test]
 fn the_last_step_is_judged_at_depth_0(rt: HostRuntime) {
-    let alloc = rt.alloc();
-    for row in tops() {
-        check_number(&rt, usize::from(row.0), is_top(alloc, row));
-    }
+    check_numbered(&rt, rt.alloc(), TOPS);
 }

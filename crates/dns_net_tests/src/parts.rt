@@ -1,20 +1,11 @@
-use dns_evidence::{Asked, Ending, JudgedSet, Reply, Trail};
-use dns_handle::{DnsRequest, DnsRequestOptions, DnsResponse, NetError};
-use dns_model::{Denial, MarkOrigin, NameError, Proof, Section};
+//! What tests of requests, responses and errors share.
+use dns_evidence::Trail;
+use dns_handle::{DnsError, DnsRequest, DnsRequestOptions, DnsResponse, IoKind, NetError, Notice};
+use dns_message::Message;
+use dns_model::{Denial, NameError, Proof};
 use dns_name::Name;
-use dns_record::{DNSClass, Query, Rdata, Record, RecordType, ResponseCode};
+use dns_record::{DNSClass, Query, Rdata, Record, RecordType};
 use std::alloc::Global;
-use std::process::Abort;
-
-/// What was tried on a row held; the message names the row.
-pub(crate) fn check(rt: &impl Abort, row: &str, held: Result<bool, NameError>) {
-    assert!(rt; matches!(held, Ok(true)), "{row}");
-}
-
-/// The same for a row that a number names.
-pub(crate) fn check_number(rt: &impl Abort, row: usize, held: Result<bool, NameError>) {
-    assert!(rt; matches!(held, Ok(true)), "row {row}");
-}
 
 pub(crate) fn query(alloc: Global, name: &str, record_type: u16) -> Result<Query, NameError> {
     let name = Name::from_ascii(alloc, name)?;
@@ -23,6 +14,10 @@ pub(crate) fn query(alloc: Global, name: &str, record_type: u16) -> Result<Query
         query_type: RecordType(record_type),
         query_class: DNSClass::IN,
     })
+}
+
+pub(crate) fn is_named(name: &Name, wire: &[u8]) -> bool {
+    name.wire() == wire
 }
 
 /// Asks for this too.
@@ -46,32 +41,22 @@ pub(crate) fn request(
 }
 
 /// A request without a question.
-pub(crate) fn nothing(alloc: Global) -> Result<DnsRequest, NameError> {
-    let mut request = request(alloc, "a.", 1)?;
-    request.message.queries.clear();
-    Ok(request)
+pub(crate) fn nothing(alloc: Global) -> DnsRequest {
+    DnsRequest {
+        message: Message::query(alloc),
+        options: DnsRequestOptions::default(),
+        original: None,
+    }
 }
 
-/// A response to this request.
-fn answer(alloc: Global, request: DnsRequest, code: u16) -> DnsResponse {
-    let mut message = request.message;
-    message.response_code = ResponseCode(code);
+/// A response that is this message.
+pub(crate) fn response(alloc: Global, message: Message) -> DnsResponse {
     DnsResponse {
         message,
         chains: Vec::new(alloc),
         denial: Denial::None,
         trail: Trail::new(alloc),
     }
-}
-
-/// A response with this question and code.
-pub(crate) fn response(
-    alloc: Global,
-    name: &str,
-    record_type: u16,
-    code: u16,
-) -> Result<DnsResponse, NameError> {
-    Ok(answer(alloc, request(alloc, name, record_type)?, code))
 }
 
 /// An rdata of these bytes, which are fewer than 65,536.
@@ -99,36 +84,56 @@ pub(crate) fn record(
     })
 }
 
-/// The text that an error shows is this one.
-pub(crate) fn shows(alloc: Global, error: &NetError, want: &str) -> Result<bool, NameError> {
-    let text = format!(in alloc; "{error}")?;
-    Ok(text.as_str() == want)
+/// A reply, as far as tests tell one from another.
+#[derive(Clone, Copy, PartialEq, Eq)]
+pub(crate) enum Said {
+    /// A response with the id.
+    Response(u16),
+    TimedOut,
+    Busy,
+    NoConnections,
+    Bogus,
+    Reset,
+    PolledAgain,
+    Other,
 }
 
-/// A step of a trail that asked so in vain, and told of no set and no further ask.
-pub(crate) fn bare_step(alloc: Global, name: &str, record_type: u16) -> Result<Asked, NameError> {
-    let query = query(alloc, name, record_type)?;
-    Ok(Asked {
-        depth: 0,
-        judged: true,
-        query,
-        reply: Reply::Fault,
-        sets: Vec::new(alloc),
-        ending: Ending::Failed,
-        excuse: Vec::new(alloc),
-    })
+fn error(said: Said) -> NetError {
+    match said {
+        Said::Busy => NetError::Busy,
+        Said::NoConnections => NetError::NoConnections,
+        Said::Bogus => NetError::Dns(DnsError::DnssecBogus),
+        Said::Reset => NetError::Io(IoKind::ConnectionReset),
+        Said::PolledAgain => NetError::Message(Notice::PolledAfterCompletion),
+        _ => NetError::Timeout,
+    }
 }
 
-/// A set of `a. A` that no ask was needed for.
-pub(crate) fn bare_set(alloc: Global) -> Result<JudgedSet, NameError> {
-    let owner = Name::from_ascii(alloc, "a.")?;
-    Ok(JudgedSet {
-        section: Section::Answer,
-        owner,
-        record_type: RecordType::A,
-        mark: Proof::Bogus,
-        origin: MarkOrigin::Table,
-        sig: None,
-        asked: Vec::new(alloc),
-    })
+/// A response with an id and nothing else.
+fn with_id(alloc: Global, id: u16) -> DnsResponse {
+    let mut message = Message::query(alloc);
+    message.id = id;
+    response(alloc, message)
+}
+
+/// A reply that says this.
+pub(crate) fn reply(alloc: Global, said: Said) -> Result<DnsResponse, NetError> {
+    match said {
+        Said::Response(id) => Ok(with_id(alloc, id)),
+        _ => Err(error(said)),
+    }
+}
+
+/// What a reply says.
+pub(crate) fn said_by(reply: &Result<DnsResponse, NetError>) -> Said {
+    match reply {
+        Ok(response) => Said::Response(response.message.id),
+        Err(NetError::Timeout) => Said::TimedOut,
+        Err(NetError::Busy) => Said::Busy,
+        Err(NetError::NoConnections) => Said::NoConnections,
+        Err(NetError::Dns(DnsError::DnssecBogus)) => Said::Bogus,
+        Err(NetError::Io(IoKind::ConnectionReset)) => Said::Reset,
+        Err(NetError::Message(Notice::PolledAfterCompletion)) => Said::PolledAgain,
+        Err(_) => Said::Other,
+    }
 }

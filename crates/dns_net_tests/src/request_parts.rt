@@ -1,81 +1,12 @@
-use dns_evidence::Trail;
-use dns_handle::{DnsError, DnsRequest, DnsRequestOptions, DnsResponse, IoKind, NetError, Notice};
-use dns_message::Message;
-use dns_model::Denial;
-use dns_name::NoMemory;
+//! Requests that wait: a task in which polls are made by hand, and what a poll says.
+use crate::parts::{Said, said_by};
+use crate::rows::check_row;
+use dns_handle::{DnsResponse, NetError};
 use futures::task::Poll;
 use futures::test::MockTask;
 use std::alloc::{AllocGlobal, Global};
 use std::process::Abort;
 use std::random::RandomSource;
-
-/// A reply, as far as tests tell one from another.
-#[derive(Clone, Copy, PartialEq, Eq)]
-pub(crate) enum Said {
-    /// A response with the id.
-    Response(u16),
-    TimedOut,
-    Busy,
-    NoConnections,
-    Bogus,
-    Reset,
-    PolledAgain,
-    Other,
-}
-
-/// A query without a question.
-pub(crate) fn request(alloc: Global) -> DnsRequest {
-    DnsRequest {
-        message: Message::query(alloc),
-        options: DnsRequestOptions::default(),
-        original: None,
-    }
-}
-
-/// A response with an id and nothing else.
-fn response(alloc: Global, id: u16) -> DnsResponse {
-    let mut message = Message::query(alloc);
-    message.id = id;
-    DnsResponse {
-        message,
-        chains: Vec::new(alloc),
-        denial: Denial::None,
-        trail: Trail::new(alloc),
-    }
-}
-
-fn error(said: Said) -> NetError {
-    match said {
-        Said::Busy => NetError::Busy,
-        Said::NoConnections => NetError::NoConnections,
-        Said::Bogus => NetError::Dns(DnsError::DnssecBogus),
-        Said::Reset => NetError::Io(IoKind::ConnectionReset),
-        Said::PolledAgain => NetError::Message(Notice::PolledAfterCompletion),
-        _ => NetError::Timeout,
-    }
-}
-
-/// A reply that says this.
-pub(crate) fn reply(alloc: Global, said: Said) -> Result<DnsResponse, NetError> {
-    match said {
-        Said::Response(id) => Ok(response(alloc, id)),
-        _ => Err(error(said)),
-    }
-}
-
-/// What a reply says.
-pub(crate) fn said_by(reply: &Result<DnsResponse, NetError>) -> Said {
-    match reply {
-        Ok(response) => Said::Response(response.message.id),
-        Err(NetError::Timeout) => Said::TimedOut,
-        Err(NetError::Busy) => Said::Busy,
-        Err(NetError::NoConnections) => Said::NoConnections,
-        Err(NetError::Dns(DnsError::DnssecBogus)) => Said::Bogus,
-        Err(NetError::Io(IoKind::ConnectionReset)) => Said::Reset,
-        Err(NetError::Message(Notice::PolledAfterCompletion)) => Said::PolledAgain,
-        Err(_) => Said::Other,
-    }
-}
 
 /// What the reply of a poll says, where there is one.
 pub(crate) fn said_in(poll: &Poll<Result<DnsResponse, NetError>>) -> Option<Said> {
@@ -85,12 +16,26 @@ pub(crate) fn said_in(poll: &Poll<Result<DnsResponse, NetError>>) -> Option<Said
     }
 }
 
-/// A task in which polls are made by hand, unless memory lacks for it.
-pub(crate) fn task<R: RandomSource + AllocGlobal>(rt: &R) -> Option<MockTask> {
-    MockTask::new(rt).ok()
+/// What a table of requests that wait says in a row.
+pub(crate) trait Waiting {
+    /// What the row shows.
+    fn message(&self) -> &str;
+
+    /// Whether it holds where the task polls.
+    fn holds(&self, alloc: Global, task: &MockTask) -> bool;
 }
 
-/// What was tried on a row held; the message names the row.
-pub(crate) fn check_row(rt: &impl Abort, row: &str, held: Result<bool, NoMemory>) {
-    assert!(rt; matches!(held, Ok(true)), "{row}");
+/// Each row of a table holds in a task in which polls are made by hand.
+pub(crate) fn check_waiting<W: Waiting>(
+    rt: &(impl Abort + RandomSource + AllocGlobal),
+    rows: &[W],
+) {
+    let made = MockTask::new(rt).ok();
+    assert!(rt; made.is_some());
+    if let Some(task) = made {
+        for row in rows {
+            check_row(rt, row.message(), row.holds(rt.alloc(), &task));
+        }
+        drop(task);
+    }
 }

@@ -1,4 +1,4 @@
-use crate::request_parts::request;
+use crate::parts::nothing;
 use dns_handle::NetError;
 use dns_requests::{BufDnsRequestStreamHandle, DnsResponseReceiver, OneshotDnsRequest};
 use std::alloc::Global;
@@ -21,7 +21,7 @@ fn told_by(sent: &Result<DnsResponseReceiver, NetError>) -> Told {
 
 /// What the queue tells of one request more.
 fn send(alloc: Global, queue: &mut BufDnsRequestStreamHandle) -> Told {
-    let sent = queue.send(request(alloc));
+    let sent = queue.send(nothing(alloc));
     let told = told_by(&sent);
     drop(sent);
     told

@@ -1,8 +1,10 @@
-use crate::request_parts::{Said, check_row, reply, said_by, said_in, task};
+use crate::parts::{Said, reply, said_by};
+use crate::request_parts::{Waiting, check_waiting, said_in};
 use dns_handle::{DnsResponse, NetError};
 use dns_name::NoMemory;
 use dns_requests::{DnsResponseReceiver, DnsResponseStream, FirstAnswer};
-use futures::task::{Context, Poll};
+use futures::task::Poll;
+use futures::test::MockTask;
 use futures::{Future, Stream};
 use std::alloc::Global;
 
@@ -22,10 +24,20 @@ fn came(poll: &Poll<Option<Result<DnsResponse, NetError>>>) -> Given {
     }
 }
 
-/// The items of a stream, what its polls give, and its first answer.
+/// What a receiver is settled with.
+enum Made {
+    /// A stream of these items.
+    Items(&'static [Said]),
+    /// A stream of a single item.
+    Single(Said),
+    /// The error `Busy`.
+    Refusal,
+}
+
+/// What a receiver is settled with, what its polls give then, and its first answer.
 struct Row {
     message: &'static str,
-    items: &'static [Said],
+    made: Made,
     polls: &'static [Given],
     first: Said,
 }
@@ -33,12 +45,12 @@ struct Row {
 const ROWS: &[Row] = &[
     Row {
         message: "a stream ends at a time-out, again and again",
-        items: &[
+        made: Made::Items(&[
             Said::Response(1),
             Said::Reset,
             Said::TimedOut,
             Said::Response(3),
-        ],
+        ]),
         polls: &[
             Given::Item(Said::Response(1)),
             Given::Item(Said::Reset),
@@ -49,19 +61,37 @@ const ROWS: &[Row] = &[
     },
     Row {
         message: "a stream without an item has ended",
-        items: &[],
+        made: Made::Items(&[]),
         polls: &[Given::End, Given::End],
         first: Said::TimedOut,
     },
     Row {
         message: "a first time-out is the end",
-        items: &[Said::TimedOut, Said::Response(1)],
+        made: Made::Items(&[Said::TimedOut, Said::Response(1)]),
         polls: &[Given::End, Given::End],
         first: Said::TimedOut,
     },
     Row {
         message: "an error is an item",
-        items: &[Said::Busy],
+        made: Made::Items(&[Said::Busy]),
+        polls: &[Given::Item(Said::Busy), Given::End],
+        first: Said::Busy,
+    },
+    Row {
+        message: "a single response is given once",
+        made: Made::Single(Said::Response(7)),
+        polls: &[Given::Item(Said::Response(7)), Given::End],
+        first: Said::Response(7),
+    },
+    Row {
+        message: "a single time-out is the end",
+        made: Made::Single(Said::TimedOut),
+        polls: &[Given::End],
+        first: Said::TimedOut,
+    },
+    Row {
+        message: "a refusal is given once",
+        made: Made::Refusal,
         polls: &[Given::Item(Said::Busy), Given::End],
         first: Said::Busy,
     },
@@ -79,109 +109,59 @@ fn stream(alloc: Global, items: &[Said]) -> Result<DnsResponseStream, NoMemory> 
     Ok(DnsResponseStream::from_items(all))
 }
 
-fn poll_once(receiver: &mut DnsResponseReceiver, cx: &mut Context<'_>) -> Given {
-    let poll = receiver.poll_next(cx);
+fn settle(alloc: Global, receiver: &mut DnsResponseReceiver, made: &Made) -> Result<(), NoMemory> {
+    match made {
+        Made::Items(items) => receiver.settle(Ok(stream(alloc, items)?)),
+        Made::Single(item) => {
+            receiver.settle(Ok(DnsResponseStream::from_result(alloc, reply(alloc, *item))));
+        }
+        Made::Refusal => receiver.settle(Err(NetError::Busy)),
+    }
+    Ok(())
+}
+
+fn poll_once(receiver: &mut DnsResponseReceiver, task: &MockTask) -> Given {
+    let poll = task.enter(|cx| receiver.poll_next(cx));
     let given = came(&poll);
     drop(poll);
     given
 }
 
 /// Whether polls of a receiver give these.
-fn gives(receiver: &mut DnsResponseReceiver, polls: &[Given], cx: &mut Context<'_>) -> bool {
+fn gives(receiver: &mut DnsResponseReceiver, polls: &[Given], task: &MockTask) -> bool {
     for wanted in polls {
-        if poll_once(receiver, cx) != *wanted {
+        if poll_once(receiver, task) != *wanted {
             return false;
         }
     }
     true
 }
 
-/// Whether a receiver waits, and gives what the row says once it has the stream.
-fn is_streamed(alloc: Global, row: &Row, cx: &mut Context<'_>) -> Result<bool, NoMemory> {
-    let settled = stream(alloc, row.items)?;
+/// Whether a receiver that is settled gives these and ends, whatever it is told later.
+fn stays_settled(receiver: &mut DnsResponseReceiver, polls: &[Given], task: &MockTask) -> bool {
+    receiver.settle(Err(NetError::Timeout));
+    let held = gives(receiver, polls, task);
+    receiver.settle(Err(NetError::Timeout));
+    held && poll_once(receiver, task) == Given::End
+}
+
+/// Whether a receiver waits, and gives what the row says once it is settled.
+fn is_streamed(alloc: Global, row: &Row, task: &MockTask) -> bool {
     let mut receiver = DnsResponseReceiver::Receiver(0);
-    let waits = gives(&mut receiver, &[Given::Pending, Given::Pending], cx);
-    receiver.settle(Ok(settled));
-    let held = waits && gives(&mut receiver, row.polls, cx);
+    let waits = gives(&mut receiver, &[Given::Pending, Given::Pending], task);
+    let made = settle(alloc, &mut receiver, &row.made);
+    let held = stays_settled(&mut receiver, row.polls, task);
     drop(receiver);
-    Ok(held)
+    made.is_ok() && waits && held
 }
 
-#[test]
-fn streams_end_at_a_time_out(rt: HostRuntime) {
-    let alloc = rt.alloc();
-    let made = task(&rt);
-    assert!(rt; made.is_some());
-    if let Some(task) = made {
-        for row in rows() {
-            check_row(
-                &rt,
-                row.message,
-                task.enter(|cx| is_streamed(alloc, row, cx)),
-            );
-        }
-        drop(task);
-    }
-}
-
-/// Whether a receiver that was refused gives the error once, whatever it is told later.
-fn is_refused(alloc: Global, cx: &mut Context<'_>) -> bool {
-    let mut receiver = DnsResponseReceiver::Receiver(1);
-    receiver.settle(Err(NetError::Busy));
-    receiver.settle(Err(NetError::Timeout));
-    let once = gives(&mut receiver, &[Given::Item(Said::Busy), Given::End], cx);
-    receiver.settle(Err(NetError::Timeout));
-    let held = once && gives(&mut receiver, &[Given::End], cx);
-    drop(receiver);
-    held
-}
-
-#[test]
-fn a_refusal_is_given_once(rt: HostRuntime) {
-    let alloc = rt.alloc();
-    let made = task(&rt);
-    assert!(rt; made.is_some());
-    if let Some(task) = made {
-        let held = task.enter(|cx| is_refused(alloc, cx));
-        drop(task);
-        check_row(&rt, "a refused receiver", Ok(held));
-    }
-}
-
-fn single_gives(alloc: Global, item: Said, polls: &[Given], cx: &mut Context<'_>) -> bool {
-    let stream = DnsResponseStream::from_result(alloc, reply(alloc, item));
-    let mut receiver = DnsResponseReceiver::Received(stream);
-    let held = gives(&mut receiver, polls, cx);
-    drop(receiver);
-    held
-}
-
-/// Whether a single response is given, and a single time-out is the end.
-fn singles_give(alloc: Global, cx: &mut Context<'_>) -> bool {
-    let item = Said::Response(7);
-    single_gives(alloc, item, &[Given::Item(item), Given::End], cx)
-        && single_gives(alloc, Said::TimedOut, &[Given::End], cx)
-}
-
-#[test]
-fn a_single_item_is_given_once(rt: HostRuntime) {
-    let alloc = rt.alloc();
-    let made = task(&rt);
-    assert!(rt; made.is_some());
-    if let Some(task) = made {
-        let held = task.enter(|cx| singles_give(alloc, cx));
-        drop(task);
-        check_row(&rt, "a single item", Ok(held));
-    }
-}
-
-/// What the first answer of a stream says, and what a poll after it says.
-fn first_twice(stream: DnsResponseStream, cx: &mut Context<'_>) -> [Option<Said>; 2] {
-    let mut first = stream.first_answer();
-    let once = first.poll(cx);
+/// What the first answer of a receiver says, and what a poll after it says.
+fn first_twice(receiver: DnsResponseReceiver, task: &MockTask) -> [Option<Said>; 2] {
+    let mut first = receiver.first_answer();
+    let once = task.poll(&mut first);
     let said = match &once {
         Poll::Ready(answer) => {
-            let again = first.poll(cx);
+            let again = task.poll(&mut first);
             let said = [Some(said_by(answer)), said_in(&again)];
             drop(again);
             said
@@ -193,24 +173,24 @@ fn first_twice(stream: DnsResponseStream, cx: &mut Context<'_>) -> [Option<Said>
     said
 }
 
-fn is_answered(alloc: Global, row: &Row, cx: &mut Context<'_>) -> Result<bool, NoMemory> {
-    let said = first_twice(stream(alloc, row.items)?, cx);
-    Ok(said == [Some(row.first), Some(Said::PolledAgain)])
+fn is_answered(alloc: Global, row: &Row, task: &MockTask) -> bool {
+    let mut receiver = DnsResponseReceiver::Receiver(1);
+    let made = settle(alloc, &mut receiver, &row.made);
+    let said = first_twice(receiver, task);
+    made.is_ok() && said == [Some(row.first), Some(Said::PolledAgain)]
+}
+
+impl Waiting for Row {
+    fn message(&self) -> &str {
+        self.message
+    }
+
+    fn holds(&self, alloc: Global, task: &MockTask) -> bool {
+        is_streamed(alloc, self, task) && is_answered(alloc, self, task)
+    }
 }
 
 #[test]
-fn a_first_answer_comes_once(rt: HostRuntime) {
-    let alloc = rt.alloc();
-    let made = task(&rt);
-    assert!(rt; made.is_some());
-    if let Some(task) = made {
-        for row in rows() {
-            check_row(
-                &rt,
-                row.message,
-                task.enter(|cx| is_answered(alloc, row, cx)),
-            );
-        }
-        drop(task);
-    }
+fn streams_end_at_a_time_out_and_have_one_first_answer(rt: HostRuntime) {
+    check_waiting(&rt, rows());
 }
