@@ -8,6 +8,10 @@ import os
 import sys
 
 FOLDER = os.path.dirname(os.path.realpath(__file__))
+sys.dont_write_bytecode = True
+sys.path.insert(0, FOLDER)
+import chains  # noqa: E402
+
 YES, TRAIL_YES = "chain 0 yes\n", "trail yes\n"
 
 
@@ -45,6 +49,11 @@ def listed(questions):
     return "dns-questions 1\n" + "".join(questions) + "end\n"
 
 
+def told(words):
+    """An answer for each chain, by its number."""
+    return "".join(f"chain {number} {word}\n" for number, word in enumerate(words))
+
+
 def ends_of(line, ends):
     """The line with other last words."""
     return [line.rpartition(" ")[0] + f" {end}\n" for end in ends]
@@ -61,6 +70,8 @@ NINTH, = accepts(text_of("ninth-of-nine-signatures.session"))
 OWN_KEY, BY_DS = accepts(text_of("third-key-of-one-tag-signs-its-set.session"))
 WALKED = accepts(text_of("walk-by-ds.session"))
 DENIED = text_of("expansion-without-a-denial.session")
+WRONG = [*chains.WRONG_NUMBERS, *chains.WRONG_PARTS, *chains.WRONG_RDATAS]
+WHOLE = chains.report(chains.RIGHT[:1])
 EMPTY_PARTS = HEAD + "chain answer 3\nanchored . IN 0101030daabb\nkeyset . IN\nsigned . IN NS 1 0101030daabb c0de\ntrail 0\nend\n"
 
 # words, input, status and output
@@ -72,6 +83,14 @@ ROWS = {
     "audit-of-two-chains": ("audit", TWICE + changed(TWO_CHAINS, "c0de 016100", "c0de 016200"), 0, YES + "chain 1 no\n"),
     "audit-without-chain-or-trail": ("audit", STORED + HEAD + "end\n", 0, ""),
     "audit-of-empty-parts": ("audit", STORED + EMPTY_PARTS, 0, "chain 0 no\ntrail no\n"),
+    "audit-of-right-chains": ("audit", chains.session() + chains.report(chains.RIGHT), 0, told(["yes"] * len(chains.RIGHT))),
+    "audit-of-wrong-chains": ("audit", chains.session() + chains.report([*WRONG, *chains.RIGHT[:1]]), 0, told(["no"] * len(WRONG) + ["yes"])),
+    "audit-with-anchors-below": ("audit", chains.session(anchors_below=True) + chains.report(chains.RIGHT_BELOW), 0, told(["yes", "yes"])),
+    "audit-without-anchors-below": ("audit", chains.session() + chains.report(chains.RIGHT_BELOW), 0, told(["no", "no"])),
+    "audit-before-the-first-second": ("audit", chains.session(899) + WHOLE, 0, "chain 0 no\n"),
+    "audit-at-the-first-second": ("audit", chains.session(900) + WHOLE, 0, YES),
+    "audit-at-the-last-second": ("audit", chains.session(2000) + WHOLE, 0, YES),
+    "audit-behind-the-last-second": ("audit", chains.session(2001) + WHOLE, 0, "chain 0 no\n"),
     "audit-with-a-line-behind-it": ("audit", STORED + REPORT + "\n", 3, f"bad line {lines(STORED + REPORT) + 1}\n"),
     "audit-of-a-bad-line": ("audit", STORED + changed(REPORT, "code 0", "code 00"), 3, f"bad line {lines(STORED) + 2}\n"),
     "audit-of-a-bad-session": ("audit", changed(STORED, "query . NS", "query . ns") + REPORT, 3, "bad line 6\n"),
