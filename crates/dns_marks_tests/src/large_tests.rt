@@ -10,7 +10,7 @@ use dns_marks::{
 };
 use dns_model::{NameError, Proof};
 use dns_name::{Name, NoMemory, Octets};
-use dns_proof::{ProofError, ProofErrorKind, RrsetProof};
+use dns_proof::RrsetProof;
 use dns_rdata::{Dnskey, Rrsig};
 use dns_record::{Record, RecordSet, RecordType};
 use dns_trust::{DsIndex, Judge, TrustAnchors, is_good_by};
@@ -322,43 +322,4 @@ fn are_anchors_copied(alloc: Global) -> Result<bool, NameError> {
 #[test]
 fn a_set_of_70_000_anchors_is_copied(rt: HostRuntime) {
     check_row(&rt, "of the root", are_anchors_copied(rt.alloc()));
-}
-
-/// The longest name: 127 labels.
-fn longest(alloc: Global) -> Result<Name, NameError> {
-    let mut name = Name::root(alloc)?;
-    for _ in 0..127 {
-        name = name.prepend_label(b"a")?;
-    }
-    Ok(name)
-}
-
-fn is_kind_copied(alloc: Global) -> Result<bool, NameError> {
-    let name = longest(alloc)?;
-    let kind = ProofErrorKind::DsResponseInsecure { name };
-    let copy = kind.try_clone();
-    drop(kind);
-    let copy = copy?;
-    let held =
-        matches!(&copy, ProofErrorKind::DsResponseInsecure { name } if name.wire().len() == 255);
-    drop(copy);
-    Ok(held)
-}
-
-fn is_error_copied(alloc: Global) -> Result<bool, NameError> {
-    let name = longest(alloc)?;
-    let error = ProofError::new(Proof::Bogus, ProofErrorKind::DsRecordShouldExist { name });
-    let copy = error.try_clone();
-    drop(error);
-    let copy = copy?;
-    let held =
-        matches!(copy.kind(), ProofErrorKind::DsRecordShouldExist { name } if name.wire().len() == 255);
-    drop(copy);
-    Ok(held)
-}
-
-#[test]
-fn a_cause_with_the_longest_name_is_copied(rt: HostRuntime) {
-    check_row(&rt, "a cause", is_kind_copied(rt.alloc()));
-    check_row(&rt, "an error", is_error_copied(rt.alloc()));
 }

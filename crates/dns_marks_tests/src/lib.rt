@@ -1,23 +1,12 @@
 //! Tests of signatures, anchors, the marks of sets and chains that are handed in, by what `dns_trust` and `dns_chain_check` give; of
 //! what single calls find of keys, signatures and DS sets, by what `dns_marks` gives, and of how often they ask a verifier, which no
-//! clause says; of the caches, their keys and when entries expire, by what `dns_cache` gives. And a test of the count of steps that
-//! single calls take.
+//! clause says. And a test of the count of steps that single calls take.
 //!
 //! They stand apart, since a crate with tests of its own is proved twice.
 #![tactic(auto)]
 
 #[cfg(test)]
 mod accepted_chain_tests;
-#[cfg(test)]
-mod cache_copy_tests;
-#[cfg(test)]
-mod cache_key_tests;
-#[cfg(test)]
-mod cache_parts;
-#[cfg(test)]
-mod cache_script_tests;
-#[cfg(test)]
-mod cause_tests;
 #[cfg(test)]
 mod chain_rows;
 #[cfg(test)]
@@ -31,11 +20,7 @@ mod counting;
 #[cfg(test)]
 mod dnskey_tests;
 #[cfg(test)]
-mod expiry_tests;
-#[cfg(test)]
 mod key_mark_tests;
-#[cfg(test)]
-mod large_cache_tests;
 #[cfg(test)]
 mod large_tests;
 #[cfg(test)]

@@ -7,11 +7,6 @@ pub(crate) fn check_row(rt: &impl Abort, row: &str, held: Result<bool, NameError
     assert!(rt; matches!(held, Ok(true)), "{row}");
 }
 
-/// The same for a row that its place names.
-pub(crate) fn check_place(rt: &impl Abort, row: usize, held: Result<bool, NameError>) {
-    assert!(rt; matches!(held, Ok(true)), "row {row}");
-}
-
 /// The same for a row that a number names.
 pub(crate) fn check_number(rt: &impl Abort, row: u64, held: Result<bool, NameError>) {
     assert!(rt; matches!(held, Ok(true)), "at {row}");

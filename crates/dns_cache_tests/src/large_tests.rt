@@ -1,36 +1,11 @@
 //! Much is kept and copied.
-use crate::cache_parts::{address_set, entry_of, key, key_of, put_address, query};
-use crate::rows::check_row;
+use crate::parts::{check_row, key, put};
 use dns_cache::{CacheKey, Entry, ListCache, LruValidationCache, ValidationCache};
 use dns_model::NameError;
-use dns_record::{Record, RecordSet};
 use std::alloc::Global;
-use std::hash::{BuildHasher, BuildHasherDefault, FoldHasher};
+use std::hash::{BuildHasherDefault, FoldHasher};
 
 const MANY: usize = 70_000;
-
-fn put_many(alloc: Global, records: &mut Vec<Record>) -> Result<(), NameError> {
-    for _ in 0..MANY {
-        put_address(alloc, records, ".")?;
-    }
-    Ok(())
-}
-
-fn large_set(alloc: Global) -> Result<RecordSet, NameError> {
-    let mut set = address_set(alloc, 1, 1)?;
-    match put_many(alloc, &mut set.records) {
-        Ok(()) => Ok(set),
-        Err(error) => {
-            drop(set);
-            Err(error)
-        }
-    }
-}
-
-fn large_key(alloc: Global) -> Result<CacheKey, NameError> {
-    let query = query(alloc, "example.")?;
-    key_of(query, large_set(alloc)?)
-}
 
 fn is_large(given: Option<Entry>, key: &CacheKey) -> bool {
     let held = match &given {
@@ -46,7 +21,7 @@ fn is_kept<C: ValidationCache>(
     cache: &mut C,
     key: &CacheKey,
 ) -> Result<bool, NameError> {
-    cache.insert(alloc, entry_of(key.try_clone()?, 9, 5))?;
+    put(alloc, cache, key.try_clone()?, 9, 5)?;
     let given = cache.get(alloc, key, 0)?;
     Ok(is_large(given, key))
 }
@@ -66,10 +41,11 @@ fn lru_keeps(alloc: Global, key: &CacheKey) -> Result<bool, NameError> {
 }
 
 fn both_keep(alloc: Global) -> Result<bool, NameError> {
-    let key = large_key(alloc)?;
-    let kept = list_keeps(alloc, &key)? && lru_keeps(alloc, &key)?;
+    let key = key(alloc, 1, MANY)?;
+    let by_list = list_keeps(alloc, &key);
+    let by_hash = lru_keeps(alloc, &key);
     drop(key);
-    Ok(kept)
+    Ok(by_list? && by_hash?)
 }
 
 #[test]
@@ -77,11 +53,8 @@ fn a_set_of_70_000_records_is_kept(rt: HostRuntime) {
     check_row(&rt, "70,001 records", both_keep(rt.alloc()));
 }
 
-fn gives_none<S: BuildHasher + Drop>(
-    alloc: Global,
-    cache: &mut LruValidationCache<S>,
-) -> Result<bool, NameError> {
-    let key = key(alloc, 1)?;
+fn gives_none(alloc: Global, cache: &mut LruValidationCache) -> Result<bool, NameError> {
+    let key = key(alloc, 1, 0)?;
     let given = cache.get(alloc, &key, 0);
     drop(key);
     let is_none = matches!(&given, Ok(None));

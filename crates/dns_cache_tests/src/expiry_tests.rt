@@ -1,0 +1,163 @@
+use crate::parts::{addresses, check_row, rdata};
+use dns_cache::{ProofError, ProofErrorKind, RrsetProof, TtlRange, TtlRanges};
+use dns_evidence::{Chain, Link};
+use dns_model::{NameError, Proof, Section};
+use dns_name::Name;
+use dns_record::{DNSClass, Rdata, RecordSet, RecordType};
+use std::alloc::Global;
+
+/// What was found of a set, and until when it is kept.
+struct Row {
+    shows: &'static str,
+    now: u64,
+    ttl: u32,
+    proof: Proof,
+    /// An error says so.
+    fails: bool,
+    /// The signatures of the chain.
+    signed: &'static [&'static [u8]],
+    /// The positive range.
+    positive: (u64, u64),
+    expires: u64,
+}
+
+const TWO_HOURS: (u64, u64) = (7200, 7200);
+
+/// Signatures of original ttl 3600 up to second 2000, of 3600 up to 1100, and of 300 up to 1500 (RFC 4034, 3.1).
+const LONG: &[u8] = b"\0\x01\x0d\x01\0\0\x0e\x10\0\0\x07\xd0\0\0\0\0\0\0\0\x01";
+
+const NEARLY_EXPIRED: &[u8] = b"\0\x01\x0d\x01\0\0\x0e\x10\0\0\x04\x4c\0\0\0\0\0\0\0\x01";
+
+const SHORT: &[u8] = b"\0\x01\x0d\x01\0\0\x01\x2c\0\0\x05\xdc\0\0\0\0\0\0\0\x01";
+
+const FIRST: Row = Row {
+    shows: "the least of ttl, original ttls and seconds left",
+    now: 1000,
+    ttl: 7200,
+    proof: Proof::Secure,
+    fails: false,
+    signed: &[LONG, SHORT],
+    positive: (0, u64::MAX),
+    expires: 1300,
+};
+
+const ERROR: Row = Row {
+    proof: Proof::Bogus,
+    fails: true,
+    ..FIRST
+};
+
+const INSECURE: Row = Row {
+    proof: Proof::Insecure,
+    ..FIRST
+};
+
+#[rattlefmt::skip]
+const ROWS: &[Row] = &[
+    FIRST,
+    Row { shows: "the seconds left of a link that isn't the last", signed: &[NEARLY_EXPIRED, SHORT], expires: 1100,
+        ..FIRST },
+    Row { shows: "the ttl of the set", ttl: 200, expires: 1200, ..FIRST },
+    Row { shows: "no signed link, and a range of one number", ttl: 3600, signed: &[], positive: TWO_HOURS,
+        expires: 8200, ..FIRST },
+    Row { shows: "a signed link lowers what the range raises", ttl: 0, signed: &[LONG], positive: TWO_HOURS,
+        expires: 2000, ..FIRST },
+    Row { shows: "an Insecure set has no chain that counts", expires: 8200, ..INSECURE },
+    Row { shows: "an error for a minute", ttl: 3600, expires: 1060, ..ERROR },
+    Row { shows: "an error for a second", ttl: 0, expires: 1001, ..ERROR },
+    Row { shows: "the greatest moment", now: u64::MAX - 1, expires: u64::MAX, ..INSECURE },
+];
+
+fn found_by(row: &Row) -> Result<RrsetProof, ProofError> {
+    if row.fails {
+        return Err(ProofError::new(row.proof, ProofErrorKind::UnknownKeyAlgorithm));
+    }
+    Ok(RrsetProof {
+        proof: row.proof,
+        adjusted_ttl: None,
+        rrsig_index: None,
+    })
+}
+
+fn ranges_of(row: &Row) -> TtlRanges {
+    TtlRanges {
+        positive: TtlRange {
+            least: row.positive.0,
+            most: row.positive.1,
+        },
+        negative: TtlRanges::new().negative,
+    }
+}
+
+/// The root, and a key without a byte.
+fn owner_and_key(alloc: Global) -> Result<(Name, Rdata), NameError> {
+    let owner = Name::root(alloc)?;
+    let key = rdata(alloc, &[])?;
+    Ok((owner, key))
+}
+
+/// A signed link, of which the signature alone is looked at.
+fn signed_link(alloc: Global, signed: &[u8]) -> Result<Link, NameError> {
+    let (owner, key) = owner_and_key(alloc)?;
+    let sig = rdata(alloc, signed)?;
+    Ok(Link::Signed {
+        owner,
+        class: DNSClass::IN,
+        record_type: RecordType::A,
+        rdatas: Vec::new(alloc),
+        sig,
+        key_link: 0,
+        key,
+    })
+}
+
+fn anchored_link(alloc: Global) -> Result<Link, NameError> {
+    let (owner, key) = owner_and_key(alloc)?;
+    Ok(Link::Anchored {
+        owner,
+        class: DNSClass::IN,
+        key,
+    })
+}
+
+fn put_links(alloc: Global, links: &mut Vec<Link>, signed: &[&[u8]]) -> Result<(), NameError> {
+    links.push(anchored_link(alloc)?)?;
+    for next in signed {
+        links.push(signed_link(alloc, next)?)?;
+    }
+    Ok(())
+}
+
+fn chain_of(alloc: Global, signed: &[&[u8]]) -> Result<Chain, NameError> {
+    let mut links = Vec::new(alloc);
+    put_links(alloc, &mut links, signed)?;
+    Ok(Chain {
+        section: Section::Answer,
+        links,
+    })
+}
+
+/// Until when the set is kept.
+fn expires(row: &Row, set: &RecordSet, chain: &Option<Chain>) -> u64 {
+    let found = found_by(row);
+    let expires = ranges_of(row).expires(row.now, set, &found, chain);
+    drop(found);
+    expires
+}
+
+fn is_kept_so(alloc: Global, row: &Row) -> Result<bool, NameError> {
+    // of two records the first one's ttl counts
+    let set = addresses(alloc, 1, row.ttl, 1)?;
+    let chain = Some(chain_of(alloc, row.signed)?);
+    let expires = expires(row, &set, &chain);
+    drop(chain);
+    drop(set);
+    Ok(expires == row.expires)
+}
+
+#[test]
+fn nothing_is_kept_past_its_chain(rt: HostRuntime) {
+    for row in ROWS {
+        check_row(&rt, row.shows, is_kept_so(rt.alloc(), row));
+    }
+}
