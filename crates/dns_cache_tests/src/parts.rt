@@ -56,7 +56,7 @@ fn one_address(alloc: Global, number: u8, ttl: u32) -> Result<RecordSet, NameErr
 /// So many addresses of ttl 1 more.
 fn put_addresses(alloc: Global, records: &mut Vec<Record>, number: usize) -> Result<(), NameError> {
     for _ in 0..number {
-        records.push(record(alloc, "example.", RecordType::A, 1, &[192, 0, 2, 2])?)?;
+        records.push(record(alloc, ".", RecordType::A, 1, &[192, 0, 2, 2])?)?;
     }
     Ok(())
 }

@@ -1,8 +1,8 @@
 use dns_evidence::Verifier;
 use std::cell::Cell;
 
-/// A verifier that supports each algorithm but 14, accepts a signature that is the key itself, and counts how often it is
-/// asked.
+/// A verifier that supports each algorithm but 14, accepts a signature that is the key itself, and counts how often it
+/// is asked.
 #[derive(Drop)]
 pub(crate) struct Counting {
     questions: Cell<u32>,

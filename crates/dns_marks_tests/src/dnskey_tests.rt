@@ -1,139 +1,63 @@
-use crate::mark_parts::*;
-use crate::rows::check_row;
-use dns_evidence::Listed;
+use crate::counting::Counting;
+use crate::parts::*;
+use crate::wanted::tells;
 use dns_marks::verify_dnskey;
 use dns_model::{NameError, Proof};
+use dns_name::NoMemory;
 use dns_proof::ProofError;
 use dns_record::{Record, RecordType};
+use dns_trust::DsIndex;
 use std::alloc::Global;
 
-/// A DS record's owner and rdata.
-struct Delegation(&'static str, &'static [u8]);
+/// What it shows; a key of `example.` by its type and rdata; DS records by owner and rdata; and what is found of the
+/// key.
+struct Row(
+    &'static str,
+    RecordType,
+    &'static [u8],
+    &'static [(&'static str, &'static [u8])],
+    &'static str,
+);
 
-/// A key of `example.` by its type and rdata, DS records, and what is found of the key.
-struct Row {
-    shows: &'static str,
-    record_type: RecordType,
-    key: &'static [u8],
-    ds: &'static [Delegation],
-    want: &'static str,
-}
+const DNSKEY: RecordType = RecordType::DNSKEY;
 
-const MATCHES_NONE: &str = "Bogus: dnskey has no ds: example.";
+/// A DS like `DS` by SHA-1, and one of another tag.
+const DS_BY_SHA_1: &[u8] =
+    b"\xae\xc9\x0d\x01\x27\xbc\x0b\x58\x7d\x1b\xc9\x5c\x0b\x12\x5b\x70\x53\x28\x4e\x20\x4d\x35\x28\x0c";
+
+const DS_BESIDE: &[u8] = b"\xae\xc8\x0d\x02\x00";
+
+const NONE: &str = "Bogus: dnskey has no ds: example.";
 
 const UNREADABLE: &str = "Insecure: internal error computing the key tag for: example.";
 
+#[rattlefmt::skip]
 const ROWS: &[Row] = &[
-    Row {
-        shows: "a DS of SHA-256 matches",
-        record_type: RecordType::DNSKEY,
-        key: KEY,
-        ds: &[Delegation("example.", DS)],
-        want: "Secure",
-    },
-    Row {
-        shows: "a DS of SHA-1 matches",
-        record_type: RecordType::DNSKEY,
-        key: KEY,
-        ds: &[Delegation("example.", DS_BY_SHA_1)],
-        want: "Secure",
-    },
-    Row {
-        shows: "the owner's case doesn't count",
-        record_type: RecordType::DNSKEY,
-        key: KEY,
-        ds: &[Delegation("EXAMPLE.", DS)],
-        want: "Secure",
-    },
-    Row {
-        shows: "a DS of another owner doesn't match",
-        record_type: RecordType::DNSKEY,
-        key: KEY,
-        ds: &[Delegation("other.", DS)],
-        want: MATCHES_NONE,
-    },
-    Row {
-        shows: "a DS of another key doesn't match",
-        record_type: RecordType::DNSKEY,
-        key: OTHER_KEY,
-        ds: &[Delegation("example.", DS)],
-        want: MATCHES_NONE,
-    },
-    Row {
-        shows: "no DS is there",
-        record_type: RecordType::DNSKEY,
-        key: KEY,
-        ds: &[],
-        want: MATCHES_NONE,
-    },
-    Row {
-        shows: "the second DS of an algorithm and a tag counts",
-        record_type: RecordType::DNSKEY,
-        key: KEY,
-        ds: &[Delegation("example.", MISS), Delegation("example.", DS)],
-        want: "Secure",
-    },
-    Row {
-        shows: "the third doesn't",
-        record_type: RecordType::DNSKEY,
-        key: KEY,
-        ds: &[
-            Delegation("example.", MISS),
-            Delegation("example.", UNSUPPORTED),
-            Delegation("example.", DS),
-        ],
-        want: MATCHES_NONE,
-    },
-    Row {
-        shows: "those of another owner and another tag aren't counted",
-        record_type: RecordType::DNSKEY,
-        key: KEY,
-        ds: &[
-            Delegation("other.", MISS),
-            Delegation("example.", b"\xae\xc8\x0d\x02\x00"),
-            Delegation("example.", DS),
-        ],
-        want: "Secure",
-    },
-    Row {
-        shows: "a key that is too short can't be read",
-        record_type: RecordType::DNSKEY,
-        key: b"\x01\x01",
-        ds: &[Delegation("example.", DS)],
-        want: UNREADABLE,
-    },
-    Row {
-        shows: "a record of another type is no key",
-        record_type: RecordType::TXT,
-        key: KEY,
-        ds: &[Delegation("example.", DS)],
-        want: UNREADABLE,
-    },
-    Row {
-        shows: "an algorithm that isn't supported is told before a DS that is missing",
-        record_type: RecordType::DNSKEY,
-        key: b"\x01\x01\x03\x08\xaa\xbb",
-        ds: &[],
-        want: "Insecure: unsupported key algorithms",
-    },
+    Row("a DS of SHA-256 matches", DNSKEY, KEY, &[("example.", DS)], "Secure"),
+    Row("a DS of SHA-1 matches", DNSKEY, KEY, &[("example.", DS_BY_SHA_1)], "Secure"),
+    Row("the owner's case doesn't count", DNSKEY, KEY, &[("EXAMPLE.", DS)], "Secure"),
+    Row("a DS of another owner doesn't match", DNSKEY, KEY, &[("other.", DS)], NONE),
+    Row("a DS of another key doesn't match", DNSKEY, OTHER_KEY, &[("example.", DS)], NONE),
+    Row("no DS is there", DNSKEY, KEY, &[], NONE),
+    Row("the second DS of an algorithm and a tag counts", DNSKEY, KEY, &[("example.", MISS), ("example.", DS)],
+        "Secure"),
+    Row("the third doesn't", DNSKEY, KEY, &[("example.", MISS), ("example.", UNSUPPORTED_DS), ("example.", DS)], NONE),
+    Row("those of another owner and another tag aren't counted", DNSKEY, KEY,
+        &[("other.", MISS), ("example.", DS_BESIDE), ("example.", DS)], "Secure"),
+    Row("a key that is too short can't be read", DNSKEY, b"\x01\x01", &[("example.", DS)], UNREADABLE),
+    Row("a record of another type is no key", RecordType::TXT, KEY, &[("example.", DS)], UNREADABLE),
+    Row("an algorithm that isn't supported is told before a DS that is missing", DNSKEY, UNSUPPORTED_KEY, &[],
+        "Insecure: unsupported key algorithms"),
 ];
 
-/// The one function that names the table, since its proof goes over it.
 fn rows() -> &'static [Row] {
     ROWS
 }
 
-fn records_of(alloc: Global, ds: &[Delegation]) -> Result<Vec<Record>, NameError> {
+fn ds_records(alloc: Global, rows: &[(&str, &[u8])]) -> Result<Vec<Record>, NameError> {
     let mut records = Vec::new(alloc);
-    for one in ds {
-        put_record(
-            alloc,
-            &mut records,
-            one.0,
-            RecordType::DS,
-            one.1,
-            Proof::Secure,
-        )?;
+    for row in rows {
+        records.push(record(alloc, row.0, RecordType::DS, row.1, Proof::Secure)?)?;
     }
     Ok(records)
 }
@@ -142,49 +66,63 @@ fn records_of(alloc: Global, ds: &[Delegation]) -> Result<Vec<Record>, NameError
 fn is_key(alloc: Global, found: &Result<Proof, ProofError>, want: &str) -> Result<bool, NameError> {
     match found {
         Ok(proof) => Ok(*proof == Proof::Secure && want == "Secure"),
-        Err(error) => both_tell(alloc, error, want),
+        Err(error) => tells(alloc, error, want),
     }
 }
 
-fn finds(
+/// One of the DS records matches the key.
+fn is_matched(
     alloc: Global,
-    verifier: &Listed,
+    verifier: &Counting,
     key: &Record,
+    ds: &[Record],
+) -> Result<bool, NoMemory> {
+    let index = DsIndex::of(alloc, &key.name, ds)?;
+    Ok(index.matching(verifier, key).is_some())
+}
+
+/// What is found of a key is what is wanted, and a DS matches it where that is Secure.
+fn finds(alloc: Global, key: &Record, ds: &[Record], want: &str) -> Result<bool, NameError> {
+    let verifier = Counting::new();
+    let is_matched = is_matched(alloc, &verifier, key, ds)?;
+    let found = verify_dnskey(alloc, &verifier, key, ds);
+    let held = is_key(alloc, &found, want);
+    drop(found);
+    Ok(held? && is_matched == (want == "Secure"))
+}
+
+/// The same of a key by its type and rdata.
+fn finds_of(
+    alloc: Global,
+    record_type: RecordType,
+    key: &[u8],
     ds: &[Record],
     want: &str,
 ) -> Result<bool, NameError> {
-    let found = verify_dnskey(alloc, verifier, key, ds);
-    let held = is_key(alloc, &found, want);
-    drop(found);
-    held
-}
-
-/// What is found of a row's key is what it names.
-fn is_proved(alloc: Global, verifier: &Listed, row: &Row) -> Result<bool, NameError> {
-    let ds = records_of(alloc, row.ds)?;
-    let key = record(
-        alloc,
-        "example.",
-        row.record_type,
-        row.key,
-        Proof::Indeterminate,
-    )?;
-    let held = finds(alloc, verifier, &key, &ds, row.want);
+    let key = record(alloc, "example.", record_type, key, Proof::Indeterminate)?;
+    let held = finds(alloc, &key, ds, want);
     drop(key);
     held
 }
 
-/// The same by the verifier of these tests.
 fn is_shown(alloc: Global, row: &Row) -> Result<bool, NameError> {
-    let verifier = verifier(alloc)?;
-    let held = is_proved(alloc, &verifier, row);
-    drop(verifier);
-    held
+    let ds = ds_records(alloc, row.3)?;
+    finds_of(alloc, row.1, row.2, &ds, row.4)
 }
 
 #[test]
 fn keys_are_proved_by_ds_records(rt: HostRuntime) {
     for row in rows() {
-        check_row(&rt, row.shows, is_shown(rt.alloc(), row));
+        check_row(&rt, row.0, is_shown(rt.alloc(), row));
     }
+}
+
+fn is_last_matched(alloc: Global) -> Result<bool, NameError> {
+    let ds = many_and_one(alloc, RecordType::DS, DS_BESIDE, DS)?;
+    finds_of(alloc, DNSKEY, KEY, &ds, "Secure")
+}
+
+#[test]
+fn a_key_is_matched_behind_70_000_ds_records(rt: HostRuntime) {
+    check_row(&rt, "the last DS matches", is_last_matched(rt.alloc()));
 }

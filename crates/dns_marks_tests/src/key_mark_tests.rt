@@ -1,6 +1,6 @@
-use crate::mark_parts::*;
-use crate::rows::check_row;
-use dns_evidence::Verifier;
+use crate::counting::Counting;
+use crate::parts::*;
+use crate::wanted::{Want, is_found, only, tells, text_of};
 use dns_marks::{KeysMark, ZoneVerdict, mark_keys};
 use dns_model::{NameError, Proof};
 use dns_name::{Name, Octets};
@@ -8,9 +8,10 @@ use dns_proof::{ProofError, ProofErrorKind};
 use dns_record::{RecordSet, RecordType};
 use dns_trust::TrustAnchors;
 use std::alloc::Global;
+use std::process::Abort;
 
 /// The DS verdict of the owner that is handed in.
-pub(crate) enum Zone {
+enum Zone {
     Unknown,
     Signed(&'static [&'static [u8]]),
     Insecure,
@@ -18,17 +19,20 @@ pub(crate) enum Zone {
     Bogus,
 }
 
-/// The owner of a key set, its keys and signatures, whether `KEY` is an anchor, the DS verdict, and the mark at second 1500;
-/// nothing where it needs the DS verdict.
-pub(crate) struct Row {
-    pub(crate) shows: &'static str,
-    pub(crate) owner: &'static str,
-    pub(crate) keys: &'static [&'static [u8]],
-    pub(crate) signatures: &'static [&'static [u8]],
-    pub(crate) is_anchored: bool,
-    pub(crate) zone: Zone,
-    pub(crate) want: Want,
-}
+/// What it shows; the owner of a key set, its keys, how many copies of `KEY` stand behind them, and its signatures;
+/// whether `KEY` is an anchor; the DS verdict; the mark at second 1500, nothing where it needs the DS verdict; and how
+/// often the verifier is asked.
+struct Row(
+    &'static str,
+    &'static str,
+    &'static [&'static [u8]],
+    usize,
+    &'static [&'static [u8]],
+    bool,
+    Zone,
+    Want,
+    u32,
+);
 
 /// Secure by the first signature, which is valid for 500 seconds more.
 const SIGNED: Want = Want::Found(Proof::Secure, Some(500), Some(0));
@@ -36,163 +40,71 @@ const SIGNED: Want = Want::Found(Proof::Secure, Some(500), Some(0));
 /// Secure with no signature.
 const WHOLE: Want = Want::Found(Proof::Secure, None, None);
 
-pub(crate) const WITHOUT_KEY: Want = Want::Fails(
-    "Bogus: ds record exists, but no dnskey: example.",
-);
+const WITHOUT_KEY: Want = Want::Fails("Bogus: ds record exists, but no dnskey: example.");
 
+#[rattlefmt::skip]
 const ROWS: &[Row] = &[
-    Row {
-        shows: "an anchored key signed",
-        owner: "example.",
-        keys: &[KEY],
-        signatures: &[OVER_KEYS],
-        is_anchored: true,
-        zone: Zone::Unknown,
-        want: SIGNED,
-    },
-    Row {
-        shows: "all keys are anchored",
-        owner: "example.",
-        keys: &[KEY],
-        signatures: &[],
-        is_anchored: true,
-        zone: Zone::Bogus,
-        want: WHOLE,
-    },
-    Row {
-        shows: "the root has no DS",
-        owner: ".",
-        keys: &[KEY],
-        signatures: &[],
-        is_anchored: false,
-        zone: Zone::Signed(&[DS]),
-        want: Want::Fails("Bogus: no dnskey was found: ."),
-    },
-    Row {
-        shows: "the DS verdict is needed",
-        owner: "example.",
-        keys: &[KEY],
-        signatures: &[OVER_KEYS],
-        is_anchored: false,
-        zone: Zone::Unknown,
-        want: Want::Nothing,
-    },
-    Row {
-        shows: "the DS verdict is Insecure",
-        owner: "example.",
-        keys: &[KEY],
-        signatures: &[OVER_KEYS],
-        is_anchored: false,
-        zone: Zone::Insecure,
-        want: Want::Fails("Insecure: ds record does not exist: example."),
-    },
-    Row {
-        shows: "the DS verdict is Insecure by its DS set",
-        owner: "example.",
-        keys: &[KEY],
-        signatures: &[],
-        is_anchored: false,
-        zone: Zone::Unsupported,
-        want: Want::Fails("Insecure: unknown or reserved key algorithm"),
-    },
-    Row {
-        shows: "an anchored key signed, whatever the DS verdict",
-        owner: "example.",
-        keys: &[KEY],
-        signatures: &[OVER_KEYS],
-        is_anchored: true,
-        zone: Zone::Insecure,
-        want: SIGNED,
-    },
-    Row {
-        shows: "the DS verdict is Bogus",
-        owner: "example.",
-        keys: &[KEY],
-        signatures: &[OVER_KEYS],
-        is_anchored: false,
-        zone: Zone::Bogus,
-        want: Want::Fails("Bogus: ds record should exist: example."),
-    },
-    Row {
-        shows: "a matched key signed",
-        owner: "example.",
-        keys: &[KEY],
-        signatures: &[OVER_KEYS],
-        is_anchored: false,
-        zone: Zone::Signed(&[DS]),
-        want: SIGNED,
-    },
-    Row {
-        shows: "all keys are matched",
-        owner: "example.",
-        keys: &[KEY],
-        signatures: &[],
-        is_anchored: false,
-        zone: Zone::Signed(&[MISS, DS]),
-        want: WHOLE,
-    },
-    Row {
-        shows: "a key is neither anchored nor matched",
-        owner: "example.",
-        keys: &[KEY, OTHER_KEY],
-        signatures: &[],
-        is_anchored: false,
-        zone: Zone::Signed(&[DS]),
-        want: WITHOUT_KEY,
-    },
-    Row {
-        shows: "no DS is there",
-        owner: "example.",
-        keys: &[KEY],
-        signatures: &[OVER_KEYS],
-        is_anchored: false,
-        zone: Zone::Signed(&[]),
-        want: WITHOUT_KEY,
-    },
-    Row {
-        shows: "the third supported DS of a tag doesn't count",
-        owner: "example.",
-        keys: &[KEY],
-        signatures: &[OVER_KEYS],
-        is_anchored: false,
-        zone: Zone::Signed(&[MISS, MISS, DS]),
-        want: WITHOUT_KEY,
-    },
-    Row {
-        shows: "only supported DS records are counted",
-        owner: "example.",
-        keys: &[KEY],
-        signatures: &[OVER_KEYS],
-        is_anchored: false,
-        zone: Zone::Signed(&[UNSUPPORTED, UNSUPPORTED, DS]),
-        want: SIGNED,
-    },
+    Row("an anchored key signed", "example.", &[KEY], 0, &[OVER_KEYS], true, Zone::Unknown, SIGNED, 1),
+    Row("all keys are anchored", "example.", &[KEY], 0, &[], true, Zone::Bogus, WHOLE, 0),
+    Row("the root has no DS", ".", &[KEY], 0, &[], false, Zone::Signed(&[DS]),
+        Want::Fails("Bogus: no dnskey was found: ."), 0),
+    Row("the DS verdict is needed", "example.", &[KEY], 0, &[OVER_KEYS], false, Zone::Unknown, Want::Nothing, 0),
+    Row("the DS verdict is Insecure", "example.", &[KEY], 0, &[OVER_KEYS], false, Zone::Insecure,
+        Want::Fails("Insecure: ds record does not exist: example."), 0),
+    Row("the DS verdict is Insecure by its DS set", "example.", &[KEY], 0, &[], false, Zone::Unsupported,
+        Want::Fails("Insecure: unknown or reserved key algorithm"), 0),
+    Row("an anchored key signed, whatever the DS verdict", "example.", &[KEY], 0, &[OVER_KEYS], true, Zone::Insecure,
+        SIGNED, 1),
+    Row("the DS verdict is Bogus", "example.", &[KEY], 0, &[OVER_KEYS], false, Zone::Bogus,
+        Want::Fails("Bogus: ds record should exist: example."), 0),
+    Row("a matched key signed", "example.", &[KEY], 0, &[OVER_KEYS], false, Zone::Signed(&[DS]), SIGNED, 1),
+    Row("all keys are matched", "example.", &[KEY], 0, &[], false, Zone::Signed(&[MISS, DS]), WHOLE, 0),
+    Row("a key is neither anchored nor matched", "example.", &[KEY, OTHER_KEY], 0, &[], false, Zone::Signed(&[DS]),
+        WITHOUT_KEY, 0),
+    Row("no DS is there", "example.", &[KEY], 0, &[OVER_KEYS], false, Zone::Signed(&[]), WITHOUT_KEY, 0),
+    Row("the third supported DS of a tag doesn't count", "example.", &[KEY], 0, &[OVER_KEYS], false,
+        Zone::Signed(&[MISS, MISS, DS]), WITHOUT_KEY, 0),
+    Row("only supported DS records are counted", "example.", &[KEY], 0, &[OVER_KEYS], false,
+        Zone::Signed(&[UNSUPPORTED_DS, UNSUPPORTED_DS, DS]), SIGNED, 1),
 ];
 
-/// The one function that names the table, since its proof goes over it.
+/// Eight signatures over the keys of `example.` that no key made.
+const EIGHT: &[&[u8]] = &[
+    BY_NONE, BY_NONE, BY_NONE, BY_NONE, BY_NONE, BY_NONE, BY_NONE, BY_NONE,
+];
+
+const BY_NONE: &[u8] =
+    b"\0\x30\x0d\x01\0\0\x02\x58\0\0\x07\xd0\0\0\x03\xe8\xae\xc9\x07example\0\xdd";
+
+/// Sets with another key before the copies of `KEY`, so that they aren't wholly trusted. The verifier is asked once for
+/// each of the eight signatures before the set is Bogus.
+#[rattlefmt::skip]
+const COPIES: &[Row] = &[
+    Row("a matched key", "example.", &[OTHER_KEY], 400, EIGHT, false, Zone::Signed(&[DS]), WITHOUT_KEY, 8),
+    Row("a matched key that is an anchor too", "example.", &[OTHER_KEY], 400, EIGHT, true, Zone::Signed(&[DS]),
+        WITHOUT_KEY, 8),
+];
+
 fn rows() -> &'static [Row] {
     ROWS
 }
 
-fn insecure(alloc: Global) -> Result<Vec<ZoneVerdict>, NameError> {
-    let name = Name::from_ascii(alloc, "example.")?;
-    only(
-        alloc,
-        ZoneVerdict::Insecure(ProofErrorKind::DsResponseInsecure { name }),
-    )
-}
-
-fn bogus(alloc: Global) -> Result<Vec<ZoneVerdict>, NameError> {
-    let name = Name::from_ascii(alloc, "example.")?;
-    only(
-        alloc,
-        ZoneVerdict::Bogus(ProofErrorKind::DsRecordShouldExist { name }),
-    )
-}
-
 fn signed(alloc: Global, rdatas: &[&[u8]]) -> Result<Vec<ZoneVerdict>, NameError> {
-    let ds = records_of(alloc, "example.", RecordType::DS, rdatas, Proof::Secure)?;
+    let ds = records_of(alloc, "example.", RecordType::DS, rdatas)?;
     only(alloc, ZoneVerdict::Signed(ds))
+}
+
+fn named(name: Name, is_insecure: bool) -> ZoneVerdict {
+    if is_insecure {
+        ZoneVerdict::Insecure(ProofErrorKind::DsResponseInsecure { name })
+    } else {
+        ZoneVerdict::Bogus(ProofErrorKind::DsRecordShouldExist { name })
+    }
+}
+
+fn named_example(alloc: Global, is_insecure: bool) -> Result<Vec<ZoneVerdict>, NameError> {
+    let name = Name::from_ascii(alloc, "example.")?;
+    only(alloc, named(name, is_insecure))
 }
 
 /// The verdict, or none.
@@ -200,12 +112,12 @@ fn verdict_of(alloc: Global, zone: &Zone) -> Result<Vec<ZoneVerdict>, NameError>
     match zone {
         Zone::Unknown => Ok(Vec::new(alloc)),
         Zone::Signed(rdatas) => signed(alloc, rdatas),
-        Zone::Insecure => insecure(alloc),
+        Zone::Insecure => named_example(alloc, true),
         Zone::Unsupported => only(
             alloc,
             ZoneVerdict::Insecure(ProofErrorKind::UnknownKeyAlgorithm),
         ),
-        Zone::Bogus => bogus(alloc),
+        Zone::Bogus => named_example(alloc, false),
     }
 }
 
@@ -217,28 +129,15 @@ fn trust(alloc: Global, anchors: &mut TrustAnchors, owner: &str) -> Result<(), N
     Ok(())
 }
 
-fn anchors_of(alloc: Global, row: &Row) -> Result<TrustAnchors, NameError> {
-    let mut anchors = TrustAnchors::empty(alloc);
-    if row.is_anchored {
-        trust(alloc, &mut anchors, row.owner)?;
-    }
-    Ok(anchors)
+fn key_set(alloc: Global, row: &Row) -> Result<RecordSet, NameError> {
+    let mut keys = records_of(alloc, row.1, RecordType::DNSKEY, row.2)?;
+    fill(alloc, &mut keys, RecordType::DNSKEY, KEY, row.3)?;
+    set_of(alloc, row.1, RecordType::DNSKEY, keys, row.4)
 }
 
-/// The key set of a row.
-pub(crate) fn key_set(alloc: Global, row: &Row) -> Result<RecordSet, NameError> {
-    set_of(
-        alloc,
-        row.owner,
-        RecordType::DNSKEY,
-        row.keys,
-        row.signatures,
-    )
-}
-
-fn mark_of<V: Verifier>(
+fn mark_of(
     alloc: Global,
-    verifier: &V,
+    verifier: &Counting,
     set: &RecordSet,
     anchors: &TrustAnchors,
     zone: Option<&ZoneVerdict>,
@@ -249,6 +148,13 @@ fn mark_of<V: Verifier>(
     mark_keys(alloc, verifier, anchors, set, zone, 1500)
 }
 
+fn is_keys_mark(mark: &KeysMark, want: &Want) -> bool {
+    match mark {
+        KeysMark::NeedDs => matches!(want, Want::Nothing),
+        KeysMark::Done(found) => is_found(found, want),
+    }
+}
+
 /// A mark, or why there is none, is the one that is wanted.
 fn is_mark(
     alloc: Global,
@@ -257,63 +163,65 @@ fn is_mark(
 ) -> Result<bool, NameError> {
     match mark {
         Ok(mark) => Ok(is_keys_mark(mark, want)),
-        Err(error) => both_tell(alloc, error, text_of(want)),
+        Err(error) => tells(alloc, error, text_of(want)),
     }
 }
 
-fn is_keys_mark(mark: &KeysMark, want: &Want) -> bool {
-    match mark {
-        KeysMark::NeedDs => matches!(want, Want::Nothing),
-        KeysMark::Done(found) => is_found(found, want),
-    }
-}
-
-/// A key set is marked so with these anchors, by the one DS verdict or by none.
-fn is_marked_by<V: Verifier>(
+/// A key set is marked so with these anchors, by the one DS verdict or by none, after so many questions.
+fn is_marked_by(
     alloc: Global,
-    verifier: &V,
     set: &RecordSet,
     anchors: &TrustAnchors,
+    zones: &[ZoneVerdict],
     row: &Row,
 ) -> Result<bool, NameError> {
-    let zone = verdict_of(alloc, &row.zone)?;
-    let mark = mark_of(alloc, verifier, set, anchors, zone.first());
-    let held = is_mark(alloc, &mark, &row.want);
+    let verifier = Counting::new();
+    let mark = mark_of(alloc, &verifier, set, anchors, zones.first());
+    let held = is_mark(alloc, &mark, &row.7);
     drop(mark);
-    held
+    Ok(held? && verifier.questions() == row.8)
 }
 
-/// A key set is marked as a row says.
-pub(crate) fn is_marked<V: Verifier>(
+/// The same with the row's anchor.
+fn is_marked_with(
     alloc: Global,
-    verifier: &V,
+    anchors: &mut TrustAnchors,
     set: &RecordSet,
     row: &Row,
 ) -> Result<bool, NameError> {
-    let anchors = anchors_of(alloc, row)?;
-    let held = is_marked_by(alloc, verifier, set, &anchors, row);
+    if row.5 {
+        trust(alloc, anchors, row.1)?;
+    }
+    let zones = verdict_of(alloc, &row.6)?;
+    is_marked_by(alloc, set, anchors, &zones, row)
+}
+
+fn is_marked(alloc: Global, set: &RecordSet, row: &Row) -> Result<bool, NameError> {
+    let mut anchors = TrustAnchors::empty(alloc);
+    let held = is_marked_with(alloc, &mut anchors, set, row);
     drop(anchors);
     held
 }
 
-fn is_listed(alloc: Global, set: &RecordSet, row: &Row) -> Result<bool, NameError> {
-    let verifier = verifier(alloc)?;
-    let held = is_marked(alloc, &verifier, set, row);
-    drop(verifier);
-    held
-}
-
-/// The mark of a row's key set is the one that it names.
 fn is_shown(alloc: Global, row: &Row) -> Result<bool, NameError> {
     let set = key_set(alloc, row)?;
-    let held = is_listed(alloc, &set, row);
+    let held = is_marked(alloc, &set, row);
     drop(set);
     held
 }
 
+fn check_rows(rt: &impl Abort, alloc: Global, rows: &[Row]) {
+    for row in rows {
+        check_row(rt, row.0, is_shown(alloc, row));
+    }
+}
+
 #[test]
 fn key_sets_are_marked(rt: HostRuntime) {
-    for row in rows() {
-        check_row(&rt, row.shows, is_shown(rt.alloc(), row));
-    }
+    check_rows(&rt, rt.alloc(), rows());
+}
+
+#[test]
+fn copies_of_a_key_are_tried_once(rt: HostRuntime) {
+    check_rows(&rt, rt.alloc(), COPIES);
 }

@@ -1,8 +1,11 @@
+//! The marks of whole sets, and how often the verifier is asked for one: for its signatures in turn, up to the first
+//! that proves it, and for eight at the most (RFC 4035, 5.3.3).
 ghost use Rattle.std.specs.Prelude.{◌≡◌, ◌<◌};
 
-use crate::mark_parts::*;
-use crate::rows::check_row;
-use dns_evidence::{Listed, Steps, Verifier};
+use crate::counting::Counting;
+use crate::parts::*;
+use crate::wanted::{Want, is_wanted};
+use dns_evidence::Steps;
 use dns_marks::{KeyAnswer, mark_rrset};
 use dns_model::{NameError, Proof};
 use dns_name::Name;
@@ -14,148 +17,94 @@ use std::marker::Brand;
 use std::sync::ledger::{Blank, Ledger};
 
 /// What came of the ask of a signature: the signer that was asked for in vain, or keys by rdata and mark.
-pub(crate) enum Told {
+enum Told {
     Skipped,
     Failed(&'static str),
     Keys(&'static [(&'static [u8], Proof)]),
 }
 
-/// The owner of an NS set, its signatures by rdata, what came of the asks of the first eight, and what they come to at second
-/// 1500.
-pub(crate) struct Row {
-    pub(crate) shows: &'static str,
-    pub(crate) owner: &'static str,
-    pub(crate) signatures: &'static [&'static [u8]],
-    pub(crate) told: &'static [Told],
-    pub(crate) want: Want,
-}
+/// What it shows; the owner of an NS set, and its signatures; what came of the asks of the first eight; what they come
+/// to at second 1500; and how often the verifier is asked.
+struct Row(
+    &'static str,
+    &'static str,
+    &'static [&'static [u8]],
+    &'static [Told],
+    Want,
+    u32,
+);
 
-/// A signature like `OVER_NS` that no verifier accepts.
-const REFUSED: &[u8] =
-    b"\0\x02\x0d\x01\0\0\x02\x58\0\0\x07\xd0\0\0\x03\xe8\xae\xc9\x07example\0\xcd";
+/// Signatures over an NS set of the root: one that no key made, one that `KEY` made, and the same when it has expired
+/// at 1500.
+const ROOT_REFUSED: &[u8] = b"\0\x02\x0d\0\0\0\x02\x58\0\0\x07\xd0\0\0\x03\xe8\xae\xc9\0\xcc";
+
+const ROOT_GOOD: &[u8] = b"\0\x02\x0d\0\0\0\x02\x58\0\0\x07\xd0\0\0\x03\xe8\xae\xc9\0\xaa\xbb";
+
+const ROOT_EXPIRED: &[u8] = b"\0\x02\x0d\0\0\0\x02\x58\0\0\x05\xdb\0\0\x03\xe8\xae\xc9\0\xaa\xbb";
+
+const SECURE: Told = Told::Keys(&[(KEY, Proof::Secure)]);
+
+const INSECURE: Told = Told::Keys(&[(KEY, Proof::Insecure)]);
+
+const BOGUS: Told = Told::Keys(&[(KEY, Proof::Bogus)]);
+
+/// Two keys of a tag.
+const BOTH: Told = Told::Keys(&[(KEY_BEFORE, Proof::Secure), (KEY, Proof::Secure)]);
+
+/// Another key of the algorithm and the tag of `KEY`.
+const KEY_BEFORE: &[u8] = b"\x01\x01\x03\x0d\xa9\xbb\x01";
 
 const UNVERIFIED: Want = Want::Fails(
     "Bogus: rrsigs were not able to be verified: example., type: NS",
 );
 
+const ROOT_UNVERIFIED: Want = Want::Fails(
+    "Bogus: rrsigs were not able to be verified: ., type: NS",
+);
+
+#[rattlefmt::skip]
 const ROWS: &[Row] = &[
-    Row {
-        shows: "the first Secure signature decides",
-        owner: "example.",
-        signatures: &[OVER_NS, OVER_NS, OVER_NS],
-        told: &[
-            Told::Keys(&[(KEY, Proof::Insecure)]),
-            Told::Keys(&[(KEY, Proof::Secure)]),
-            Told::Keys(&[(KEY, Proof::Secure)]),
-        ],
-        want: Want::Found(Proof::Secure, Some(500), Some(1)),
-    },
-    Row {
-        shows: "one that fails goes before it",
-        owner: "example.",
-        signatures: &[REFUSED, OVER_NS, OVER_NS],
-        told: &[
-            Told::Keys(&[(KEY, Proof::Secure)]),
-            Told::Keys(&[(KEY, Proof::Bogus)]),
-            Told::Keys(&[(KEY, Proof::Secure)]),
-        ],
-        want: Want::Found(Proof::Secure, Some(500), Some(2)),
-    },
-    Row {
-        shows: "else the first Insecure one",
-        owner: "example.",
-        signatures: &[OVER_NS, REFUSED, OVER_NS],
-        told: &[
-            Told::Keys(&[(KEY, Proof::Bogus)]),
-            Told::Keys(&[(KEY, Proof::Insecure)]),
-            Told::Keys(&[(KEY, Proof::Insecure)]),
-        ],
-        want: Want::Found(Proof::Insecure, None, Some(1)),
-    },
-    Row {
-        shows: "it decides whatever asks failed",
-        owner: "example.",
-        signatures: &[OVER_NS, OVER_NS],
-        told: &[Told::Failed("a."), Told::Keys(&[(KEY, Proof::Insecure)])],
-        want: Want::Found(Proof::Insecure, None, Some(1)),
-    },
-    Row {
-        shows: "no signature was asked for",
-        owner: "example.",
-        signatures: &[OVER_NS, OVER_NS],
-        told: &[Told::Skipped, Told::Skipped],
-        want: Want::Fails("Bogus: rrsigs are not present for: example. record_type: NS"),
-    },
-    Row {
-        shows: "the first ask that failed is told",
-        owner: "example.",
-        signatures: &[OVER_NS, OVER_NS, OVER_NS, OVER_NS],
-        told: &[
-            Told::Skipped,
-            Told::Keys(&[(KEY, Proof::Bogus)]),
-            Told::Failed("a."),
-            Told::Failed("b."),
-        ],
-        want: Want::Fails("Bogus: communication failure for query: a. IN DNSKEY"),
-    },
-    Row {
-        shows: "every ask was answered",
-        owner: "example.",
-        signatures: &[REFUSED, OVER_NS],
-        told: &[Told::Keys(&[(KEY, Proof::Secure)]), Told::Skipped],
-        want: UNVERIFIED,
-    },
-    Row {
-        shows: "a signature by a key that is Bogus excuses nothing",
-        owner: "example.",
-        signatures: &[OVER_NS],
-        told: &[Told::Keys(&[(KEY, Proof::Bogus)])],
-        want: UNVERIFIED,
-    },
-    Row {
-        shows: "nor one beside which another key is Bogus",
-        owner: "example.",
-        signatures: &[OVER_NS],
-        told: &[Told::Keys(&[(KEY, Proof::Insecure), (OTHER_KEY, Proof::Bogus)])],
-        want: UNVERIFIED,
-    },
-    Row {
-        shows: "nor one without a key",
-        owner: "example.",
-        signatures: &[OVER_NS],
-        told: &[Told::Keys(&[])],
-        want: UNVERIFIED,
-    },
-    Row {
-        shows: "the ninth signature counts for nothing",
-        owner: "example.",
-        signatures: &[
-            REFUSED, REFUSED, REFUSED, REFUSED, REFUSED, REFUSED, REFUSED, REFUSED, OVER_NS,
-        ],
-        told: &[
-            Told::Keys(&[(KEY, Proof::Bogus)]),
-            Told::Keys(&[(KEY, Proof::Bogus)]),
-            Told::Keys(&[(KEY, Proof::Bogus)]),
-            Told::Keys(&[(KEY, Proof::Bogus)]),
-            Told::Keys(&[(KEY, Proof::Bogus)]),
-            Told::Keys(&[(KEY, Proof::Bogus)]),
-            Told::Keys(&[(KEY, Proof::Bogus)]),
-            Told::Keys(&[(KEY, Proof::Bogus)]),
-        ],
-        want: UNVERIFIED,
-    },
+    Row("the first Secure signature decides", "example.", &[OVER_NS, OVER_NS, OVER_NS], &[INSECURE, SECURE, SECURE],
+        Want::Found(Proof::Secure, Some(500), Some(1)), 1),
+    Row("one that fails goes before it", "example.", &[REFUSED, OVER_NS, OVER_NS], &[SECURE, BOGUS, SECURE],
+        Want::Found(Proof::Secure, Some(500), Some(2)), 2),
+    Row("else the first Insecure one", "example.", &[OVER_NS, REFUSED, OVER_NS], &[BOGUS, INSECURE, INSECURE],
+        Want::Found(Proof::Insecure, None, Some(1)), 0),
+    Row("it decides whatever asks failed", "example.", &[OVER_NS, OVER_NS], &[Told::Failed("a."), INSECURE],
+        Want::Found(Proof::Insecure, None, Some(1)), 0),
+    Row("no signature was asked for", "example.", &[OVER_NS, OVER_NS], &[Told::Skipped, Told::Skipped],
+        Want::Fails("Bogus: rrsigs are not present for: example. record_type: NS"), 0),
+    Row("the first ask that failed is told", "example.", &[OVER_NS, OVER_NS, OVER_NS, OVER_NS],
+        &[Told::Skipped, BOGUS, Told::Failed("a."), Told::Failed("b.")],
+        Want::Fails("Bogus: communication failure for query: a. IN DNSKEY"), 0),
+    Row("every ask was answered", "example.", &[REFUSED, OVER_NS], &[SECURE, Told::Skipped], UNVERIFIED, 1),
+    Row("a signature by a key that is Bogus excuses nothing", "example.", &[OVER_NS], &[BOGUS], UNVERIFIED, 0),
+    Row("nor one beside which another key is Bogus", "example.", &[OVER_NS],
+        &[Told::Keys(&[(KEY, Proof::Insecure), (OTHER_KEY, Proof::Bogus)])], UNVERIFIED, 0),
+    Row("nor one without a key", "example.", &[OVER_NS], &[Told::Keys(&[])], UNVERIFIED, 0),
+    Row("the ninth signature counts for nothing", "example.",
+        &[REFUSED, REFUSED, REFUSED, REFUSED, REFUSED, REFUSED, REFUSED, REFUSED, OVER_NS],
+        &[BOGUS, BOGUS, BOGUS, BOGUS, BOGUS, BOGUS, BOGUS, BOGUS], UNVERIFIED, 0),
+    Row("eight signatures by two keys of a tag", ".",
+        &[ROOT_REFUSED, ROOT_REFUSED, ROOT_REFUSED, ROOT_REFUSED, ROOT_REFUSED, ROOT_REFUSED, ROOT_REFUSED,
+        ROOT_REFUSED],
+        &[BOTH, BOTH, BOTH, BOTH, BOTH, BOTH, BOTH, BOTH], ROOT_UNVERIFIED, 16),
+    Row("the first of eight is good, by the second key", ".",
+        &[ROOT_GOOD, ROOT_GOOD, ROOT_GOOD, ROOT_GOOD, ROOT_GOOD, ROOT_GOOD, ROOT_GOOD, ROOT_GOOD],
+        &[BOTH, BOTH, BOTH, BOTH, BOTH, BOTH, BOTH, BOTH], Want::Found(Proof::Secure, Some(500), Some(0)), 2),
+    Row("the fifth is good, behind one that is refused, one that has expired, and two without a Secure key", ".",
+        &[ROOT_REFUSED, ROOT_EXPIRED, ROOT_GOOD, ROOT_GOOD, ROOT_GOOD, ROOT_GOOD],
+        &[BOTH, BOTH, INSECURE, Told::Skipped, SECURE, SECURE], Want::Found(Proof::Secure, Some(500), Some(4)), 3),
+    Row("the ninth isn't tried", ".",
+        &[ROOT_REFUSED, ROOT_REFUSED, ROOT_REFUSED, ROOT_REFUSED, ROOT_REFUSED, ROOT_REFUSED, ROOT_REFUSED,
+        ROOT_REFUSED, ROOT_GOOD],
+        &[SECURE, SECURE, SECURE, SECURE, SECURE, SECURE, SECURE, SECURE], ROOT_UNVERIFIED, 8),
+    Row("by an Insecure key nothing is asked", ".", &[ROOT_GOOD, ROOT_GOOD], &[INSECURE, INSECURE],
+        Want::Found(Proof::Insecure, None, Some(0)), 0),
 ];
 
-/// The one function that names the table, since its proof goes over it.
 fn rows() -> &'static [Row] {
     ROWS
-}
-
-/// A set and the answers to the asks of its signatures.
-#[derive(Drop)]
-pub(crate) struct Parts {
-    set: RecordSet,
-    answers: Vec<KeyAnswer>,
 }
 
 fn failed(alloc: Global, signer: &str) -> Result<KeyAnswer, NameError> {
@@ -168,7 +117,7 @@ fn failed(alloc: Global, signer: &str) -> Result<KeyAnswer, NameError> {
 }
 
 fn answered(alloc: Global, owner: &str, keys: &[(&[u8], Proof)]) -> Result<KeyAnswer, NameError> {
-    let keys = keys_of(alloc, owner, keys)?;
+    let keys = marked_records(alloc, owner, RecordType::DNSKEY, keys)?;
     Ok(KeyAnswer::Keys(keys))
 }
 
@@ -180,43 +129,39 @@ fn answer_of(alloc: Global, owner: &str, told: &Told) -> Result<KeyAnswer, NameE
     }
 }
 
+/// A copy of an answer, which outlives it.
+fn copied_answer(alloc: Global, owner: &str, told: &Told) -> Result<KeyAnswer, NameError> {
+    let answer = answer_of(alloc, owner, told)?;
+    let copy = answer.try_clone();
+    drop(answer);
+    Ok(copy?)
+}
+
 fn answers_of(alloc: Global, row: &Row) -> Result<Vec<KeyAnswer>, NameError> {
     let mut answers = Vec::new(alloc);
-    for one in row.told {
-        let next = answer_of(alloc, row.owner, one)?;
-        answers.push(next)?;
+    for told in row.3 {
+        answers.push(copied_answer(alloc, row.1, told)?)?;
     }
     Ok(answers)
 }
 
-fn copies_of(alloc: Global, answers: &[KeyAnswer]) -> Result<Vec<KeyAnswer>, NameError> {
-    let mut copies = Vec::new(alloc);
-    for answer in answers {
-        let next = answer.try_clone()?;
-        copies.push(next)?;
-    }
-    Ok(copies)
-}
-
-/// The answers are copies of those that the row names.
-pub(crate) fn parts_of(alloc: Global, row: &Row) -> Result<Parts, NameError> {
-    let answers = copies_of(alloc, &answers_of(alloc, row)?)?;
-    let set = servers(alloc, row.owner, row.signatures)?;
-    Ok(Parts { set, answers })
+fn servers(alloc: Global, row: &Row) -> Result<RecordSet, NameError> {
+    let records = records_of(alloc, row.1, RecordType::NS, &[b"\x01a\0"])?;
+    set_of(alloc, row.1, RecordType::NS, records, row.2)
 }
 
 /// The mark of a set at second 1500.
-pub(crate) fn found<V: Verifier, L: Ledger>(
+fn found<L: Ledger>(
     alloc: Global,
-    verifier: &V,
-    parts: &Parts,
+    verifier: &Counting,
+    set: &RecordSet,
+    answers: &[KeyAnswer],
     blank: Blank,
 ) -> Result<RrsetProof, ProofError>
     requires name { blank.name ≡ L.name }
     requires parts { blank.parts ≡ L.parts }
     requires some { 0 < blank.parts }
 {
-    let Parts { set, answers } = parts;
     if set.records.len() == 0
         || set.rrsigs.len() == 0
         || answers.len() != first_signatures(set).len()
@@ -227,25 +172,29 @@ pub(crate) fn found<V: Verifier, L: Ledger>(
     mark_rrset(alloc, verifier, set, answers, 1500, &mut steps)
 }
 
-/// A set is marked so.
-fn is_marked(alloc: Global, parts: &Parts, want: &Want) -> Result<bool, NameError> {
-    let verifier = verifier(alloc)?;
-    let mark = found::<Listed, Brand>(alloc, &verifier, parts, Blank::new(1));
-    drop(verifier);
-    is_wanted(alloc, mark, want)
+/// A set is marked as the row says, after as many questions.
+fn is_marked(
+    alloc: Global,
+    set: &RecordSet,
+    answers: &[KeyAnswer],
+    row: &Row,
+) -> Result<bool, NameError> {
+    let verifier = Counting::new();
+    let mark = found::<Brand>(alloc, &verifier, set, answers, Blank::new(1));
+    Ok(is_wanted(alloc, mark, &row.4)? && verifier.questions() == row.5)
 }
 
-/// The mark of a row's set is the one that it names.
 fn is_shown(alloc: Global, row: &Row) -> Result<bool, NameError> {
-    let parts = parts_of(alloc, row)?;
-    let held = is_marked(alloc, &parts, &row.want);
-    drop(parts);
+    let answers = answers_of(alloc, row)?;
+    let set = servers(alloc, row)?;
+    let held = is_marked(alloc, &set, &answers, row);
+    drop(set);
     held
 }
 
 #[test]
 fn sets_are_marked_by_their_signatures(rt: HostRuntime) {
     for row in rows() {
-        check_row(&rt, row.shows, is_shown(rt.alloc(), row));
+        check_row(&rt, row.0, is_shown(rt.alloc(), row));
     }
 }

@@ -1,150 +1,155 @@
+//! What signatures prove by keys with marks, and how often the verifier is asked for one: for each key that counts and
+//! passes every other test, in turn, up to the first by which the signature is good (RFC 4035, 5.3). Contracts see the
+//! counter of steps, and not the verifier.
 ghost use Rattle.std.specs.Prelude.{◌≡◌, ◌<◌};
 
-use crate::mark_parts::*;
-use crate::rows::check_row;
-use dns_evidence::{Listed, Steps};
-use dns_marks::verify_rrset_with_dnskey;
+use crate::counting::Counting;
+use crate::parts::*;
+use crate::wanted::{Want, is_found, is_wanted};
+use dns_evidence::Steps;
+use dns_marks::{verify_rrset_with_dnskey, verify_rrsig_with_keys};
 use dns_model::{NameError, Proof};
+use dns_name::NoMemory;
 use dns_proof::{ProofError, ProofErrorKind, RrsetProof};
 use dns_rdata::{Dnskey, Rrsig};
 use dns_record::{Record, RecordSet, RecordType};
+use dns_trust::{Judge, TrustAnchors, is_good_by};
 use std::alloc::Global;
 use std::marker::Brand;
 use std::sync::ledger::{Blank, Ledger};
 
-/// A key of `example.` by its rdata and mark, a signature by its rdata, a moment, and what the signature proves then of the NS
-/// set.
-struct Row {
-    shows: &'static str,
-    key: &'static [u8],
-    proof: Proof,
-    sig: &'static [u8],
-    now: u64,
-    want: Want,
-}
+/// What it shows; keys of `example.` by rdata and mark; a signature; the type of the set that is handed in in place of
+/// NS; a moment; what the signature proves then; and how often the verifier is asked.
+struct Row(
+    &'static str,
+    &'static [(&'static [u8], Proof)],
+    &'static [u8],
+    RecordType,
+    u64,
+    Want,
+    u32,
+);
 
-/// The tag of the revoked key is another, but the signature's is told.
-const REVOKED: &[u8] = b"\x01\x81\x03\x0d\xaa\xbb";
+const NS: RecordType = RecordType::NS;
 
-const ROWS: &[Row] = &[
-    Row {
-        shows: "the signature is good: the original ttl is the least",
-        key: KEY,
-        proof: Proof::Secure,
-        sig: OVER_NS,
-        now: 1000,
-        want: Want::Found(Proof::Secure, Some(600), None),
-    },
-    Row {
-        shows: "the seconds that it is still valid are the least",
-        key: KEY,
-        proof: Proof::Secure,
-        sig: OVER_NS,
-        now: 1500,
-        want: Want::Found(Proof::Secure, Some(500), None),
-    },
-    Row {
-        shows: "an Insecure key is told before its flags",
-        key: REVOKED,
-        proof: Proof::Insecure,
-        sig: OVER_NS,
-        now: 1500,
-        want: Want::Fails("Insecure: dnskey insecure: example., key_tag: 44745"),
-    },
-    Row {
-        shows: "a key whose mark is Bogus gives it on",
-        key: KEY,
-        proof: Proof::Bogus,
-        sig: OVER_NS,
-        now: 1500,
-        want: Want::Fails("Bogus: dnskey insecure: example., key_tag: 44745"),
-    },
-    Row {
-        shows: "a revoked key",
-        key: REVOKED,
-        proof: Proof::Secure,
-        sig: OVER_NS,
-        now: 1500,
-        want: Want::Fails("Bogus: dnskey revoked: example., key_tag: 44745"),
-    },
-    Row {
-        shows: "a key without the zone flag",
-        key: b"\x00\x01\x03\x0d\xaa\xbb\x01\x00",
-        proof: Proof::Secure,
-        sig: OVER_NS,
-        now: 1500,
-        want: Want::Fails("Bogus: not a zone signing key: example. key_tag: 44745"),
-    },
-    Row {
-        shows: "a key of another protocol",
-        key: b"\x01\x01\x02\x0d\xaa\xbb",
-        proof: Proof::Secure,
-        sig: OVER_NS,
-        now: 1500,
-        want: Want::Fails("Bogus: not a zone signing key: example. key_tag: 44745"),
-    },
-    Row {
-        shows: "another algorithm is told before the moment",
-        key: b"\x01\x01\x03\x08\xaa\xbb",
-        proof: Proof::Secure,
-        sig: OVER_NS,
-        now: 2500,
-        want: Want::Fails("Bogus: algorithm mismatch rrsig: 13 dnskey: 8"),
-    },
-    Row {
-        shows: "the moment lies after the expiration",
-        key: KEY,
-        proof: Proof::Secure,
-        sig: OVER_NS,
-        now: 2500,
-        want: Want::Fails("Bogus: ExpiredRrsig"),
-    },
-    Row {
-        shows: "the signature covers another type",
-        key: KEY,
-        proof: Proof::Secure,
-        sig: OVER_KEYS,
-        now: 1500,
-        want: Want::Fails("Bogus: WrongRrsig"),
-    },
-    Row {
-        shows: "the verifier doesn't accept another key of the same tag",
-        key: OTHER_KEY,
-        proof: Proof::Secure,
-        sig: OVER_NS,
-        now: 1500,
-        want: Want::Fails("Bogus: dnskey and rrset failed to verify: example. key_tag: 44745"),
-    },
+/// A key of another protocol.
+const OTHER_PROTOCOL: &[u8] = b"\x01\x01\x02\x0d\xaa\xbb\x01\x00";
+
+/// `OVER_NS` as the key of another protocol and `HOST_KEY` would make it, as `REVOKED_KEY` and as `UNSUPPORTED_KEY`.
+const BY_LONG: &[u8] =
+    b"\0\x02\x0d\x01\0\0\x02\x58\0\0\x07\xd0\0\0\x03\xe8\xae\xc9\x07example\0\xaa\xbb\x01\x00";
+
+const BY_REVOKED: &[u8] =
+    b"\0\x02\x0d\x01\0\0\x02\x58\0\0\x07\xd0\0\0\x03\xe8\xaf\x49\x07example\0\xaa\xbb";
+
+const BY_UNSUPPORTED: &[u8] =
+    b"\0\x02\x0e\x01\0\0\x02\x58\0\0\x07\xd0\0\0\x03\xe8\xae\xca\x07example\0\xaa\xbb";
+
+const SECURE: &[(&[u8], Proof)] = &[(KEY, Proof::Secure)];
+
+const TWO: &[(&[u8], Proof)] = &[(KEY, Proof::Secure), (OTHER_KEY, Proof::Secure)];
+
+const GOOD: Want = Want::Found(Proof::Secure, Some(500), None);
+
+const INSECURE: Want = Want::Found(Proof::Insecure, None, None);
+
+const NOT_GOOD: Want = Want::Fails(
+    "Bogus: dnskey and rrset failed to verify: example. key_tag: 44745",
+);
+
+const NO_ZONE_KEY: Want = Want::Fails("Bogus: not a zone signing key: example. key_tag: 44745");
+
+const EXPIRED: Want = Want::Fails("Bogus: ExpiredRrsig");
+
+/// By one key.
+#[rattlefmt::skip]
+const BY_ONE: &[Row] = &[
+    Row("the original ttl is the least", SECURE, OVER_NS, NS, 1000, Want::Found(Proof::Secure, Some(600), None), 1),
+    Row("the seconds that it is still valid are the least", SECURE, OVER_NS, NS, 1500, GOOD, 1),
+    Row("an Insecure key is told before its flags", &[(REVOKED_KEY, Proof::Insecure)], OVER_NS, NS, 1500,
+        Want::Fails("Insecure: dnskey insecure: example., key_tag: 44745"), 0),
+    Row("a key whose mark is Bogus gives it on", &[(REVOKED_KEY, Proof::Bogus)], OVER_NS, NS, 1500,
+        Want::Fails("Bogus: dnskey insecure: example., key_tag: 44745"), 0),
+    Row("a revoked key, by the signature's tag", &[(REVOKED_KEY, Proof::Secure)], OVER_NS, NS, 1500,
+        Want::Fails("Bogus: dnskey revoked: example., key_tag: 44745"), 0),
+    Row("a revoked key that made it", &[(REVOKED_KEY, Proof::Secure)], BY_REVOKED, NS, 1500,
+        Want::Fails("Bogus: dnskey revoked: example., key_tag: 44873"), 0),
+    Row("a key without the zone flag", &[(HOST_KEY, Proof::Secure)], BY_LONG, NS, 1500, NO_ZONE_KEY, 0),
+    Row("a key of another protocol", &[(OTHER_PROTOCOL, Proof::Secure)], BY_LONG, NS, 1500, NO_ZONE_KEY, 0),
+    Row("another algorithm is told before the moment", &[(UNSUPPORTED_KEY, Proof::Secure)], OVER_NS, NS, 2500,
+        Want::Fails("Bogus: algorithm mismatch rrsig: 13 dnskey: 14"), 0),
+    Row("the algorithm isn't supported", &[(UNSUPPORTED_KEY, Proof::Secure)], BY_UNSUPPORTED, NS, 1500,
+        Want::Fails("Bogus: dnskey and rrset failed to verify: example. key_tag: 44746"), 0),
+    Row("it has expired", SECURE, OVER_NS, NS, 2001, EXPIRED, 0),
+    Row("it doesn't hold yet", SECURE, OVER_NS, NS, 999, EXPIRED, 0),
+    Row("it covers another type", SECURE, OVER_KEYS, NS, 1500, Want::Fails("Bogus: WrongRrsig"), 0),
+    Row("the key has another tag", &[(KEY_BESIDE, Proof::Secure)], OVER_NS, NS, 1500, Want::Fails("Bogus: WrongDnskey"),
+        0),
+    Row("another key of the same tag", &[(OTHER_KEY, Proof::Secure)], OVER_NS, NS, 1500, NOT_GOOD, 1),
+    Row("the verifier refuses it", SECURE, REFUSED, NS, 1500, NOT_GOOD, 1),
 ];
 
-/// The one function that names the table, since its proof goes over it.
-fn rows() -> &'static [Row] {
-    ROWS
+/// By keys that have a mark each.
+#[rattlefmt::skip]
+const BY_KEYS: &[Row] = &[
+    Row("a Secure key by which the signature is good", SECURE, OVER_NS, NS, 1500, GOOD, 1),
+    Row("it proves the set behind an Insecure one of its tag", &[(OTHER_KEY, Proof::Insecure), (KEY, Proof::Secure)],
+        OVER_NS, NS, 1500, GOOD, 1),
+    Row("the third key of a tag doesn't count, whatever the marks of the first two",
+        &[(OTHER_KEY, Proof::Bogus), (THIRD_KEY, Proof::Insecure), (KEY, Proof::Secure)], OVER_NS, NS, 1500,
+        Want::Nothing, 0),
+    Row("a key that is Bogus proves nothing, beside a Secure one by which the signature isn't good",
+        &[(OTHER_KEY, Proof::Secure), (KEY, Proof::Bogus)], OVER_NS, NS, 1500, Want::Nothing, 1),
+    Row("all keys are Insecure", &[(KEY, Proof::Insecure), (OTHER_KEY, Proof::Insecure)], OVER_NS, NS, 1500, INSECURE,
+        0),
+    Row("one of them isn't", &[(KEY, Proof::Insecure), (OTHER_KEY, Proof::Bogus)], OVER_NS, NS, 1500, Want::Nothing, 0),
+    Row("no key is there", &[], OVER_NS, NS, 1500, Want::Nothing, 0),
+    Row("a key that can't be read is none", &[(b"\x01", Proof::Insecure)], OVER_NS, NS, 1500, Want::Nothing, 0),
+    Row("the signature can't be read, by an Insecure key", &[(KEY, Proof::Insecure)], b"\0\x02", NS, 1500,
+        Want::Nothing, 0),
+    Row("the signature can't be read, by a Secure key", SECURE, b"\0\x02", NS, 1500, Want::Nothing, 0),
+    Row("an NSEC3 stands right below its signer", &[(KEY, Proof::Insecure)], OVER_NS, RecordType::NSEC3, 1500,
+        Want::Nothing, 0),
+    Row("the first of two keys of a tag", TWO, OVER_NS, NS, 1500, GOOD, 1),
+    Row("the second of two keys of a tag", &[(OTHER_KEY, Proof::Secure), (KEY, Proof::Secure)], OVER_NS, NS, 1500, GOOD,
+        2),
+    Row("the third of three, which doesn't count",
+        &[(OTHER_KEY, Proof::Secure), (THIRD_KEY, Proof::Secure), (KEY, Proof::Secure)], OVER_NS, NS, 1500,
+        Want::Nothing, 2),
+    Row("the second key of its tag, among keys of another",
+        &[(KEY_BESIDE, Proof::Secure), (OTHER_KEY, Proof::Secure), (KEY_BESIDE, Proof::Secure), (KEY, Proof::Secure)],
+        OVER_NS, NS, 1500, GOOD, 2),
+    Row("copies of a key, of which two count", &[(KEY, Proof::Secure), (KEY, Proof::Secure), (KEY, Proof::Secure)],
+        REFUSED, NS, 1500, Want::Nothing, 2),
+    Row("two keys of a tag, when the signature has expired", TWO, OVER_NS, NS, 2001, Want::Nothing, 0),
+];
+
+fn by_one() -> &'static [Row] {
+    BY_ONE
+}
+
+fn by_keys() -> &'static [Row] {
+    BY_KEYS
 }
 
 /// Keys, and a set with one signature.
 #[derive(Drop)]
-pub(crate) struct Parts {
-    pub(crate) keys: Vec<Record>,
-    pub(crate) set: RecordSet,
+struct Parts {
+    keys: Vec<Record>,
+    set: RecordSet,
 }
 
-/// The set is the NS set, of another type where that is wanted.
-pub(crate) fn parts_of(
-    alloc: Global,
-    keys: &[(&[u8], Proof)],
-    sig: &[u8],
-    record_type: RecordType,
-) -> Result<Parts, NameError> {
-    let keys = keys_of(alloc, "example.", keys)?;
-    let mut set = servers(alloc, "example.", &[sig])?;
-    set.record_type = record_type;
+fn parts_of(alloc: Global, row: &Row) -> Result<Parts, NameError> {
+    let keys = marked_records(alloc, "example.", RecordType::DNSKEY, row.1)?;
+    let records = records_of(alloc, "example.", NS, &[b"\x01a\0"])?;
+    let set = set_of(alloc, "example.", row.3, records, &[row.2])?;
     Ok(Parts { keys, set })
 }
 
-fn found<L: Ledger>(
+/// What the signature proves by the last key, whose mark counts.
+fn proof_by_key<L: Ledger>(
     alloc: Global,
-    verifier: &Listed,
+    verifier: &Counting,
     parts: &Parts,
     now: u64,
     blank: Blank,
@@ -154,8 +159,8 @@ fn found<L: Ledger>(
     requires some { 0 < blank.parts }
 {
     let Parts { keys, set } = parts;
-    match (keys.as_slice(), set.rrsigs.as_slice()) {
-        ([key], [sig])
+    match (keys.last(), set.rrsigs.last()) {
+        (Some(key), Some(sig))
             if Dnskey::of(key).is_some() && Rrsig::of(sig).is_some() && set.records.len() != 0 => {
             let mut steps = Steps::<L>::new(blank);
             verify_rrset_with_dnskey(alloc, verifier, key, sig, set, now, &mut steps)
@@ -164,24 +169,125 @@ fn found<L: Ledger>(
     }
 }
 
-/// What a row's signature proves is what it names.
-fn is_proved(alloc: Global, parts: &Parts, row: &Row) -> Result<bool, NameError> {
-    let verifier = verifier(alloc)?;
-    let mark = found::<Brand>(alloc, &verifier, parts, row.now, Blank::new(1));
-    drop(verifier);
-    is_wanted(alloc, mark, &row.want)
+/// It is good by the last key, whatever its mark.
+fn is_good(alloc: Global, verifier: &Counting, parts: &Parts, now: u64) -> Result<bool, NoMemory> {
+    let Parts { keys, set } = parts;
+    let (Some(key), Some(sig)) = (keys.last(), set.rrsigs.last()) else {
+        return Ok(false);
+    };
+    let anchors = TrustAnchors::empty(alloc);
+    let judge = Judge {
+        verifier,
+        anchors: &anchors,
+        moment: now,
+    };
+    let good = is_good_by(alloc, &judge, set, sig, key);
+    drop(anchors);
+    good
 }
 
-fn is_shown(alloc: Global, row: &Row) -> Result<bool, NameError> {
-    let parts = parts_of(alloc, &[(row.key, row.proof)], row.sig, RecordType::NS)?;
-    let held = is_proved(alloc, &parts, row);
+/// What it proves by all keys, whose marks count.
+fn proof_by_keys<L: Ledger>(
+    alloc: Global,
+    verifier: &Counting,
+    parts: &Parts,
+    now: u64,
+    blank: Blank,
+) -> Result<Option<RrsetProof>, NoMemory>
+    requires name { blank.name ≡ L.name }
+    requires parts { blank.parts ≡ L.parts }
+    requires some { 0 < blank.parts }
+{
+    let Parts { keys, set } = parts;
+    match set.rrsigs.last() {
+        Some(sig) if set.records.len() != 0 => {
+            let mut steps = Steps::<L>::new(blank);
+            verify_rrsig_with_keys(alloc, verifier, keys, sig, set, now, &mut steps)
+        }
+        _ => Err(NoMemory),
+    }
+}
+
+/// By the last key it proves what the row says. The verifier is asked as often where its mark counts as where it
+/// doesn't: a row whose key isn't Secure has one by which no signature is good.
+fn is_proved_by_key(alloc: Global, parts: &Parts, row: &Row) -> Result<bool, NameError> {
+    let verifier = Counting::new();
+    let good = is_good(alloc, &verifier, parts, row.4)?;
+    let once = verifier.questions();
+    let mark = proof_by_key::<Brand>(alloc, &verifier, parts, row.4, Blank::new(1));
+    Ok(
+        is_wanted(alloc, mark, &row.5)?
+            && good == matches!(&row.5, Want::Found(..))
+            && once == row.6
+            && verifier.questions() == once.wrapping_add(row.6),
+    )
+}
+
+fn is_proof(found: &Option<RrsetProof>, want: &Want) -> bool {
+    match found {
+        Some(found) => is_found(found, want),
+        None => matches!(want, Want::Nothing),
+    }
+}
+
+/// By all keys it does.
+fn is_proved_by_keys(alloc: Global, parts: &Parts, row: &Row) -> Result<bool, NameError> {
+    let verifier = Counting::new();
+    let found = proof_by_keys::<Brand>(alloc, &verifier, parts, row.4, Blank::new(1))?;
+    Ok(is_proof(&found, &row.5) && verifier.questions() == row.6)
+}
+
+fn is_shown_by_key(alloc: Global, row: &Row) -> Result<bool, NameError> {
+    let parts = parts_of(alloc, row)?;
+    let held = is_proved_by_key(alloc, &parts, row);
+    drop(parts);
+    held
+}
+
+fn is_shown_by_keys(alloc: Global, row: &Row) -> Result<bool, NameError> {
+    let parts = parts_of(alloc, row)?;
+    let held = is_proved_by_keys(alloc, &parts, row);
     drop(parts);
     held
 }
 
 #[test]
 fn signatures_are_judged_by_one_key(rt: HostRuntime) {
-    for row in rows() {
-        check_row(&rt, row.shows, is_shown(rt.alloc(), row));
+    for row in by_one() {
+        check_row(&rt, row.0, is_shown_by_key(rt.alloc(), row));
     }
+}
+
+#[test]
+fn signatures_are_judged_by_keys_with_marks(rt: HostRuntime) {
+    for row in by_keys() {
+        check_row(&rt, row.0, is_shown_by_keys(rt.alloc(), row));
+    }
+}
+
+const LARGE: &Row = &Row("the last key", SECURE, OVER_NS, NS, 1500, GOOD, 1);
+
+/// Many keys, of which the last made the signature, and an NS set of many records.
+fn large_parts(alloc: Global) -> Result<Parts, NameError> {
+    let keys = many_and_one(alloc, RecordType::DNSKEY, KEY_BESIDE, KEY)?;
+    let records = many_and_one(alloc, NS, b"\x01b\0", b"\x01a\0")?;
+    let set = set_of(alloc, "example.", NS, records, &[OVER_NS])?;
+    Ok(Parts { keys, set })
+}
+
+fn is_large_proved(alloc: Global) -> Result<bool, NameError> {
+    let parts = large_parts(alloc)?;
+    let by_key = is_proved_by_key(alloc, &parts, LARGE);
+    let by_keys = is_proved_by_keys(alloc, &parts, LARGE);
+    drop(parts);
+    Ok(by_key? && by_keys?)
+}
+
+#[test]
+fn a_set_of_70_000_records_is_proved_by_the_last_of_as_many_keys(rt: HostRuntime) {
+    check_row(
+        &rt,
+        "by that key alone, and among them",
+        is_large_proved(rt.alloc()),
+    );
 }

@@ -1,5 +1,6 @@
-use crate::mark_parts::{DS, MISS, OVER_NS, UNSUPPORTED, only, reads, record, verifier};
-use crate::rows::check_row;
+use crate::counting::Counting;
+use crate::parts::*;
+use crate::wanted::{only, reads};
 use dns_evidence::Trail;
 use dns_handle::{DnsResponse, NetError, NoRecords};
 use dns_marks::{DnsAnswer, ZoneVerdict, ds_verdict};
@@ -11,8 +12,15 @@ use dns_name::{Name, NoMemory};
 use dns_record::{DNSClass, OpCode, Query, Record, RecordType, ResponseCode};
 use std::alloc::Global;
 
-/// A record of a response: its section, owner, type, rdata and mark.
-struct Told(Section, &'static str, RecordType, &'static [u8], Proof);
+/// A record of a response: its class, section, owner, type, rdata and mark.
+struct Told(
+    DNSClass,
+    Section,
+    &'static str,
+    RecordType,
+    &'static [u8],
+    Proof,
+);
 
 /// A verdict, by the number of its DS records or the text of its cause, or want of memory.
 enum Want {
@@ -22,19 +30,24 @@ enum Want {
     NoMemory,
 }
 
-/// The records of a response, the class that is asked, and the verdict on `EXAMPLE.`.
-struct Row {
-    shows: &'static str,
-    told: &'static [Told],
-    class: DNSClass,
-    want: Want,
-}
+/// What it shows, the records of a response, the class that is asked, and the verdict on `EXAMPLE.`.
+struct Row(&'static str, &'static [Told], DNSClass, Want);
+
+const IN: DNSClass = DNSClass::IN;
+
+const CH: DNSClass = DNSClass::CH;
+
+const DS_TYPE: RecordType = RecordType::DS;
+
+const NSEC: RecordType = RecordType::NSEC;
+
+const NSEC3: RecordType = RecordType::NSEC3;
 
 const SHOULD_EXIST: Want = Want::Bogus("ds record should exist: EXAMPLE.");
 
 const NO_DS: Want = Want::Insecure("ds record does not exist: EXAMPLE.");
 
-const UNANSWERED: Want = Want::Bogus("communication failure for query: example. IN DS");
+const UNANSWERED: Want = Want::Bogus("communication failure for query: EXAMPLE. IN DS");
 
 const UNREADABLE: &[u8] = b"\xae";
 
@@ -49,16 +62,20 @@ const APEX: &[u8] = b"\0\0\x06\x22\0\0\0\0\x03";
 
 const HOST: &[u8] = b"\0\0\x06\x40\0\0\0\0\x03";
 
-/// Owners of NSEC3 records of the root zone: the hashes of `example.` and of the root, without salt and further iterations.
+/// Owners of NSEC3 records of the root zone: the hashes of `example.` and of the root, without salt and further
+/// iterations.
 const HASH: &str = "3msev9usmd4br9s97v51r2tdvmr9iqo1.";
 
 const ROOT_HASH: &str = "bekjp7dgpvsjukll47bk43i3urmq4u2f.";
+
+/// The first of them in the zone itself.
+const OWN_HASH: &str = "3msev9usmd4br9s97v51r2tdvmr9iqo1.example.";
 
 /// NSEC3 records of `HASH`, the next hash of which is that of the root: of NS; of NS and DS; of NS and SOA; of A.
 const HASHED_CUT: &[u8] =
     b"\x01\0\0\0\0\x14\x5b\xa9\x3c\x9d\xb0\xcf\xf9\x3f\x52\xb5\x21\xd7\x42\x0e\x43\xf6\xed\xa2\x78\x4f\0\x01\x20";
 
-const SIGNED_HASHED_CUT: &[u8] =
+const HASHED_SIGNED: &[u8] =
     b"\x01\0\0\0\0\x14\x5b\xa9\x3c\x9d\xb0\xcf\xf9\x3f\x52\xb5\x21\xd7\x42\x0e\x43\xf6\xed\xa2\x78\x4f\0\x06\x20\0\0\0\0\x10";
 
 const HASHED_APEX: &[u8] =
@@ -74,291 +91,91 @@ const OPT_OUT: &[u8] =
 const NO_OPT_OUT: &[u8] =
     b"\x01\0\0\0\0\x14\x5b\xa9\x3c\x9d\xb0\xcf\xf9\x3f\x52\xb5\x21\xd7\x42\x0e\x43\xf6\xed\xa2\x78\x4f\0\x01\x22";
 
+const GOOD_DS: Told = Told(IN, Answer, "example.", DS_TYPE, DS, Secure);
+
+const BOGUS_DS: Told = Told(IN, Answer, "example.", DS_TYPE, DS, Bogus);
+
+const UNREADABLE_DS: Told = Told(IN, Answer, "example.", DS_TYPE, UNREADABLE, Secure);
+
+const OTHER_DIGEST: Told = Told(IN, Answer, "example.", DS_TYPE, UNSUPPORTED_DS, Secure);
+
+const GOOD_CUT: Told = Told(IN, Authority, "example.", NSEC, CUT, Secure);
+
+const GOOD_HASH: Told = Told(IN, Authority, HASH, NSEC3, HASHED_CUT, Secure);
+
+#[rattlefmt::skip]
 const ROWS: &[Row] = &[
-    Row {
-        shows: "a Secure DS",
-        told: &[Told(Answer, "example.", RecordType::DS, DS, Secure)],
-        class: DNSClass::IN,
-        want: Want::Signed(1),
-    },
-    Row {
-        shows: "the supported ones of a Secure set",
-        told: &[
-            Told(Answer, "example.", RecordType::DS, UNSUPPORTED, Secure),
-            Told(Answer, "example.", RecordType::DS, DS, Secure),
-            Told(Answer, "example.", RecordType::DS, MISS, Secure),
-        ],
-        class: DNSClass::IN,
-        want: Want::Signed(2),
-    },
-    Row {
-        shows: "none of them is supported",
-        told: &[
-            Told(Answer, "example.", RecordType::DS, UNSUPPORTED, Secure),
-            Told(Answer, "example.", RecordType::DS, UNREADABLE, Secure),
-        ],
-        class: DNSClass::IN,
-        want: Want::Insecure("unknown or reserved key algorithm"),
-    },
-    Row {
-        shows: "none of them can be read",
-        told: &[Told(Answer, "example.", RecordType::DS, UNREADABLE, Secure)],
-        class: DNSClass::IN,
-        want: SHOULD_EXIST,
-    },
-    Row {
-        shows: "no DS",
-        told: &[],
-        class: DNSClass::IN,
-        want: SHOULD_EXIST,
-    },
-    Row {
-        shows: "a DS of another owner",
-        told: &[Told(Answer, "other.", RecordType::DS, DS, Secure)],
-        class: DNSClass::IN,
-        want: SHOULD_EXIST,
-    },
-    Row {
-        shows: "one of another owner beside one of the zone",
-        told: &[
-            Told(Answer, "other.", RecordType::DS, DS, Bogus),
-            Told(Answer, "example.", RecordType::DS, DS, Secure),
-        ],
-        class: DNSClass::IN,
-        want: Want::Signed(1),
-    },
-    Row {
-        shows: "a DS that isn't Secure",
-        told: &[Told(Answer, "example.", RecordType::DS, DS, Insecure)],
-        class: DNSClass::IN,
-        want: SHOULD_EXIST,
-    },
-    Row {
-        shows: "one that isn't Secure beside a Secure one",
-        told: &[
-            Told(Answer, "example.", RecordType::DS, DS, Secure),
-            Told(Answer, "example.", RecordType::DS, MISS, Bogus),
-        ],
-        class: DNSClass::IN,
-        want: SHOULD_EXIST,
-    },
-    Row {
-        shows: "another class",
-        told: &[Told(Answer, "example.", RecordType::DS, DS, Secure)],
-        class: DNSClass::CH,
-        want: SHOULD_EXIST,
-    },
-    Row {
-        shows: "a DS of another section is none",
-        told: &[Told(Authority, "example.", RecordType::DS, DS, Secure)],
-        class: DNSClass::IN,
-        want: SHOULD_EXIST,
-    },
-    Row {
-        shows: "an NSEC of a delegation without DS",
-        told: &[Told(Authority, "example.", RecordType::NSEC, CUT, Secure)],
-        class: DNSClass::IN,
-        want: NO_DS,
-    },
-    Row {
-        shows: "it lists DS",
-        told: &[Told(Authority, "example.", RecordType::NSEC, SIGNED_CUT, Secure)],
-        class: DNSClass::IN,
-        want: SHOULD_EXIST,
-    },
-    Row {
-        shows: "it lists SOA, so the zone itself made it",
-        told: &[Told(Authority, "example.", RecordType::NSEC, APEX, Secure)],
-        class: DNSClass::IN,
-        want: SHOULD_EXIST,
-    },
-    Row {
-        shows: "it lists no NS",
-        told: &[Told(Authority, "example.", RecordType::NSEC, HOST, Secure)],
-        class: DNSClass::IN,
-        want: SHOULD_EXIST,
-    },
-    Row {
-        shows: "it isn't Secure",
-        told: &[Told(Authority, "example.", RecordType::NSEC, CUT, Bogus)],
-        class: DNSClass::IN,
-        want: SHOULD_EXIST,
-    },
-    Row {
-        shows: "one of its set is not",
-        told: &[
-            Told(Authority, "example.", RecordType::NSEC, CUT, Secure),
-            Told(Authority, "example.", RecordType::NSEC, HOST, Bogus),
-        ],
-        class: DNSClass::IN,
-        want: SHOULD_EXIST,
-    },
-    Row {
-        shows: "it is of another owner",
-        told: &[Told(Authority, "a.example.", RecordType::NSEC, CUT, Secure)],
-        class: DNSClass::IN,
-        want: SHOULD_EXIST,
-    },
-    Row {
-        shows: "it stands in the answer section",
-        told: &[Told(Answer, "example.", RecordType::NSEC, CUT, Secure)],
-        class: DNSClass::IN,
-        want: SHOULD_EXIST,
-    },
-    Row {
-        shows: "it stands beside a DS",
-        told: &[
-            Told(Answer, "example.", RecordType::DS, DS, Bogus),
-            Told(Authority, "example.", RecordType::NSEC, CUT, Secure),
-        ],
-        class: DNSClass::IN,
-        want: SHOULD_EXIST,
-    },
-    Row {
-        shows: "an NSEC3 of a delegation without DS",
-        told: &[Told(Authority, HASH, RecordType::NSEC3, HASHED_CUT, Secure)],
-        class: DNSClass::IN,
-        want: NO_DS,
-    },
-    Row {
-        shows: "an NSEC3 that lists DS",
-        told: &[Told(
-            Authority,
-            HASH,
-            RecordType::NSEC3,
-            SIGNED_HASHED_CUT,
-            Secure,
-        )],
-        class: DNSClass::IN,
-        want: SHOULD_EXIST,
-    },
-    Row {
-        shows: "one that lists SOA, so the zone itself made it",
-        told: &[Told(Authority, HASH, RecordType::NSEC3, HASHED_APEX, Secure)],
-        class: DNSClass::IN,
-        want: SHOULD_EXIST,
-    },
-    Row {
-        shows: "one that lists no NS",
-        told: &[Told(Authority, HASH, RecordType::NSEC3, HASHED_HOST, Secure)],
-        class: DNSClass::IN,
-        want: SHOULD_EXIST,
-    },
-    Row {
-        shows: "an NSEC3 that isn't Secure",
-        told: &[Told(Authority, HASH, RecordType::NSEC3, HASHED_CUT, Bogus)],
-        class: DNSClass::IN,
-        want: SHOULD_EXIST,
-    },
-    Row {
-        shows: "one record of an NSEC3 set is not",
-        told: &[
-            Told(Authority, HASH, RecordType::NSEC3, HASHED_CUT, Secure),
-            Told(Authority, HASH, RecordType::NSEC3, HASHED_HOST, Bogus),
-        ],
-        class: DNSClass::IN,
-        want: SHOULD_EXIST,
-    },
-    Row {
-        shows: "a set that isn't Secure beside a Secure one",
-        told: &[
-            Told(Authority, HASH, RecordType::NSEC3, HASHED_CUT, Secure),
-            Told(Authority, ROOT_HASH, RecordType::NSEC3, NO_OPT_OUT, Bogus),
-        ],
-        class: DNSClass::IN,
-        want: NO_DS,
-    },
-    Row {
-        shows: "an NSEC3 of the answer section",
-        told: &[Told(Answer, HASH, RecordType::NSEC3, HASHED_CUT, Secure)],
-        class: DNSClass::IN,
-        want: SHOULD_EXIST,
-    },
-    Row {
-        shows: "an NSEC3 of the hash of another name",
-        told: &[Told(Authority, ROOT_HASH, RecordType::NSEC3, HASHED_CUT, Secure)],
-        class: DNSClass::IN,
-        want: SHOULD_EXIST,
-    },
-    Row {
-        shows: "a span with opt-out over the zone",
-        told: &[Told(Authority, ROOT_HASH, RecordType::NSEC3, OPT_OUT, Secure)],
-        class: DNSClass::IN,
-        want: NO_DS,
-    },
-    Row {
-        shows: "one without opt-out",
-        told: &[Told(Authority, ROOT_HASH, RecordType::NSEC3, NO_OPT_OUT, Secure)],
-        class: DNSClass::IN,
-        want: SHOULD_EXIST,
-    },
-    Row {
-        shows: "an NSEC3 of the zone itself",
-        told: &[Told(
-            Authority,
-            "3msev9usmd4br9s97v51r2tdvmr9iqo1.example.",
-            RecordType::NSEC3,
-            HASHED_CUT,
-            Secure,
-        )],
-        class: DNSClass::IN,
-        want: SHOULD_EXIST,
-    },
-    Row {
-        shows: "an Insecure record of the zone",
-        told: &[Told(Additional, "example.", RecordType::A, ADDRESS, Insecure)],
-        class: DNSClass::IN,
-        want: NO_DS,
-    },
-    Row {
-        shows: "one above it",
-        told: &[Told(Answer, ".", RecordType::A, ADDRESS, Insecure)],
-        class: DNSClass::IN,
-        want: NO_DS,
-    },
-    Row {
-        shows: "one below it",
-        told: &[Told(Answer, "a.example.", RecordType::A, ADDRESS, Insecure)],
-        class: DNSClass::IN,
-        want: SHOULD_EXIST,
-    },
-    Row {
-        shows: "a signature that is Insecure",
-        told: &[Told(Authority, "example.", RecordType::RRSIG, OVER_NS, Insecure)],
-        class: DNSClass::IN,
-        want: NO_DS,
-    },
-    Row {
-        shows: "one record of a set that is not",
-        told: &[
-            Told(Answer, "example.", RecordType::A, ADDRESS, Bogus),
-            Told(Answer, "example.", RecordType::A, ADDRESS, Insecure),
-        ],
-        class: DNSClass::IN,
-        want: NO_DS,
-    },
-    Row {
-        shows: "a DS that isn't Secure decides before it",
-        told: &[
-            Told(Answer, "example.", RecordType::DS, DS, Bogus),
-            Told(Additional, ".", RecordType::A, ADDRESS, Insecure),
-        ],
-        class: DNSClass::IN,
-        want: SHOULD_EXIST,
-    },
+    Row("a Secure DS", &[GOOD_DS], IN, Want::Signed(1)),
+    Row("the supported ones of a Secure set",
+        &[OTHER_DIGEST, GOOD_DS, Told(IN, Answer, "example.", DS_TYPE, MISS, Secure)], IN, Want::Signed(2)),
+    Row("none of them is supported", &[OTHER_DIGEST, UNREADABLE_DS], IN,
+        Want::Insecure("unknown or reserved key algorithm")),
+    Row("none of them can be read", &[UNREADABLE_DS], IN, SHOULD_EXIST),
+    Row("no DS", &[], IN, SHOULD_EXIST),
+    Row("a DS of another owner", &[Told(IN, Answer, "other.", DS_TYPE, DS, Secure)], IN, SHOULD_EXIST),
+    Row("one of another owner beside one of the zone", &[Told(IN, Answer, "other.", DS_TYPE, DS, Bogus), GOOD_DS], IN,
+        Want::Signed(1)),
+    Row("a DS that isn't Secure", &[Told(IN, Answer, "example.", DS_TYPE, DS, Insecure)], IN, SHOULD_EXIST),
+    Row("one that isn't Secure beside a Secure one",
+        &[GOOD_DS, Told(IN, Answer, "example.", DS_TYPE, MISS, Bogus)], IN, SHOULD_EXIST),
+    Row("another class", &[GOOD_DS], CH, SHOULD_EXIST),
+    Row("a DS of another section is none", &[Told(IN, Authority, "example.", DS_TYPE, DS, Secure)], IN, SHOULD_EXIST),
+    Row("an NSEC of a delegation without DS", &[GOOD_CUT], IN, NO_DS),
+    Row("it lists DS", &[Told(IN, Authority, "example.", NSEC, SIGNED_CUT, Secure)], IN, SHOULD_EXIST),
+    Row("it lists SOA, so the zone itself made it", &[Told(IN, Authority, "example.", NSEC, APEX, Secure)], IN,
+        SHOULD_EXIST),
+    Row("it lists no NS", &[Told(IN, Authority, "example.", NSEC, HOST, Secure)], IN, SHOULD_EXIST),
+    Row("it isn't Secure", &[Told(IN, Authority, "example.", NSEC, CUT, Bogus)], IN, SHOULD_EXIST),
+    Row("one of its set is not", &[GOOD_CUT, Told(IN, Authority, "example.", NSEC, HOST, Bogus)], IN, SHOULD_EXIST),
+    Row("it is of another owner", &[Told(IN, Authority, "a.example.", NSEC, CUT, Secure)], IN, SHOULD_EXIST),
+    Row("it stands in the answer section", &[Told(IN, Answer, "example.", NSEC, CUT, Secure)], IN, SHOULD_EXIST),
+    Row("it stands beside a DS", &[BOGUS_DS, GOOD_CUT], IN, SHOULD_EXIST),
+    Row("an NSEC3 of a delegation without DS", &[GOOD_HASH], IN, NO_DS),
+    Row("an NSEC3 that lists DS", &[Told(IN, Authority, HASH, NSEC3, HASHED_SIGNED, Secure)], IN, SHOULD_EXIST),
+    Row("one that lists SOA, so the zone itself made it", &[Told(IN, Authority, HASH, NSEC3, HASHED_APEX, Secure)], IN,
+        SHOULD_EXIST),
+    Row("one that lists no NS", &[Told(IN, Authority, HASH, NSEC3, HASHED_HOST, Secure)], IN, SHOULD_EXIST),
+    Row("an NSEC3 that isn't Secure", &[Told(IN, Authority, HASH, NSEC3, HASHED_CUT, Bogus)], IN, SHOULD_EXIST),
+    Row("one record of an NSEC3 set is not", &[GOOD_HASH, Told(IN, Authority, HASH, NSEC3, HASHED_HOST, Bogus)], IN,
+        SHOULD_EXIST),
+    Row("a set that isn't Secure beside a Secure one",
+        &[GOOD_HASH, Told(IN, Authority, ROOT_HASH, NSEC3, NO_OPT_OUT, Bogus)], IN, NO_DS),
+    Row("an NSEC3 of the answer section", &[Told(IN, Answer, HASH, NSEC3, HASHED_CUT, Secure)], IN, SHOULD_EXIST),
+    Row("an NSEC3 of the hash of another name", &[Told(IN, Authority, ROOT_HASH, NSEC3, HASHED_CUT, Secure)], IN,
+        SHOULD_EXIST),
+    Row("a span with opt-out over the zone", &[Told(IN, Authority, ROOT_HASH, NSEC3, OPT_OUT, Secure)], IN, NO_DS),
+    Row("one without opt-out", &[Told(IN, Authority, ROOT_HASH, NSEC3, NO_OPT_OUT, Secure)], IN, SHOULD_EXIST),
+    Row("an NSEC3 of the zone itself", &[Told(IN, Authority, OWN_HASH, NSEC3, HASHED_CUT, Secure)], IN, SHOULD_EXIST),
+    Row("an Insecure record of the zone", &[Told(IN, Additional, "example.", RecordType::A, ADDRESS, Insecure)], IN,
+        NO_DS),
+    Row("one above it", &[Told(IN, Answer, ".", RecordType::A, ADDRESS, Insecure)], IN, NO_DS),
+    Row("one below it", &[Told(IN, Answer, "a.example.", RecordType::A, ADDRESS, Insecure)], IN, SHOULD_EXIST),
+    Row("a signature that is Insecure", &[Told(IN, Authority, "example.", RecordType::RRSIG, OVER_NS, Insecure)], IN,
+        NO_DS),
+    Row("one record of a set that is not",
+        &[Told(IN, Answer, "example.", RecordType::A, ADDRESS, Bogus), Told(IN, Answer, "example.", RecordType::A,
+        ADDRESS, Insecure)],
+        IN, NO_DS),
+    Row("a DS that isn't Secure decides before it",
+        &[BOGUS_DS, Told(IN, Additional, ".", RecordType::A, ADDRESS, Insecure)], IN, SHOULD_EXIST),
+    Row("a DS of another class before one of this", &[Told(CH, Answer, "example.", DS_TYPE, DS, Secure), GOOD_DS], IN,
+        Want::Signed(1)),
+    Row("one that isn't Secure behind it", &[GOOD_DS, Told(CH, Answer, "example.", DS_TYPE, DS, Bogus)], IN,
+        Want::Signed(1)),
+    Row("no DS, and an NSEC of another class", &[Told(CH, Authority, "example.", NSEC, CUT, Secure)], IN, SHOULD_EXIST),
+    Row("one that isn't Secure beside one of this class",
+        &[Told(CH, Authority, "example.", NSEC, HOST, Bogus), GOOD_CUT], IN, NO_DS),
+    Row("a DS of another class alone is none", &[Told(CH, Answer, "example.", DS_TYPE, DS, Bogus), GOOD_CUT], IN,
+        NO_DS),
+    Row("an NSEC3 of another class", &[Told(CH, Authority, HASH, NSEC3, HASHED_CUT, Secure)], IN, SHOULD_EXIST),
+    Row("one that isn't Secure beside an NSEC3 of this class",
+        &[Told(CH, Authority, HASH, NSEC3, HASHED_HOST, Bogus), GOOD_HASH], IN, NO_DS),
+    Row("an Insecure record of another class", &[Told(CH, Additional, "example.", RecordType::A, ADDRESS, Insecure)],
+        IN, SHOULD_EXIST),
 ];
 
-/// The one function that names the table, since its proof goes over it.
 fn rows() -> &'static [Row] {
     ROWS
-}
-
-fn question(alloc: Global) -> Result<Query, NameError> {
-    Ok(Query {
-        name: Name::from_ascii(alloc, "example.")?,
-        query_type: RecordType::DS,
-        query_class: DNSClass::IN,
-    })
 }
 
 fn empty_message(alloc: Global) -> Message {
@@ -391,11 +208,6 @@ fn empty_response(alloc: Global) -> DnsResponse {
     }
 }
 
-/// It as an answer, by itself in a list.
-fn empty_answer(alloc: Global) -> Result<Vec<DnsAnswer>, NameError> {
-    only(alloc, Ok(empty_response(alloc)))
-}
-
 fn section_of(message: &mut Message, section: Section) -> &mut Vec<Record> {
     match section {
         Section::Answer => &mut message.answers,
@@ -404,43 +216,33 @@ fn section_of(message: &mut Message, section: Section) -> &mut Vec<Record> {
     }
 }
 
-fn told_record(alloc: Global, class: DNSClass, told: &Told) -> Result<Record, NameError> {
-    let Told(_, owner, record_type, rdata, proof) = told;
-    let mut next = record(alloc, owner, *record_type, rdata, *proof)?;
-    next.dns_class = class;
+/// A section of the response that a list has alone.
+fn section_in(answers: &mut [DnsAnswer], section: Section) -> Option<&mut Vec<Record>> {
+    match answers.first_mut() {
+        Some(Ok(response)) => Some(section_of(&mut response.message, section)),
+        _ => None,
+    }
+}
+
+fn told_record(alloc: Global, told: &Told) -> Result<Record, NameError> {
+    let mut next = record(alloc, told.2, told.3, told.4, told.5)?;
+    next.dns_class = told.0;
     Ok(next)
 }
 
-/// A record more, of a class.
-fn put(
-    alloc: Global,
-    message: &mut Message,
-    class: DNSClass,
-    told: &Told,
-) -> Result<(), NameError> {
-    let next = told_record(alloc, class, told)?;
-    section_of(message, told.0).push(next)?;
-    Ok(())
-}
-
-/// The same in the answer that a list has.
-fn put_in(
-    alloc: Global,
-    answers: &mut [DnsAnswer],
-    class: DNSClass,
-    told: &Told,
-) -> Result<(), NameError> {
-    match answers.first_mut() {
-        Some(Ok(response)) => put(alloc, &mut response.message, class, told),
-        _ => Ok(()),
+/// A record more.
+fn put(alloc: Global, answers: &mut [DnsAnswer], told: &Told) -> Result<(), NameError> {
+    match section_in(answers, told.1) {
+        Some(records) => Ok(records.push(told_record(alloc, told)?)?),
+        None => Ok(()),
     }
 }
 
 /// An answer with these records, by itself in a list.
 fn answer_of(alloc: Global, told: &[Told]) -> Result<Vec<DnsAnswer>, NameError> {
-    let mut answers = empty_answer(alloc)?;
+    let mut answers = only(alloc, Ok(empty_response(alloc)))?;
     for one in told {
-        put_in(alloc, &mut answers, DNSClass::IN, one)?;
+        put(alloc, &mut answers, one)?;
     }
     Ok(answers)
 }
@@ -474,307 +276,83 @@ fn is_wanted(
     want: &Want,
 ) -> Result<bool, NameError> {
     match verdict {
-        Ok(verdict) => Ok(is_verdict(alloc, verdict, want)? && copy_is(alloc, verdict, want)?),
+        Ok(verdict) => copy_is(alloc, verdict, want),
         Err(_) => Ok(matches!(want, Want::NoMemory)),
     }
 }
 
-/// The DS verdict on a zone by an answer.
-fn verdict_by(
-    alloc: Global,
-    zone: &Name,
-    class: DNSClass,
-    answer: &DnsAnswer,
-) -> Result<Result<ZoneVerdict, NoMemory>, NameError> {
-    let verifier = verifier(alloc)?;
-    let verdict = ds_verdict(alloc, &verifier, zone, class, answer);
-    drop(verifier);
-    Ok(verdict)
-}
-
-/// It is this one.
+/// The DS verdict on `EXAMPLE.` by the answer that a list has is this one.
 fn gives(
     alloc: Global,
-    zone: &Name,
     class: DNSClass,
-    answer: &DnsAnswer,
+    answers: &[DnsAnswer],
     want: &Want,
 ) -> Result<bool, NameError> {
-    let verdict = verdict_by(alloc, zone, class, answer)?;
+    let Some(answer) = answers.first() else {
+        return Ok(false);
+    };
+    let zone = Name::from_ascii(alloc, "EXAMPLE.")?;
+    let verifier = Counting::new();
+    let verdict = ds_verdict(alloc, &verifier, &zone, class, answer);
+    drop(zone);
     let held = is_wanted(alloc, &verdict, want);
     drop(verdict);
     held
 }
 
-/// The same of the answer that a list has.
-fn gives_first(
-    alloc: Global,
-    zone: &Name,
-    class: DNSClass,
-    answers: &[DnsAnswer],
-    want: &Want,
-) -> Result<bool, NameError> {
-    match answers.first() {
-        Some(answer) => gives(alloc, zone, class, answer, want),
-        None => Ok(false),
-    }
-}
-
-/// The same of a zone by its text.
-fn gives_at(
-    alloc: Global,
-    zone: &str,
-    class: DNSClass,
-    answers: &[DnsAnswer],
-    want: &Want,
-) -> Result<bool, NameError> {
-    let zone = Name::from_ascii(alloc, zone)?;
-    let held = gives_first(alloc, &zone, class, answers, want);
-    drop(zone);
-    held
-}
-
 /// The DS verdict of a row is the one that it names.
 fn is_judged(alloc: Global, row: &Row) -> Result<bool, NameError> {
-    let answers = answer_of(alloc, row.told)?;
-    gives_at(alloc, "EXAMPLE.", row.class, &answers, &row.want)
+    let answers = answer_of(alloc, row.1)?;
+    gives(alloc, row.2, &answers, &row.3)
 }
 
 #[test]
 fn zones_are_judged_by_answers(rt: HostRuntime) {
     for row in rows() {
-        check_row(&rt, row.shows, is_judged(rt.alloc(), row));
+        check_row(&rt, row.0, is_judged(rt.alloc(), row));
     }
 }
 
-/// Records of a response, each with its class, and the verdict on `EXAMPLE.` in class IN.
-struct Mixed {
-    shows: &'static str,
-    told: &'static [(DNSClass, Told)],
-    want: Want,
+/// There are no records: a lookup never answers so.
+fn no_records(alloc: Global) -> Result<NetError, NameError> {
+    let query = Query {
+        name: Name::from_ascii(alloc, "example.")?,
+        query_type: DS_TYPE,
+        query_class: IN,
+    };
+    Ok(NetError::from(NoRecords::new(alloc, query, ResponseCode(0))))
 }
 
-/// A record of another class is no DS, no NSEC and no Insecure record of the zone.
-const MIXED: &[Mixed] = &[
-    Mixed {
-        shows: "a DS of another class before one of this",
-        told: &[
-            (
-                DNSClass::CH,
-                Told(Answer, "example.", RecordType::DS, DS, Secure),
-            ),
-            (
-                DNSClass::IN,
-                Told(Answer, "example.", RecordType::DS, DS, Secure),
-            ),
-        ],
-        want: Want::Signed(1),
-    },
-    Mixed {
-        shows: "one that isn't Secure behind it",
-        told: &[
-            (
-                DNSClass::IN,
-                Told(Answer, "example.", RecordType::DS, DS, Secure),
-            ),
-            (
-                DNSClass::CH,
-                Told(Answer, "example.", RecordType::DS, DS, Bogus),
-            ),
-        ],
-        want: Want::Signed(1),
-    },
-    Mixed {
-        shows: "no DS, and an NSEC of another class",
-        told: &[(
-            DNSClass::CH,
-            Told(Authority, "example.", RecordType::NSEC, CUT, Secure),
-        )],
-        want: SHOULD_EXIST,
-    },
-    Mixed {
-        shows: "one that isn't Secure beside one of this class",
-        told: &[
-            (
-                DNSClass::CH,
-                Told(Authority, "example.", RecordType::NSEC, HOST, Bogus),
-            ),
-            (
-                DNSClass::IN,
-                Told(Authority, "example.", RecordType::NSEC, CUT, Secure),
-            ),
-        ],
-        want: NO_DS,
-    },
-    Mixed {
-        shows: "a DS of another class alone is none",
-        told: &[
-            (
-                DNSClass::CH,
-                Told(Answer, "example.", RecordType::DS, DS, Bogus),
-            ),
-            (
-                DNSClass::IN,
-                Told(Authority, "example.", RecordType::NSEC, CUT, Secure),
-            ),
-        ],
-        want: NO_DS,
-    },
-    Mixed {
-        shows: "an NSEC3 of another class",
-        told: &[(
-            DNSClass::CH,
-            Told(Authority, HASH, RecordType::NSEC3, HASHED_CUT, Secure),
-        )],
-        want: SHOULD_EXIST,
-    },
-    Mixed {
-        shows: "one that isn't Secure beside an NSEC3 of this class",
-        told: &[
-            (
-                DNSClass::CH,
-                Told(Authority, HASH, RecordType::NSEC3, HASHED_HOST, Bogus),
-            ),
-            (
-                DNSClass::IN,
-                Told(Authority, HASH, RecordType::NSEC3, HASHED_CUT, Secure),
-            ),
-        ],
-        want: NO_DS,
-    },
-    Mixed {
-        shows: "an Insecure record of another class",
-        told: &[(
-            DNSClass::CH,
-            Told(Additional, "example.", RecordType::A, ADDRESS, Insecure),
-        )],
-        want: SHOULD_EXIST,
-    },
-];
-
-/// The one function that names the table, since its proof goes over it.
-fn mixed_rows() -> &'static [Mixed] {
-    MIXED
+/// An ask that failed makes the verdict Bogus, with the question, but want of memory stays it.
+fn is_failed(alloc: Global, error: NetError, want: &Want) -> Result<bool, NameError> {
+    let answers = only(alloc, Err(error))?;
+    gives(alloc, IN, &answers, want)
 }
 
-/// An answer with records of several classes, by itself in a list.
-fn mixed_answer(alloc: Global, told: &[(DNSClass, Told)]) -> Result<Vec<DnsAnswer>, NameError> {
-    let mut answers = empty_answer(alloc)?;
-    for one in told {
-        put_in(alloc, &mut answers, one.0, &one.1)?;
-    }
-    Ok(answers)
-}
-
-/// The DS verdict of such a row is the one that it names.
-fn is_mixed(alloc: Global, row: &Mixed) -> Result<bool, NameError> {
-    let answers = mixed_answer(alloc, row.told)?;
-    gives_at(alloc, "EXAMPLE.", DNSClass::IN, &answers, &row.want)
-}
-
-#[test]
-fn records_of_another_class_say_nothing_of_a_zone(rt: HostRuntime) {
-    for row in mixed_rows() {
-        check_row(&rt, row.shows, is_mixed(rt.alloc(), row));
-    }
-}
-
-/// Why an ask failed.
-enum Failure {
-    TimedOut,
-    /// There are no records: a lookup never answers so.
-    NoRecords,
-    NoMemory,
-}
-
-/// An ask that failed makes the verdict on `example.` Bogus, with the question, but want of memory stays it.
-struct FailedAsk {
-    shows: &'static str,
-    failure: Failure,
-    want: Want,
-}
-
-const FAILURES: &[FailedAsk] = &[
-    FailedAsk {
-        shows: "no answer in time",
-        failure: Failure::TimedOut,
-        want: UNANSWERED,
-    },
-    FailedAsk {
-        shows: "no records",
-        failure: Failure::NoRecords,
-        want: UNANSWERED,
-    },
-    FailedAsk {
-        shows: "want of memory",
-        failure: Failure::NoMemory,
-        want: Want::NoMemory,
-    },
-];
-
-fn no_records(alloc: Global) -> Result<Vec<DnsAnswer>, NameError> {
-    let query = question(alloc)?;
-    only(
-        alloc,
-        Err(NetError::from(NoRecords::new(alloc, query, ResponseCode(0)))),
-    )
-}
-
-fn failed(alloc: Global, failure: &Failure) -> Result<Vec<DnsAnswer>, NameError> {
-    match failure {
-        Failure::TimedOut => only(alloc, Err(NetError::Timeout)),
-        Failure::NoRecords => no_records(alloc),
-        Failure::NoMemory => only(alloc, Err(NetError::NoMemory)),
-    }
-}
-
-fn is_failed(alloc: Global, row: &FailedAsk) -> Result<bool, NameError> {
-    let answers = failed(alloc, &row.failure)?;
-    gives_at(alloc, "example.", DNSClass::IN, &answers, &row.want)
+fn is_bogus_without_records(alloc: Global) -> Result<bool, NameError> {
+    is_failed(alloc, no_records(alloc)?, &UNANSWERED)
 }
 
 #[test]
 fn zones_are_bogus_where_the_ask_failed(rt: HostRuntime) {
-    for row in FAILURES {
-        check_row(&rt, row.shows, is_failed(rt.alloc(), row));
-    }
+    let in_time = is_failed(rt.alloc(), NetError::Timeout, &UNANSWERED);
+    check_row(&rt, "no answer in time", in_time);
+    check_row(&rt, "no records", is_bogus_without_records(rt.alloc()));
+    let wanting = is_failed(rt.alloc(), NetError::NoMemory, &Want::NoMemory);
+    check_row(&rt, "want of memory", wanting);
 }
 
-/// So many DS records.
-const MANY: usize = 70_000;
-
-fn fill(records: &mut Vec<Record>, one: &Record) -> Result<(), NameError> {
-    for _ in 0..MANY {
-        records.push(one.try_clone()?)?;
+fn fill_answer(alloc: Global, answers: &mut [DnsAnswer]) -> Result<(), NameError> {
+    match section_in(answers, Section::Answer) {
+        Some(records) => fill(alloc, records, DS_TYPE, DS, MANY),
+        None => Ok(()),
     }
-    Ok(())
-}
-
-fn fill_in(answers: &mut [DnsAnswer], one: &Record) -> Result<(), NameError> {
-    match answers.first_mut() {
-        Some(Ok(response)) => fill(&mut response.message.answers, one),
-        _ => Ok(()),
-    }
-}
-
-fn large_answer(alloc: Global) -> Result<Vec<DnsAnswer>, NameError> {
-    let mut answers = empty_answer(alloc)?;
-    let one = record(alloc, "example.", RecordType::DS, DS, Proof::Secure)?;
-    let filled = fill_in(&mut answers, &one);
-    drop(one);
-    filled?;
-    Ok(answers)
 }
 
 fn signs_all(alloc: Global) -> Result<bool, NameError> {
-    let answers = large_answer(alloc)?;
-    gives_at(
-        alloc,
-        "example.",
-        DNSClass::IN,
-        &answers,
-        &Want::Signed(MANY),
-    )
+    let mut answers = answer_of(alloc, &[])?;
+    fill_answer(alloc, &mut answers)?;
+    gives(alloc, IN, &answers, &Want::Signed(MANY))
 }
 
 #[test]
