@@ -1,14 +1,16 @@
-use crate::exchange_parts::{Exchange, Heard, asked, exchange_over, link_of, push_responses};
-use crate::stream_parts::server;
+use crate::exchange_parts::{asked, push_responses};
+use crate::heard::Heard;
+use crate::parts::{check, draws_of};
+use crate::stream_parts::{pieces_of, stream_over};
 use dns_exchange::TcpExchange;
-use dns_handle::{IoKind, NetError};
-use dns_link::{ListDialer, PairLink};
+use dns_handle::IoKind;
+use dns_link::PairLink;
 use dns_mux::ListDraws;
-use dns_name::NoMemory;
 use std::alloc::Global;
+use std::process::Abort;
 
-/// Which responses come, each id so often, which calls of the link fail, how many requests may be live, and what two sends of requests
-/// with the id 7 are answered.
+/// Which responses come, each id so often, which calls of the link fail, how many requests may be live, and what two sends of
+/// requests with the id 7 are answered.
 struct Case {
     message: &'static str,
     come: &'static [(u16, u32)],
@@ -97,49 +99,43 @@ fn cases() -> &'static [Case] {
     CASES
 }
 
-/// The frames of the responses that come.
-fn responses(alloc: Global, come: &[(u16, u32)]) -> Result<Vec<u8>, NoMemory> {
+/// A link that gives the frames of the responses that come, takes a hundred bytes, and of whose calls some fail.
+fn link_for(rt: &impl Abort, alloc: Global, come: &[(u16, u32)], fails: &[u64]) -> PairLink {
     let mut bytes = Vec::new(alloc);
     for some in come {
-        push_responses(&mut bytes, some.0, some.1)?;
+        push_responses(rt, &mut bytes, some.0, some.1);
     }
-    Ok(bytes)
+    let pieces = pieces_of(rt, alloc, &[&bytes]);
+    let fails = Vec::from_slice(alloc, fails).expect(rt, "memory");
+    PairLink::new(alloc, pieces, 100, fails).expect(rt, "memory")
 }
 
-fn link_for(alloc: Global, come: &[(u16, u32)], fails: &[u64]) -> Result<PairLink, NoMemory> {
-    let fails = Vec::from_slice(alloc, fails)?;
-    let bytes = responses(alloc, come)?;
-    link_of(alloc, bytes, fails)
-}
-
-/// The exchange of a case.
-fn exchange_of(
+/// An exchange over a link, whose first two requests have the id 7, with so many live requests at most.
+fn exchange_over(
+    rt: &impl Abort,
     alloc: Global,
-    come: &[(u16, u32)],
-    fails: &[u64],
+    link: PairLink,
     max: Option<usize>,
-) -> Option<Exchange> {
-    let link = link_for(alloc, come, fails).ok()?;
-    exchange_over(alloc, link, max)
+) -> TcpExchange<PairLink, ListDraws> {
+    let draws = draws_of(rt, alloc, &[7, 7]);
+    let made = TcpExchange::over(alloc, stream_over(alloc, link), draws, 5000, max);
+    made.ok().expect(rt, "memory")
 }
 
 /// Whether the sends of a case are answered as it says.
-fn holds(alloc: Global, case: &Case) -> Option<bool> {
-    let mut exchange = exchange_of(alloc, case.come, case.fails, case.max)?;
-    let first = asked(alloc, &mut exchange) == case.first;
-    let second = asked(alloc, &mut exchange) == case.second;
+fn holds(rt: &impl Abort, alloc: Global, case: &Case) -> bool {
+    let link = link_for(rt, alloc, case.come, case.fails);
+    let mut exchange = exchange_over(rt, alloc, link, case.max);
+    let first = asked(alloc, &mut exchange);
+    let second = asked(alloc, &mut exchange);
     drop(exchange);
-    Some(first && second)
+    first == case.first && second == case.second
 }
 
 #[test]
 fn sends_are_answered_as_the_cases_say(rt: HostRuntime) {
     for case in cases() {
-        assert!(rt;
-            matches!(holds(rt.alloc(), case), Some(true)),
-            "{}",
-            case.message
-        );
+        check(&rt, case.message, holds(&rt, rt.alloc(), case));
     }
 }
 
@@ -148,40 +144,21 @@ const FRAMES: &[u8] = &[
     0, 12, 0, 7, 0, 0, 0, 0, 0, 0, 0, 0, 0, 0, 0, 12, 0, 7, 0, 0, 0, 0, 0, 0, 0, 0, 0, 0,
 ];
 
-/// Whether two requests are written as frames.
-fn are_written(alloc: Global) -> Option<bool> {
-    let mut exchange = exchange_of(alloc, &[(7, 2)], &[], None)?;
-    let first = asked(alloc, &mut exchange) == Heard::Id(7);
-    let second = asked(alloc, &mut exchange) == Heard::Id(7);
-    let link = exchange.into_link();
-    Some(first && second && *link.taken() == *FRAMES)
-}
-
 #[test]
 fn requests_go_out_as_frames(rt: HostRuntime) {
-    assert!(rt; matches!(are_written(rt.alloc()), Some(true)));
-}
-
-/// Whether a dialer makes no exchange, for want of a link.
-fn is_unreachable(alloc: Global, dial: &mut ListDialer) -> bool {
-    let draws = ListDraws::new(Vec::new(alloc), Vec::new(alloc));
-    let made = TcpExchange::connect(alloc, dial, server(), None, 5000, None, draws);
-    let held = is_fault(&made, IoKind::AddrNotAvailable);
-    drop(made);
-    held
-}
-
-/// Whether a reply is a fault of a kind.
-fn is_fault<X>(reply: &Result<X, NetError>, kind: IoKind) -> bool {
-    match reply {
-        Err(NetError::Io(other)) => *other == kind,
-        _ => false,
-    }
-}
-
-#[test]
-fn a_refusal_of_the_dialer_is_passed_on(rt: HostRuntime) {
     let alloc = rt.alloc();
-    let mut dial = ListDialer::new(Vec::new(alloc), Vec::new(alloc));
-    assert!(rt; is_unreachable(alloc, &mut dial));
+    let link = link_for(&rt, alloc, &[(7, 2)], &[]);
+    let mut exchange = exchange_over(&rt, alloc, link, None);
+    check(
+        &rt,
+        "the first request is answered",
+        asked(alloc, &mut exchange) == Heard::Id(7),
+    );
+    check(
+        &rt,
+        "the second request is answered",
+        asked(alloc, &mut exchange) == Heard::Id(7),
+    );
+    let link = exchange.into_link();
+    check(&rt, "two frames were written", *link.taken() == *FRAMES);
 }

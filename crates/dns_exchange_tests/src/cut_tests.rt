@@ -1,157 +1,127 @@
 ghost use Rattle.std.specs.Prelude.{◌≢◌, [], All};
 
-use crate::stream_heard::{Heard, read_next};
+use crate::heard::{Heard, heard_error};
+use crate::parts::check;
+use crate::stream_heard::read_next;
 use crate::stream_parts::{behind, pieces_of, single_bytes, stream_over};
 use dns_handle::{IoKind, NetError};
 use dns_link::PairLink;
-use dns_name::{NoMemory, Octets};
-use dns_transport::{TcpStream, unframe};
+use dns_name::Octets;
+use dns_transport::unframe;
 use std::alloc::Global;
+use std::process::Abort;
 
 /// A message of so many bytes, at most 65,535, and its frame.
-fn framed(alloc: Global, len: usize) -> Result<Vec<u8>, NoMemory> {
-    let len = u16::try_from(len).unwrap_or(u16::MAX);
-    let [high, low] = len.to_be_bytes();
-    let mut bytes = Vec::from_slice(alloc, &[high, low])?;
+fn framed(rt: &impl Abort, alloc: Global, len: u16) -> Vec<u8> {
+    let mut bytes = Vec::from_slice(alloc, &len.to_be_bytes()).expect(rt, "memory");
     for i in 0..len {
         let [_, byte] = i.to_be_bytes();
-        bytes.push(byte)?;
+        bytes.push(byte).expect(rt, "memory");
     }
-    Ok(bytes)
-}
-
-/// Whether a stream gives the message of a frame, and then ends.
-fn gives(alloc: Global, stream: &mut TcpStream<PairLink>, frame: &[u8]) -> bool {
-    let mut read = Vec::new(alloc);
-    let first = read_next(stream, &mut read) == Heard::Message
-        && *read.as_slice() == *behind(frame);
-    first && read_next(stream, &mut read) == Heard::Closed
+    bytes
 }
 
 /// Whether pieces give the message of a frame, and then no more.
-fn is_read(alloc: Global, pieces: Vec<Octets>, frame: &[u8]) -> Result<bool, NoMemory>
+fn is_read(rt: &impl Abort, alloc: Global, pieces: Vec<Octets>, frame: &[u8]) -> bool
     requires { All (λ piece. piece ≢ []) pieces.items }
 {
-    let link = PairLink::new(alloc, pieces, 0, Vec::new(alloc))?;
+    let link = PairLink::new(alloc, pieces, 0, Vec::new(alloc)).expect(rt, "memory");
     let mut stream = stream_over(alloc, link);
-    Ok(gives(alloc, &mut stream, frame))
+    let mut read = Vec::new(alloc);
+    let first = read_next(rt, &mut stream, &mut read);
+    let is_whole = *read.as_slice() == *behind(frame);
+    let second = read_next(rt, &mut stream, &mut read);
+    drop(stream);
+    first == Heard::Message && is_whole && second == Heard::Closed
 }
 
 /// Whether a frame that is cut at a place gives its message.
-fn is_read_when_cut(alloc: Global, frame: &[u8], at: usize) -> Result<bool, NoMemory> {
+fn is_read_when_cut(rt: &impl Abort, alloc: Global, frame: &[u8], at: usize) -> bool {
     let (front, back) = frame.split_at(at.min(frame.len()));
-    let pieces = pieces_of(alloc, &[front, back])?;
-    is_read(alloc, pieces, frame)
+    let pieces = pieces_of(rt, alloc, &[front, back]);
+    is_read(rt, alloc, pieces, frame)
 }
 
-/// Whether a frame gives its message, byte by byte.
-fn is_read_by_bytes(alloc: Global, frame: &[u8]) -> Result<bool, NoMemory> {
-    let pieces = single_bytes(alloc, frame)?;
-    is_read(alloc, pieces, frame)
-}
-
-/// A message of so many bytes, and at how many places in turn its frame is cut, each so many bytes behind the last.
-struct Cuts {
-    len: usize,
-    places: usize,
+/// Whether a frame gives its message, at whichever of so many places it is cut, each so far behind the last.
+fn is_read_at_each(
+    rt: &impl Abort,
+    alloc: Global,
+    frame: &[u8],
+    places: u32,
     apart: usize,
-}
-
-const CUTS: &[Cuts] = &[
-    Cuts {
-        len: 1,
-        places: 4,
-        apart: 1,
-    },
-    Cuts {
-        len: 300,
-        places: 303,
-        apart: 1,
-    },
-    Cuts {
-        len: 65_535,
-        places: 8,
-        apart: 9_362,
-    },
-];
-
-fn all_cuts() -> &'static [Cuts] {
-    CUTS
-}
-
-/// Whether a frame gives its message, at whichever of these places it is cut.
-fn is_read_at_each(alloc: Global, frame: &[u8], cuts: &Cuts) -> bool {
+) -> bool {
     let mut at: usize = 0;
-    for _ in 0..cuts.places {
-        if !matches!(is_read_when_cut(alloc, frame, at), Ok(true)) {
+    for _ in 0..places {
+        if !is_read_when_cut(rt, alloc, frame, at) {
             return false;
         }
-        at = at.saturating_add(cuts.apart);
+        at = at.saturating_add(apart);
     }
     true
 }
 
+/// A message of so many bytes, and at how many places in turn its frame is cut, each so many bytes behind the last.
+const CUTS: &[(u16, u32, usize)] = &[(1, 4, 1), (300, 303, 1), (65_535, 8, 9_362)];
+
 /// Whether a message of so many bytes is read at each cut, and byte by byte.
-fn is_carried(alloc: Global, cuts: &Cuts) -> Result<bool, NoMemory> {
-    let frame = framed(alloc, cuts.len)?;
-    Ok(is_read_at_each(alloc, &frame, cuts) && matches!(is_read_by_bytes(alloc, &frame), Ok(true)))
+fn is_carried(rt: &impl Abort, alloc: Global, row: &(u16, u32, usize)) -> bool {
+    let frame = framed(rt, alloc, row.0);
+    let pieces = single_bytes(rt, alloc, &frame);
+    is_read(rt, alloc, pieces, &frame) && is_read_at_each(rt, alloc, &frame, row.1, row.2)
 }
 
 #[test]
 fn frames_are_read_however_they_are_cut(rt: HostRuntime) {
-    for cuts in all_cuts() {
-        assert!(rt; matches!(is_carried(rt.alloc(), cuts), Ok(true)));
+    for row in CUTS {
+        check(
+            &rt,
+            "a frame is read however it is cut",
+            is_carried(&rt, rt.alloc(), row),
+        );
     }
 }
 
 /// So many frames of one byte.
-fn frames(alloc: Global, count: u32) -> Result<Vec<u8>, NoMemory> {
+fn frames(rt: &impl Abort, alloc: Global, count: u32) -> Vec<u8> {
     let mut bytes = Vec::new(alloc);
     for _ in 0..count {
-        bytes.extend_from_slice(&[0u8, 1, 7])?;
+        bytes.extend_from_slice(&[0u8, 1, 7]).expect(rt, "memory");
     }
-    Ok(bytes)
+    bytes
 }
 
-fn count_of<M>(messages: &Result<Vec<M>, NetError>) -> Result<usize, Option<IoKind>> {
+fn count_of(messages: &Result<Vec<Octets>, NetError>) -> Result<usize, Heard> {
     match messages {
         Ok(messages) => Ok(messages.len()),
-        Err(NetError::Io(kind)) => Err(Some(*kind)),
-        Err(_) => Err(None),
+        Err(error) => Err(heard_error(error)),
     }
 }
 
-/// How many messages pieces give, or the kind of the fault.
-fn counted(alloc: Global, pieces: Vec<Octets>) -> Result<usize, Option<IoKind>>
-    requires { All (λ piece. piece ≢ []) pieces.items }
-{
-    let messages = unframe(alloc, pieces);
-    let counted = count_of(&messages);
+/// How many messages bytes give that are cut into single bytes, or the fault.
+fn unframed(rt: &impl Abort, alloc: Global, bytes: &[u8]) -> Result<usize, Heard> {
+    let messages = unframe(alloc, single_bytes(rt, alloc, bytes));
+    let count = count_of(&messages);
     drop(messages);
-    counted
-}
-
-/// How many messages bytes give that are cut into single bytes, or the kind of the fault.
-fn unframed(alloc: Global, bytes: &[u8]) -> Result<usize, Option<IoKind>> {
-    match single_bytes(alloc, bytes) {
-        Ok(pieces) => counted(alloc, pieces),
-        Err(_) => Err(None),
-    }
-}
-
-/// Whether ten thousand frames give as many messages.
-fn are_unframed(alloc: Global) -> Result<bool, NoMemory> {
-    let bytes = frames(alloc, 10_000)?;
-    Ok(matches!(unframed(alloc, &bytes), Ok(10_000)))
+    count
 }
 
 #[test]
 fn ten_thousand_frames_are_unframed(rt: HostRuntime) {
-    assert!(rt; matches!(are_unframed(rt.alloc()), Ok(true)));
+    let bytes = frames(&rt, rt.alloc(), 10_000);
+    check(
+        &rt,
+        "each frame is one message",
+        unframed(&rt, rt.alloc(), &bytes) == Ok(10_000),
+    );
+    drop(bytes);
 }
 
 #[test]
 fn a_length_of_0_is_no_frame(rt: HostRuntime) {
-    let fault = unframed(rt.alloc(), &[0, 1, 7, 0, 0]);
-    assert!(rt; matches!(fault, Err(Some(IoKind::BrokenPipe))));
+    let fault = unframed(&rt, rt.alloc(), &[0, 1, 7, 0, 0]);
+    check(
+        &rt,
+        "a length of 0 is no frame",
+        fault == Err(Heard::Fault(IoKind::BrokenPipe)),
+    );
 }

@@ -1,100 +1,88 @@
-use crate::exchange_parts::{Heard, asked, response};
-use crate::stream_heard::{Heard as Told, read_next, write_all};
-use crate::stream_loopback_tests::{accepted, listener};
-use crate::stream_parts::{behind, put};
+use crate::exchange_parts::asked;
+use crate::heard::Heard;
+use crate::parts::{check, response_bytes};
+use crate::stream_heard::{read_next, write_all};
+use crate::stream_parts::put;
 use dns_exchange::TcpExchange;
 use dns_link::{Link, SocketDialer, SocketLink};
-use dns_mux::{Draws, RandDraws};
+use dns_mux::RandDraws;
 use dns_transport::TcpStream;
 use std::alloc::Global;
-use std::net;
-use std::net::{SocketAddr, TcpListener};
+use std::net::{Net, SocketAddr, TcpListener};
+use std::process::Abort;
 use std::thread::join;
 
 /// So many requests are sent over one connection.
 const REQUESTS: u32 = 1000;
 
-/// The id of the next message; none at the end, or where a read fails.
-fn next_id<L: Link + Drop>(alloc: Global, stream: &mut TcpStream<L>) -> Option<u16> {
-    let mut read = Vec::new(alloc);
-    if read_next(stream, &mut read) != Told::Message {
-        return None;
-    }
-    match read.as_slice() {
-        [high, low, ..] => Some(u16::from_be_bytes([*high, *low])),
-        _ => None,
+/// The response to a request.
+fn response_to(request: &[u8]) -> [u8; 12] {
+    match request {
+        [high, low, ..] => response_bytes(u16::from_be_bytes([*high, *low])),
+        _ => response_bytes(0),
     }
 }
 
-/// Sends a response to a request with an id, and tells whether it was written.
-fn is_replied<L: Link + Drop>(alloc: Global, stream: &mut TcpStream<L>, id: u16) -> bool {
-    let frame = response(id);
-    put(alloc, stream, behind(&frame)) && write_all(stream) == Told::Written
-}
-
-/// Answers the requests of one connection until it ends, and counts them.
-fn served<L: Link + Drop>(alloc: Global, stream: &mut TcpStream<L>) -> u32 {
-    let mut count: u32 = 0;
-    for _ in 0..REQUESTS {
-        match next_id(alloc, stream) {
-            Some(id) => {
-                if is_replied(alloc, stream, id) {
-                    count = count.saturating_add(1);
-                }
-            }
-            None => break,
-        }
-    }
-    count
-}
-
-/// Whether so many requests of a connection were answered.
-fn serve(alloc: Global, listener: &TcpListener) -> bool {
-    match accepted(alloc, listener) {
-        Some(mut stream) => served(alloc, &mut stream) == REQUESTS,
-        None => false,
-    }
-}
-
-/// How many of so many sends are answered.
-fn answered<L: Link + Drop, R: Draws + Drop>(
+/// Answers the requests of one connection, and counts them, until something else than a message is heard.
+fn served<L: Link + Drop>(
+    rt: &impl Abort,
     alloc: Global,
-    exchange: &mut TcpExchange<L, R>,
-) -> u32 {
+    stream: &mut TcpStream<L>,
+    read: &mut Vec<u8>,
+) -> (u32, Heard) {
     let mut count: u32 = 0;
-    for _ in 0..REQUESTS {
-        if matches!(asked(alloc, exchange), Heard::Id(_)) {
+    for _ in 0..2000u32 {
+        read.clear();
+        let heard = read_next(rt, stream, read);
+        if heard != Heard::Message {
+            return (count, heard);
+        }
+        put(rt, alloc, stream, &response_to(read));
+        if write_all(stream) == Heard::Written {
             count = count.saturating_add(1);
         }
     }
+    (count, Heard::More)
+}
+
+/// Serves one connection.
+fn serve(rt: &impl Abort, alloc: Global, listener: &TcpListener) -> (u32, Heard) {
+    let (socket, peer) = listener.accept().expect(rt, "a connection");
+    let (mut stream, _) = TcpStream::from_stream(alloc, SocketLink::new(socket), peer);
+    let mut read = Vec::new(alloc);
+    let served = served(rt, alloc, &mut stream, &mut read);
+    drop(stream);
+    served
+}
+
+/// How many of so many requests over one connection to a server are answered.
+fn answered<R: Net + Alloc<A = Global> + Abort>(rt: &R, server: SocketAddr) -> u32 {
+    let alloc = rt.alloc();
+    let mut dial = SocketDialer::new(rt);
+    let draws = RandDraws::from_seed(1);
+    let made = TcpExchange::connect(alloc, &mut dial, server, None, 5000, None, draws);
+    let mut exchange = made.ok().expect(rt, "a connection");
+    let mut count: u32 = 0;
+    for _ in 0..REQUESTS {
+        if matches!(asked(alloc, &mut exchange), Heard::Id(_)) {
+            count = count.saturating_add(1);
+        }
+    }
+    drop(exchange);
     count
 }
 
-/// An exchange with a server.
-fn dialed(
-    rt: &HostRuntime,
-    server: SocketAddr,
-) -> Option<TcpExchange<SocketLink<net::TcpStream>, RandDraws>> {
-    let mut dial = SocketDialer::new(rt);
-    let draws = RandDraws::from_seed(1);
-    TcpExchange::connect(rt.alloc(), &mut dial, server, None, 5000, None, draws).ok()
-}
-
-/// Whether all sends over one connection are answered.
-fn ask(rt: &HostRuntime, server: SocketAddr) -> bool {
-    match dialed(rt, server) {
-        Some(mut exchange) => answered(rt.alloc(), &mut exchange) == REQUESTS,
-        None => false,
-    }
-}
-
+/// The connection ends behind the last request.
 #[test]
 fn a_thousand_requests_are_answered_over_loopback(rt: HostRuntime) {
     let alloc = rt.alloc();
-    let made = listener(&rt);
-    assert!(rt; made.is_some());
-    if let Some((listener, addr)) = made {
-        let all = join(&rt, || serve(alloc, &listener), || ask(&rt, addr));
-        assert!(rt; matches!(all, (true, true)));
-    }
+    let listener = TcpListener::bind(&rt, "127.0.0.1:0").expect(&rt, "a listener");
+    let addr = listener.local_addr().expect(&rt, "an address");
+    let (served, answered) = join(&rt, || serve(&rt, alloc, &listener), || answered(&rt, addr));
+    check(
+        &rt,
+        "all are served, and then the connection ends",
+        served == (REQUESTS, Heard::Closed),
+    );
+    check(&rt, "all are answered", answered == REQUESTS);
 }

@@ -1,12 +1,14 @@
-use crate::stream_heard::{Heard, feed};
+use crate::heard::Heard;
+use crate::parts::check;
+use crate::stream_heard::feed;
 use crate::stream_parts::{link_of, stream_over};
 use dns_handle::IoKind;
 use dns_link::PairLink;
-use dns_name::NoMemory;
 use dns_transport::TcpStream;
 use std::alloc::Global;
+use std::process::Abort;
 
-/// Pieces that a link gives, what each call of `feed` is to answer, and the bytes of the messages that are given, one behind the other.
+/// Pieces that a link gives, what each call of `feed` is to answer, and the bytes of the messages that are given, in turn.
 struct Case {
     message: &'static str,
     pieces: &'static [&'static [u8]],
@@ -82,30 +84,33 @@ fn cases() -> &'static [Case] {
     CASES
 }
 
-/// Whether the calls of a stream answer what is expected.
-fn is_heard(alloc: Global, stream: &mut TcpStream<PairLink>, case: &Case) -> bool {
-    let mut read = Vec::new(alloc);
-    for expected in case.answers {
-        if feed(stream, &mut read) != *expected {
+/// Whether the calls of a stream answer what is expected, up to the first that doesn't.
+fn is_heard(
+    rt: &impl Abort,
+    stream: &mut TcpStream<PairLink>,
+    answers: &[Heard],
+    read: &mut Vec<u8>,
+) -> bool {
+    for expected in answers {
+        if feed(rt, stream, read) != *expected {
             return false;
         }
     }
-    *read.as_slice() == *case.given
+    true
 }
 
 /// Whether a case is as it says.
-fn holds(alloc: Global, case: &Case) -> Result<bool, NoMemory> {
-    let mut stream = stream_over(alloc, link_of(alloc, case.pieces)?);
-    Ok(is_heard(alloc, &mut stream, case))
+fn holds(rt: &impl Abort, alloc: Global, case: &Case) -> bool {
+    let mut stream = stream_over(alloc, link_of(rt, alloc, case.pieces));
+    let mut read = Vec::new(alloc);
+    let heard = is_heard(rt, &mut stream, case.answers, &mut read);
+    drop(stream);
+    heard && *read.as_slice() == *case.given
 }
 
 #[test]
 fn feed_answers_as_the_cases_say(rt: HostRuntime) {
     for case in cases() {
-        assert!(rt;
-            matches!(holds(rt.alloc(), case), Ok(true)),
-            "{}",
-            case.message
-        );
+        check(&rt, case.message, holds(&rt, rt.alloc(), case));
     }
 }

@@ -1,41 +1,23 @@
-//! What a stream answers, as a number of words: each reply with its error is let go at one place.
-use dns_handle::{IoKind, NetError};
+//! Calls of a stream, whose replies are let go at one place.
+use crate::heard::{Heard, heard_error};
+use dns_handle::NetError;
 use dns_link::Link;
 use dns_transport::{Feed, TcpStream};
-
-/// What a call of `feed` or `drain` answered. The message of a `feed` is put elsewhere.
-#[derive(Clone, Copy, PartialEq, Eq)]
-pub(crate) enum Heard {
-    More,
-    Message,
-    Closed,
-    Written,
-    Waiting,
-    Fault(IoKind),
-    Timeout,
-    Other,
-}
-
-/// What an error is heard as.
-pub(crate) fn heard_error(error: &NetError) -> Heard {
-    match error {
-        NetError::Io(kind) => Heard::Fault(*kind),
-        NetError::Timeout => Heard::Timeout,
-        _ => Heard::Other,
-    }
-}
+use std::process::Abort;
 
 /// What a reply of `feed` is heard as. The bytes of its message are put behind others.
-pub(crate) fn heard_feed(reply: &Result<Feed, NetError>, read: &mut Vec<u8>) -> Heard {
+pub(crate) fn heard_feed(
+    rt: &impl Abort,
+    reply: &Result<Feed, NetError>,
+    read: &mut Vec<u8>,
+) -> Heard {
     match reply {
         Ok(Feed::More) => Heard::More,
         Ok(Feed::Closed) => Heard::Closed,
         Ok(Feed::Message(message)) => {
-            if read.extend_from_slice(message.bytes.as_slice()).is_ok() {
-                Heard::Message
-            } else {
-                Heard::Other
-            }
+            let put = read.extend_from_slice(message.bytes.as_slice());
+            put.expect(rt, "memory");
+            Heard::Message
         }
         Err(error) => heard_error(error),
     }
@@ -51,9 +33,13 @@ pub(crate) fn heard_drain(reply: &Result<bool, NetError>) -> Heard {
 }
 
 /// Reads once.
-pub(crate) fn feed<L: Link + Drop>(stream: &mut TcpStream<L>, read: &mut Vec<u8>) -> Heard {
+pub(crate) fn feed<L: Link + Drop>(
+    rt: &impl Abort,
+    stream: &mut TcpStream<L>,
+    read: &mut Vec<u8>,
+) -> Heard {
     let reply = stream.feed();
-    let heard = heard_feed(&reply, read);
+    let heard = heard_feed(rt, &reply, read);
     drop(reply);
     heard
 }
@@ -67,14 +53,18 @@ pub(crate) fn drain<L: Link + Drop>(stream: &mut TcpStream<L>) -> Heard {
 }
 
 /// Reads until something else than a part of a message comes.
-pub(crate) fn read_next<L: Link + Drop>(stream: &mut TcpStream<L>, read: &mut Vec<u8>) -> Heard {
+pub(crate) fn read_next<L: Link + Drop>(
+    rt: &impl Abort,
+    stream: &mut TcpStream<L>,
+    read: &mut Vec<u8>,
+) -> Heard {
     for _ in 0..200_000u32 {
-        let heard = feed(stream, read);
+        let heard = feed(rt, stream, read);
         if heard != Heard::More {
             return heard;
         }
     }
-    Heard::Other
+    Heard::More
 }
 
 /// Writes until nothing is left, or something else is answered.
@@ -85,5 +75,5 @@ pub(crate) fn write_all<L: Link + Drop>(stream: &mut TcpStream<L>) -> Heard {
             return heard;
         }
     }
-    Heard::Other
+    Heard::Waiting
 }

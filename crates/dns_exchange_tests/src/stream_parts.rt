@@ -1,55 +1,52 @@
-ghost use Rattle.std.specs.Prelude.{◌≢◌, [], All, IfOk};
+ghost use Rattle.std.specs.Prelude.{◌≢◌, [], All};
 
+use crate::heard::{Heard, heard_made};
+use crate::parts::{check, server};
 use dns_link::{Link, PairLink};
 use dns_mux::{BufDnsStreamHandle, SerialMessage};
-use dns_name::{NoMemory, Octets};
+use dns_name::Octets;
 use dns_transport::TcpStream;
 use std::alloc::Global;
-use std::net::{IpAddr, Ipv4Addr, SocketAddr};
-
-/// The other side of the tests in memory.
-pub(crate) fn server() -> SocketAddr {
-    SocketAddr::new(IpAddr::V4(Ipv4Addr::new(192, 0, 2, 1)), 53)
-}
+use std::net::SocketAddr;
+use std::process::Abort;
 
 /// Puts bytes behind other pieces as one of their own, if there are any.
-fn push_piece(alloc: Global, pieces: &mut Vec<Octets>, bytes: &[u8]) -> Result<(), NoMemory>
+fn push_piece(rt: &impl Abort, alloc: Global, pieces: &mut Vec<Octets>, bytes: &[u8])
     requires { All (λ piece. piece ≢ []) pieces.old.items }
     ensures { All (λ piece. piece ≢ []) pieces.new.items }
 {
-    let piece = Octets::from_slice(alloc, bytes)?;
-    if !piece.is_empty() {
-        pieces.push(piece)?;
+    if !bytes.is_empty() {
+        let piece = Octets::from_slice(alloc, bytes).expect(rt, "memory");
+        pieces.push(piece).expect(rt, "memory");
     }
-    Ok(())
 }
 
 /// Bytes as pieces; those without a byte are left out.
-pub(crate) fn pieces_of(alloc: Global, parts: &[&[u8]]) -> Result<Vec<Octets>, NoMemory>
-    ensures { IfOk result (λ pieces. All (λ piece. piece ≢ []) pieces.items) }
+pub(crate) fn pieces_of(rt: &impl Abort, alloc: Global, parts: &[&[u8]]) -> Vec<Octets>
+    ensures { All (λ piece. piece ≢ []) result.items }
 {
     let mut pieces = Vec::new(alloc);
     for part in parts {
-        push_piece(alloc, &mut pieces, part)?;
+        push_piece(rt, alloc, &mut pieces, part);
     }
-    Ok(pieces)
+    pieces
 }
 
 /// Bytes as pieces of one byte each.
-pub(crate) fn single_bytes(alloc: Global, bytes: &[u8]) -> Result<Vec<Octets>, NoMemory>
-    ensures { IfOk result (λ pieces. All (λ piece. piece ≢ []) pieces.items) }
+pub(crate) fn single_bytes(rt: &impl Abort, alloc: Global, bytes: &[u8]) -> Vec<Octets>
+    ensures { All (λ piece. piece ≢ []) result.items }
 {
     let mut pieces = Vec::new(alloc);
     for byte in bytes {
-        push_piece(alloc, &mut pieces, &[*byte])?;
+        push_piece(rt, alloc, &mut pieces, &[*byte]);
     }
-    Ok(pieces)
+    pieces
 }
 
 /// A link in memory that gives these pieces and takes a hundred bytes.
-pub(crate) fn link_of(alloc: Global, parts: &[&[u8]]) -> Result<PairLink, NoMemory> {
-    let pieces = pieces_of(alloc, parts)?;
-    PairLink::new(alloc, pieces, 100, Vec::new(alloc))
+pub(crate) fn link_of(rt: &impl Abort, alloc: Global, parts: &[&[u8]]) -> PairLink {
+    let pieces = pieces_of(rt, alloc, parts);
+    PairLink::new(alloc, pieces, 100, Vec::new(alloc)).expect(rt, "memory")
 }
 
 /// A stream over a link to the server.
@@ -58,44 +55,56 @@ pub(crate) fn stream_over<L: Link + Drop>(alloc: Global, link: L) -> TcpStream<L
     stream
 }
 
-/// Puts a message of these bytes into a stream's queue by a handle, and tells whether it took it. One without a byte isn't put.
+/// A message of these bytes for the server, of which there is one at least.
+pub(crate) fn message_of(rt: &impl Abort, alloc: Global, bytes: &[u8]) -> SerialMessage
+    ensures { result.bytes ≢ [] }
+{
+    check(rt, "a message has a byte", !bytes.is_empty());
+    SerialMessage {
+        bytes: Octets::from_slice(alloc, bytes).expect(rt, "memory"),
+        addr: server(),
+    }
+}
+
+/// Puts a message of these bytes into a stream's queue by a handle, and tells whether it took it.
 pub(crate) fn put_by<L: Link + Drop>(
+    rt: &impl Abort,
     alloc: Global,
     stream: &mut TcpStream<L>,
     handle: &mut BufDnsStreamHandle,
     bytes: &[u8],
 ) -> bool {
-    let Ok(bytes) = Octets::from_slice(alloc, bytes) else {
-        return false;
-    };
-    let message = SerialMessage {
-        bytes,
-        addr: server(),
-    };
-    if message.bytes.is_empty() {
-        return false;
-    }
-    let put = stream.enqueue(handle, message);
-    let held = put.is_ok();
+    let put = stream.enqueue(handle, message_of(rt, alloc, bytes));
+    let held = heard_made(&put) == Heard::Made;
     drop(put);
     held
 }
 
-/// The same by a handle of the usual size to an address.
+/// Puts it there by a handle of the usual size to an address.
 pub(crate) fn put_to<L: Link + Drop>(
+    rt: &impl Abort,
     alloc: Global,
     stream: &mut TcpStream<L>,
     addr: SocketAddr,
     bytes: &[u8],
-) -> bool {
+) {
     let (mut handle, _) = BufDnsStreamHandle::new(alloc, addr);
-    put_by(alloc, stream, &mut handle, bytes)
+    check(
+        rt,
+        "a message is taken",
+        put_by(rt, alloc, stream, &mut handle, bytes),
+    );
 }
 
 /// The same to the other side.
-pub(crate) fn put<L: Link + Drop>(alloc: Global, stream: &mut TcpStream<L>, bytes: &[u8]) -> bool {
+pub(crate) fn put<L: Link + Drop>(
+    rt: &impl Abort,
+    alloc: Global,
+    stream: &mut TcpStream<L>,
+    bytes: &[u8],
+) {
     let addr = stream.peer_addr();
-    put_to(alloc, stream, addr, bytes)
+    put_to(rt, alloc, stream, addr, bytes);
 }
 
 /// What stands behind the length in a frame.

@@ -1,6 +1,8 @@
-use crate::script::{Given, Refusal, Script, Step, steps_played};
+use crate::heard::Heard;
+use crate::parts::check;
+use crate::script::{Script, Step, steps_played};
 use dns_handle::IoKind;
-use dns_mux::Arrival;
+use dns_mux::{Arrival, RequestId};
 
 const SCRIPTS: &[Script] = &[
     Script {
@@ -9,10 +11,10 @@ const SCRIPTS: &[Script] = &[
         size: 32,
         ids: &[7, 8],
         steps: &[
-            Step::Sends(0, 0),
-            Step::Refuses(Refusal::Busy),
+            Step::Sends(0, Ok(0)),
+            Step::Sends(0, Err(Heard::Busy)),
             Step::Cancels(0),
-            Step::Sends(0, 1),
+            Step::Sends(0, Ok(1)),
         ],
     },
     Script {
@@ -20,14 +22,14 @@ const SCRIPTS: &[Script] = &[
         maximum: 0,
         size: 32,
         ids: &[7],
-        steps: &[Step::Refuses(Refusal::Busy), Step::Pops(None)],
+        steps: &[Step::Sends(0, Err(Heard::Busy)), Step::Pops(None)],
     },
     Script {
         message: "a hundred ids of a live request exhaust the ids",
         maximum: 32,
         size: 32,
         ids: &[7; 101],
-        steps: &[Step::Sends(0, 0), Step::Refuses(Refusal::Exhausted)],
+        steps: &[Step::Sends(0, Ok(0)), Step::Sends(0, Err(Heard::Exhausted))],
     },
     Script {
         message: "ninety-nine and another one don't",
@@ -35,8 +37,8 @@ const SCRIPTS: &[Script] = &[
         size: 32,
         ids: NINETY_NINE,
         steps: &[
-            Step::Sends(0, 0),
-            Step::Sends(0, 1),
+            Step::Sends(0, Ok(0)),
+            Step::Sends(0, Ok(1)),
             Step::Pops(Some(7)),
             Step::Pops(Some(8)),
             Step::Pops(None),
@@ -48,10 +50,10 @@ const SCRIPTS: &[Script] = &[
         size: 0,
         ids: &[7, 8, 9],
         steps: &[
-            Step::Sends(0, 0),
-            Step::Refuses(Refusal::QueueFull),
+            Step::Sends(0, Ok(0)),
+            Step::Sends(0, Err(Heard::QueueFull)),
             Step::Pops(Some(7)),
-            Step::Sends(0, 1),
+            Step::Sends(0, Ok(1)),
             Step::Pops(Some(9)),
             Step::Arrives(8, Arrival::Stranger),
         ],
@@ -62,10 +64,10 @@ const SCRIPTS: &[Script] = &[
         size: 32,
         ids: &[7, 8],
         steps: &[
-            Step::Long(65513, false),
-            Step::Long(65512, true),
+            Step::Long(65513, Err(Heard::TooLong)),
+            Step::Long(65512, Ok(0)),
             Step::Echoes(0),
-            Step::Takes(0, Given::Response(8)),
+            Step::Takes(0, Heard::Id(8)),
         ],
     },
     Script {
@@ -74,13 +76,13 @@ const SCRIPTS: &[Script] = &[
         size: 32,
         ids: &[7],
         steps: &[
-            Step::Sends(0, 0),
+            Step::Sends(0, Ok(0)),
             Step::Ticks(4999),
-            Step::Queues(7, 0),
+            Step::Arrives(7, Arrival::Queued(RequestId(0))),
             Step::Ticks(5000),
             Step::Arrives(7, Arrival::Stranger),
-            Step::Takes(0, Given::Response(7)),
-            Step::Takes(0, Given::Ended),
+            Step::Takes(0, Heard::Id(7)),
+            Step::Takes(0, Heard::Ended),
         ],
     },
     Script {
@@ -89,27 +91,27 @@ const SCRIPTS: &[Script] = &[
         size: 32,
         ids: &[7, 7],
         steps: &[
-            Step::Sends(0, 0),
-            Step::Queues(7, 0),
-            Step::Queues(7, 0),
-            Step::Queues(7, 0),
-            Step::Queues(7, 0),
-            Step::Queues(7, 0),
-            Step::Queues(7, 0),
-            Step::Queues(7, 0),
-            Step::Queues(7, 0),
-            Step::Queues(7, 0),
+            Step::Sends(0, Ok(0)),
+            Step::Arrives(7, Arrival::Queued(RequestId(0))),
+            Step::Arrives(7, Arrival::Queued(RequestId(0))),
+            Step::Arrives(7, Arrival::Queued(RequestId(0))),
+            Step::Arrives(7, Arrival::Queued(RequestId(0))),
+            Step::Arrives(7, Arrival::Queued(RequestId(0))),
+            Step::Arrives(7, Arrival::Queued(RequestId(0))),
+            Step::Arrives(7, Arrival::Queued(RequestId(0))),
+            Step::Arrives(7, Arrival::Queued(RequestId(0))),
+            Step::Arrives(7, Arrival::Queued(RequestId(0))),
             Step::Arrives(7, Arrival::Full),
-            Step::Takes(0, Given::Response(7)),
-            Step::Queues(7, 0),
+            Step::Takes(0, Heard::Id(7)),
+            Step::Arrives(7, Arrival::Queued(RequestId(0))),
             Step::Cancels(0),
             Step::Arrives(7, Arrival::Stranger),
-            Step::Takes(0, Given::Ended),
-            Step::Sends(1, 1),
-            Step::Queues(7, 1),
-            Step::Takes(0, Given::Ended),
-            Step::Takes(1, Given::Response(7)),
-            Step::Takes(1, Given::Pending),
+            Step::Takes(0, Heard::Ended),
+            Step::Sends(1, Ok(1)),
+            Step::Arrives(7, Arrival::Queued(RequestId(1))),
+            Step::Takes(0, Heard::Ended),
+            Step::Takes(1, Heard::Id(7)),
+            Step::Takes(1, Heard::Pending),
         ],
     },
     Script {
@@ -118,16 +120,16 @@ const SCRIPTS: &[Script] = &[
         size: 32,
         ids: &[7, 8],
         steps: &[
-            Step::Sends(0, 0),
-            Step::Sends(0, 1),
-            Step::Queues(8, 1),
+            Step::Sends(0, Ok(0)),
+            Step::Sends(0, Ok(1)),
+            Step::Arrives(8, Arrival::Queued(RequestId(1))),
             Step::Closes(IoKind::UnexpectedEof),
-            Step::Takes(0, Given::Fault(IoKind::UnexpectedEof)),
-            Step::Takes(0, Given::Ended),
-            Step::Takes(1, Given::Response(8)),
-            Step::Takes(1, Given::Fault(IoKind::UnexpectedEof)),
-            Step::Takes(1, Given::Ended),
-            Step::Takes(2, Given::Ended),
+            Step::Takes(0, Heard::Fault(IoKind::UnexpectedEof)),
+            Step::Takes(0, Heard::Ended),
+            Step::Takes(1, Heard::Id(8)),
+            Step::Takes(1, Heard::Fault(IoKind::UnexpectedEof)),
+            Step::Takes(1, Heard::Ended),
+            Step::Takes(2, Heard::Ended),
         ],
     },
 ];
@@ -148,11 +150,7 @@ fn scripts() -> &'static [Script] {
 fn calls_are_answered_as_the_scripts_say(rt: HostRuntime) {
     let alloc = rt.alloc();
     for script in scripts() {
-        let played = steps_played(alloc, script);
-        assert!(rt;
-            matches!(played, Ok(n) if n == script.steps.len()),
-            "{}",
-            script.message
-        );
+        let played = steps_played(&rt, alloc, script);
+        check(&rt, script.message, played == script.steps.len());
     }
 }

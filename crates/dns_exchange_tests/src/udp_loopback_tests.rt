@@ -1,0 +1,123 @@
+ghost use Rattle.std.specs.Prelude.{◌≤◌, length};
+
+use crate::parts::{ASKED, check, request_of};
+use dns_handle::{DnsResponse, NetError};
+use dns_link::SocketDialer;
+use dns_mux::RandDraws;
+use dns_udp::UdpClientStream;
+use std::alloc::Global;
+use std::net::{Net, SocketAddr, UdpSocket};
+use std::process::Abort;
+use std::thread;
+use std::thread::Threads;
+use std::time::Duration;
+
+/// A socket of this machine, which waits five seconds for a datagram.
+fn bound<R: Net + Abort>(rt: &R) -> UdpSocket {
+    let socket = UdpSocket::bind(rt, "127.0.0.1:0").expect(rt, "a socket");
+    let waits = socket.set_read_timeout(Some(Duration::from_secs(5)));
+    waits.expect(rt, "a time to wait");
+    socket
+}
+
+/// What a server does before it answers.
+#[derive(Clone, Copy, PartialEq, Eq)]
+enum Before {
+    /// It leaves the first request unanswered.
+    LetsOneGo,
+    /// The same answer comes from another port.
+    AnswersElsewhere,
+}
+
+/// The request as a response.
+fn reply(bytes: &mut [u8]) {
+    if bytes.len() > 2 {
+        bytes[2] = 0x81;
+    }
+}
+
+/// The next request: its length, and where it came from.
+fn request_to(rt: &impl Abort, socket: &UdpSocket, buf: &mut [u8]) -> (usize, SocketAddr)
+    ensures { result.0 ≤ length buf.new }
+{
+    socket.recv_from(buf).expect(rt, "a request")
+}
+
+fn answer(rt: &impl Abort, socket: &UdpSocket, bytes: &[u8], to: SocketAddr) {
+    let sent = socket.send_to(bytes, to).expect(rt, "an answer");
+    check(rt, "an answer is sent whole", sent == bytes.len());
+}
+
+/// Serves one client, by a socket and one with another port.
+fn serve(rt: &impl Abort, socket: &UdpSocket, other: &UdpSocket, before: Before) {
+    let mut buf = [0u8; 64];
+    if before == Before::LetsOneGo {
+        let _ = request_to(rt, socket, &mut buf);
+    }
+    let (len, from) = request_to(rt, socket, &mut buf);
+    reply(&mut buf);
+    let bytes = &buf[..len];
+    if before == Before::AnswersElsewhere {
+        answer(rt, other, bytes, from);
+        thread::yield_now();
+    }
+    answer(rt, socket, bytes, from);
+}
+
+/// Whether the answer has the request's id and is a response.
+fn is_answer(reply: &Result<DnsResponse, NetError>) -> bool {
+    match reply {
+        Ok(DnsResponse { message, .. }) => {
+            message.id == 1 && message.response && message.queries.len() == 1
+        }
+        Err(_) => false,
+    }
+}
+
+/// Whether a server's answer to a request comes.
+fn is_answered<R: Net + Alloc<A = Global> + Abort>(rt: &R, server: SocketAddr) -> bool {
+    let alloc = rt.alloc();
+    let request = request_of(rt, alloc, ASKED);
+    let mut dial = SocketDialer::new(rt);
+    let mut draws = RandDraws::from_seed(5);
+    let mut stream = UdpClientStream::builder(alloc, server)
+        .with_os_port_selection(true)
+        .build();
+    let reply = stream.send_message(alloc, &mut dial, &mut draws, &request);
+    drop(request);
+    let held = is_answer(&reply);
+    drop(reply);
+    drop(stream);
+    held
+}
+
+/// Whether a server of this machine is heard.
+fn is_served<R: Net + Alloc<A = Global> + Threads + Abort + Sync>(rt: &R, before: Before) -> bool {
+    let socket = bound(rt);
+    let other = bound(rt);
+    let addr = socket.local_addr().expect(rt, "an address");
+    let (_, answered) = thread::join(
+        rt,
+        || serve(rt, &socket, &other, before),
+        || is_answered(rt, addr),
+    );
+    answered
+}
+
+#[test]
+fn a_late_server_is_heard(rt: HostRuntime) {
+    check(
+        &rt,
+        "a late server is heard",
+        is_served(&rt, Before::LetsOneGo),
+    );
+}
+
+#[test]
+fn an_answer_from_another_port_is_passed_over(rt: HostRuntime) {
+    check(
+        &rt,
+        "an answer from another port is passed over",
+        is_served(&rt, Before::AnswersElsewhere),
+    );
+}
