@@ -99,6 +99,14 @@ def audit_of_a_hundred_chains():
     return session + report, b"".join(b"chain %d yes\n" % place for place in range(report.count(b"\nchain "))), 0, b"audit\n"
 
 
+def audit_of_a_long_report():
+    """A report with 20,000 lines of one kind and another, in which nothing holds, behind its session."""
+    many = 20_000
+    lines = ["dns-report 1", "code 0", "denial none", *["answer . IN A 0 bogus 0a"] * many, f"chain answer {many}", *["keyset . IN 0 0a 1 -"] * many,
+             "trail 1", "step 0 judged . A", "got 0", *["set answer . A bogus table - deep many 0"] * many, "ending none", "end"]
+    return by_one_key([root_servers()]) + "".join(one + "\n" for one in lines).encode(), b"chain 0 no\ntrail no\n", 0, b"audit\n"
+
+
 def asked_of_a_hundred_sets():
     """The questions of as many signed sets, in their order."""
     session, _, _ = hundred_chains()
@@ -342,7 +350,7 @@ def line_with_a_word_of_300_letters():
     return with_bad_line("r" * 300 + " . A -", ["moment 1", "algorithms", "query . A"])
 
 
-MADE = (forty_keys, sixty_links, two_hundred_sets, hundred_chains, audit_of_a_hundred_chains, asked_of_a_hundred_sets, more_sends_than_are_made, name_of_127_labels,
+MADE = (forty_keys, sixty_links, two_hundred_sets, hundred_chains, audit_of_a_hundred_chains, audit_of_a_long_report, asked_of_a_hundred_sets, more_sends_than_are_made, name_of_127_labels,
         longest_message, thousand_anchors, longest_input, input_of_a_byte_too_many, line_of_sixteen_mebibytes,
         asks_that_are_refused, searches_past_the_last_send, walk.four_hundred_copies_of_a_key,
         walk.four_hundred_copies_and_no_other, walk.ds_ask_past_the_last_send, walk.deepest_keys_beside_their_own_ds,

@@ -1,7 +1,8 @@
-"""Lines of sessions: which can stand at which place, and the number of the first bad line of a text. `tools/run_rows` runs each on
-the program.
+"""Lines of sessions and of reports: which can stand at which place, and the number of the first bad line of a text. `tools/run_rows` runs
+each on the program.
 
-The forms are those of docs/FORMATS.md. A text without a bad line comes to a report or to a fault."""
+The forms are those of docs/FORMATS.md. A session without a bad line comes to a report or to a fault; a report behind its session is
+audited."""
 
 VERSIONS = ("dns-session 1\n", "dns-session 2\n")
 # what stands before a line and behind it, its number, lines that can stand there, and lines that can't
@@ -137,6 +138,78 @@ TAILS = (
     )),
 )
 
+# the report behind a session, with the number of its first bad line, or 0
+REPORTS = (
+    (0, (
+        "dns-report 1\ncode 65535\ndenial none\nend\n",
+        "dns-report 1\ncode 3\ndenial expanded insecure\nend\n",
+        "dns-report 1\ncode 0\ndenial none\nanswer a IN TXT 4294967295 indeterminate -\n"
+        "authority \\065.b. CH TYPE3 0 bogus 0a\nadditional . CLASS7 A 0 insecure 0a\nend\n",
+        "dns-report 1\ncode 0\ndenial none\nchain answer 3\nanchored . IN 0101030daabb\n"
+        "keyset . IN 0 0101030daabb 4294967295 -\nsigned . IN NS 1 0101030daabb 00020d 016100 -\nchain authority 0\n"
+        "chain additional 2\nmatched a. CH aa 7 bb\nkeyset . IN\nend\n",
+        "dns-report 1\ncode 0\ndenial none\ntrail 0\nend\n",
+        "dns-report 1\ncode 0\ndenial none\ntrail 3\nstep 1 judged . DNSKEY\ngot 0\n"
+        "told answer . IN DNSKEY 3600 0101030daabb\ntold authority . IN DNSKEY 3600 -\nset answer . DNSKEY secure table -\n"
+        "set authority . DNSKEY secure repeat-7 0 deep many 4294967295\nending foreign a. CH A 1 deep\n"
+        "step 65535 ns a TYPE7\ngot fault\nending denied bogus\nstep 0 judged . NS\ngot 3 empty\n"
+        "set additional b DS insecure cache -\nending seen\nend\n",
+        "dns-report 1\ncode 3\ndenial absent bogus\n"
+        "answer \\000a\\.b\\032\\\\.Example. IN TYPE65280 3600 indeterminate 0161\nchain authority 1\n"
+        "anchored \\200z.Example. IN 0aff\nend\n",
+        "dns-report 1\ncode 0\ndenial none\ntrail 3\nstep 1 judged Example. A\ngot 0\n"
+        "ending foreign x.Example. CH TYPE65280 1 many\nstep 1 judged Example. DS\ngot 4095\n"
+        "told additional Example. IN A 3600 01020304\nset additional Example. A indeterminate cache 4294967295\n"
+        "ending denied indeterminate\nstep 0 judged Example. SOA\ngot 0 empty\ntold answer Example. IN A 3600 -\n"
+        "told authority Example. IN NS 3600 00\nset authority Example. NS bogus repeat-3 - 3 deep many\n"
+        "ending expanded insecure 2 deep\nend\n",
+    )),
+    (1, (
+        "",
+        "dns-report 1",
+        "dns-report 2\n",
+    )),
+    (2, (
+        "dns-report 1\ncode 65536\ndenial none\nend\n",
+        "dns-report 1\ncode 00\ndenial none\nend\n",
+    )),
+    (3, (
+        "dns-report 1\ncode 0\ndenial none \nend\n",
+        "dns-report 1\ncode 0\ndenial absent\nend\n",
+    )),
+    (4, (
+        "dns-report 1\ncode 0\ndenial none\nanswer . IN NS 0 bogus 0A\nend\n",
+        "dns-report 1\ncode 0\ndenial none\nanswer . IN NS 4294967296 bogus 0a\nend\n",
+        "dns-report 1\ncode 0\ndenial none\nanswer . IN TYPE1 0 bogus 0a\nend\n",
+        "dns-report 1\ncode 0\ndenial none\nanswer . IN A 0 bogus 0a 0b\nend\n",
+        "dns-report 1\ncode 0\ndenial none\nchain answer 4294967296\nend\n",
+    )),
+    (5, (
+        "dns-report 1\ncode 0\ndenial none\nend\n\n",
+        "dns-report 1\ncode 0\ndenial none\nadditional . IN A 0 bogus 0a\nanswer . IN A 0 bogus 0a\nend\n",
+        "dns-report 1\ncode 0\ndenial none\nchain answer 0\nanchored . IN aa\nend\n",
+        "dns-report 1\ncode 0\ndenial none\nchain answer 1\nkeyset . IN 0\nend\n",
+        "dns-report 1\ncode 0\ndenial none\ntrail 0\ntrail 0\nend\n",
+        "dns-report 1\ncode 0\ndenial none\ntrail 1\nstep 0 seen . NS\ngot 0\nending failed\nend\n",
+    )),
+    (6, (
+        "dns-report 1\ncode 0\ndenial none\nchain answer 2\nanchored . IN aa\nend\n",
+        "dns-report 1\ncode 0\ndenial none\ntrail 1\nstep 0 judged . NS\ngot 0 full\nending failed\nend\n",
+    )),
+    (7, (
+        "dns-report 1\ncode 0\ndenial none\ntrail 1\nstep 0 judged . NS\ngot fault\ntold answer . IN DNSKEY 3600 aa\n"
+        "ending failed\nend\n",
+        "dns-report 1\ncode 0\ndenial none\ntrail 1\nstep 0 ns . NS\ngot 0\nending absent bogus -\nend\n",
+        "dns-report 1\ncode 0\ndenial none\ntrail 1\nstep 0 ns . NS\ngot 0\nset answer . NS secure table 0 00\nending none\n"
+        "end\n",
+    )),
+    (8, (
+        "dns-report 1\ncode 0\ndenial none\ntrail 2\nstep 0 ns . NS\ngot 0\nending none\nend\n",
+    )),
+)
+SESSION = ("dns-session 1\nmoment 1000\nalgorithms 13\nanchor . 13 aabb\n"
+           "accept 13 aabb 00020d0000000e10000007d000000384aec900000002000100000e100003016100 c0de\nquery . NS\n"
+           "reply . DNSKEY 0000840000010001000000000000300001000030000100000e1000060101030daabb\nfault . NS busy\nend\n")
 
 def at(place, version=""):
     """The texts of a place, each with the number of its first bad line."""
@@ -153,3 +226,9 @@ def texts():
         yield from at(REPLIES, version)
         yield from ((f"{version}moment 1\nalgorithms\n{text}", number) for number, ends in TAILS for text in ends)
     yield from ((text, number) for number, whole in TEXTS for text in whole)
+
+
+def reports():
+    """Each report behind a session, with the number of its first bad line from the session's first, 0 where there is none."""
+    front = SESSION.count("\n")
+    yield from ((SESSION + text, number and front + number) for number, ends in REPORTS for text in ends)
