@@ -1,4 +1,5 @@
-//! Words that are the address of a server, and words that are none.
+//! Words that are the address of a server. `tools/run_asks` gives the program words that are none.
+use crate::rows::check_held;
 use dns_asking::ServerAddress;
 
 /// A word, and the octets and the port of the address that it is.
@@ -11,46 +12,17 @@ const ROWS: &[Row] = &[
     Row("10.20.30.40:5300", 10, 20, 30, 40, 5300),
 ];
 
+fn is_read(row: &Row) -> bool {
+    let address = ServerAddress {
+        octets: [row.1, row.2, row.3, row.4],
+        port: row.5,
+    };
+    ServerAddress::read(row.0.as_bytes()) == Some(address)
+}
+
 #[test]
 fn words_are_addresses(rt: HostRuntime) {
     for row in ROWS {
-        let address = ServerAddress {
-            octets: [row.1, row.2, row.3, row.4],
-            port: row.5,
-        };
-        let word = row.0;
-        assert!(rt;
-            ServerAddress::read(word.as_bytes()) == Some(address),
-            "{word}"
-        );
-    }
-}
-
-const NONE: &[&str] = &[
-    "1.2.3.4:0",
-    "01.2.3.4:53",
-    "1.2.3.00:53",
-    "1.2.3.4:065",
-    "256.1.1.1:53",
-    "1.2.3.4",
-    "1.2.3.4:",
-    "1.2.3.4:65536",
-    "1.2.3:53",
-    "1.2.3.4.5:53",
-    "1.2..4:53",
-    "1.2.3.4:53:53",
-    " 1.2.3.4:53",
-    "1.2.3.4:+53",
-    "-1.2.3.4:53",
-    "::1:53",
-    "[::1]:53",
-    "localhost:53",
-    "",
-];
-
-#[test]
-fn other_words_are_none(rt: HostRuntime) {
-    for word in NONE {
-        assert!(rt; ServerAddress::read(word.as_bytes()).is_none(), "{word}");
+        check_held(&rt, row.0, is_read(row));
     }
 }

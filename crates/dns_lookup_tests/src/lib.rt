@@ -1,23 +1,39 @@
-//! Tests of lookups: what a lookup and a whole request send and refuse, replies by turn, and lookups below
-//! nested zones; and of the texts beside them,
-//! sessions and reports.
+//! Tests of lookups: what a lookup and a whole request send and refuse; replies by turn; validations that are driven by hand, which
+//! answer as lookups do; sets that are kept, and served from what was kept; how often the verifier is asked; and the code of
+//! docs/LIBRARY.md.
+//!
+//! They stand apart, since a crate with tests of its own is proved twice.
 #![tactic(auto)]
 
 #[cfg(test)]
-mod answer_rows;
+mod cached_tests;
+#[cfg(test)]
+mod driven_tests;
+#[cfg(test)]
+mod expiry_tests;
+#[cfg(test)]
+mod given;
+#[cfg(test)]
+mod iteration_tests;
+#[cfg(test)]
+mod kept_tests;
+#[cfg(test)]
+mod large_tests;
+#[cfg(test)]
+mod library_tests;
 #[cfg(test)]
 mod lookup_tests;
 #[cfg(test)]
-mod nested_zone_tests;
-#[cfg(test)]
-mod report_tests;
+mod question_tests;
 #[cfg(test)]
 mod request_tests;
 #[cfg(test)]
 mod rows;
 #[cfg(test)]
-mod session_tests;
+mod scenes;
 #[cfg(test)]
-mod session_texts;
+mod served_tests;
+#[cfg(test)]
+mod side_by_side_tests;
 #[cfg(test)]
 mod turn_tests;

@@ -1,71 +1,74 @@
 //! Replies by turn, over several lookups. The rows of `rows/` have the trails of single ones.
-use crate::lookup_tests::{KEY_SET, Keeping, Recording, handle_over, is_answered, is_denied};
-use crate::rows::check_row;
-use dns_evidence::Listed;
-use dns_lookup::DnssecDnsHandle;
-use dns_net::{NetError, Recorded};
-use dns_record::RecordType;
+use crate::given::{Answer, MOMENT, ask, put_message};
+use crate::lookup_tests::handle_over;
+use crate::rows::check_held;
+use dns_chain::{NetError, Proof, RecordType};
+use dns_net::{DnsError, Recorded};
 use std::alloc::Global;
 
-/// No key of the root, and then its key set.
-const KEYS: [Recording; 2] = [
-    Recording {
-        name: ".",
-        query_type: RecordType::DNSKEY,
-        message: b"\0\0\x84\0\0\x01\0\0\0\0\0\0\0\0\x30\0\x01",
-    },
-    Recording {
-        name: ".",
-        query_type: RecordType::DNSKEY,
-        message: KEY_SET,
-    },
-];
+/// No key of the root.
+const NO_KEY: &[u8] = b"\0\0\x84\0\0\x01\0\0\0\0\0\0\0\0\x30\0\x01";
 
-fn keys() -> &'static [Recording; 2] {
-    &KEYS
+/// Its key set.
+const KEY_SET: &[u8] =
+    b"\0\0\x84\0\0\x01\0\x01\0\0\0\0\0\0\x30\0\x01\0\0\x30\0\x01\0\0\x0e\x10\0\x06\x01\x01\x03\x0d\xaa\xbb";
+
+/// What a lookup comes to.
+#[derive(Clone, Copy, PartialEq, Eq)]
+enum End {
+    /// The keys are answered.
+    Keys,
+    /// Nothing is answered, and nothing shows that there are no keys.
+    BogusDenial,
+    Other,
 }
 
-// The keys of the root are answered.
-fn has_keys(alloc: Global, handle: &mut DnssecDnsHandle<Keeping, Listed>) -> bool {
-    is_answered(alloc, handle, &keys()[0])
+fn end_of(answer: &Answer) -> End {
+    match answer {
+        Ok(_) => End::Keys,
+        Err(NetError::Dns(DnsError::Nsec { proof, .. })) => end_by(*proof),
+        Err(_) => End::Other,
+    }
 }
 
-// Nothing is answered, and nothing shows that there are no keys.
-fn is_bogus_denial(alloc: Global, handle: &mut DnssecDnsHandle<Keeping, Listed>) -> bool {
-    is_denied(alloc, handle, &keys()[0])
+fn end_by(proof: Proof) -> End {
+    match proof {
+        Proof::Bogus => End::BogusDenial,
+        _ => End::Other,
+    }
 }
 
-/// Three lookups of the keys, one after another, by turn: the first is denied, and the others have the keys.
-fn are_later(alloc: Global) -> Result<bool, NetError> {
-    let mut handle = handle_over(alloc, Recorded::in_turn(alloc), keys())?;
-    Ok(
-        is_bogus_denial(alloc, &mut handle)
-            && has_keys(alloc, &mut handle)
-            && has_keys(alloc, &mut handle),
-    )
-}
-
-/// The same by the first reply: each is denied.
-fn are_denied(alloc: Global) -> Result<bool, NetError> {
-    let mut handle = handle_over(alloc, Recorded::new(alloc), keys())?;
-    Ok(
-        is_bogus_denial(alloc, &mut handle)
-            && is_bogus_denial(alloc, &mut handle)
-            && is_bogus_denial(alloc, &mut handle),
-    )
+/// The lookups of the keys, one after another over such replies, end so.
+fn end_so(alloc: Global, replies: Recorded, ends: &[End]) -> bool {
+    let mut replies = replies;
+    let _ = put_message(alloc, &mut replies, ".", RecordType::DNSKEY, NO_KEY);
+    let _ = put_message(alloc, &mut replies, ".", RecordType::DNSKEY, KEY_SET);
+    let Some(mut handle) = handle_over(alloc, replies) else {
+        return false;
+    };
+    let mut held = true;
+    for end in ends {
+        let answer = ask(alloc, &mut handle, ".", RecordType::DNSKEY, 26, MOMENT);
+        held = held && end_of(&answer) == *end;
+        drop(answer);
+    }
+    drop(handle);
+    held
 }
 
 #[test]
 fn replies_are_taken_by_turn_or_the_first_again(rt: HostRuntime) {
     let alloc = rt.alloc();
-    check_row(
+    let ends = &[End::BogusDenial, End::Keys, End::Keys];
+    check_held(
         &rt,
         "by turn each send takes the next reply, and then the last",
-        are_later(alloc),
+        end_so(alloc, Recorded::in_turn(alloc), ends),
     );
-    check_row(
+    let ends = &[End::BogusDenial, End::BogusDenial, End::BogusDenial];
+    check_held(
         &rt,
         "else each send takes the first reply",
-        are_denied(alloc),
+        end_so(alloc, Recorded::new(alloc), ends),
     );
 }

@@ -1,6 +1,7 @@
 //! `run` over sources and sinks in memory, for a row.
 use crate::rows::check_row;
-use crate::worked_rows::{PARTS, Row, part};
+use crate::worked_rows::{Row, rows};
+use dns_handle::IoKind;
 use dns_io::{Sink, SinkFault, Source, SureSink, SureSource, TextSink, TextSource};
 use dns_link::{FixedClock, ListDialer};
 use dns_name::{NoMemory, Octets};
@@ -37,12 +38,32 @@ impl Sink for Slow {
     }
 }
 
+fn push_word(all: &mut Vec<Vec<u8>>, alloc: Global, word: &str) -> Result<(), NoMemory> {
+    all.push(word.as_bytes().to_vec(alloc)?)?;
+    Ok(())
+}
+
 fn words_of(alloc: Global, words: &[&str]) -> Result<Vec<Vec<u8>>, NoMemory> {
     let mut all = Vec::new(alloc);
     for word in words {
-        all.push(word.as_bytes().to_vec(alloc)?)?;
+        push_word(&mut all, alloc, word)?;
     }
     Ok(all)
+}
+
+// The status of a run over a dialer.
+fn status_over<S: Source, W: Sink>(
+    alloc: Global,
+    words: &[Vec<u8>],
+    source: &mut S,
+    sink: &mut W,
+    dial: ListDialer,
+) -> u8 {
+    let mut clock = FixedClock::new(1000);
+    let end = run(alloc, words, source, sink, dial, &mut clock);
+    let status = end.status;
+    drop(end);
+    status
 }
 
 // The status of a run that has no server to ask.
@@ -53,8 +74,7 @@ fn status_of<S: Source, W: Sink>(
     sink: &mut W,
 ) -> u8 {
     let dial = ListDialer::new(Vec::new(alloc), Vec::new(alloc));
-    let mut clock = FixedClock::new(1000);
-    run(alloc, words, source, sink, dial, &mut clock).status
+    status_over(alloc, words, source, sink, dial)
 }
 
 // Over a source and a sink that may fail the words end with this status and this text.
@@ -83,12 +103,25 @@ fn failing_ends(
     Ok(told_ends(alloc, words, &mut source, status, text))
 }
 
-// Over a source and a sink that never fail the words end as the row says.
-fn sure_ends(alloc: Global, words: &[Vec<u8>], row: &Row) -> Result<bool, NoMemory> {
-    let mut source = SureSource::new(Octets::from_slice(alloc, row.session)?);
+// Over a source and a sink that never fail the words end with this status and this text.
+fn sure_ends(
+    alloc: Global,
+    words: &[Vec<u8>],
+    session: &[u8],
+    dial: ListDialer,
+    status: u8,
+    text: &[u8],
+) -> Result<bool, NoMemory> {
+    let mut source = SureSource::new(Octets::from_slice(alloc, session)?);
     let mut sink = SureSink::new(alloc);
-    let status = status_of(alloc, words, &mut source, &mut sink);
-    Ok(status == row.status && *sink.taken() == *row.text)
+    let ended = status_over(alloc, words, &mut source, &mut sink, dial);
+    Ok(ended == status && *sink.taken() == *text)
+}
+
+// So ends a row, which asks no server.
+fn row_ends(alloc: Global, words: &[Vec<u8>], row: &Row) -> Result<bool, NoMemory> {
+    let dial = ListDialer::new(Vec::new(alloc), Vec::new(alloc));
+    sure_ends(alloc, words, row.session, dial, row.status, row.text)
 }
 
 // Over a sink whose second write fails a row ends for that, with what was written before.
@@ -107,16 +140,14 @@ fn ends_so(alloc: Global, row: &Row) -> Result<bool, NoMemory> {
     let words = words_of(alloc, row.words)?;
     Ok(
         failing_ends(alloc, &words, row.session, &[], row.status, row.text)?
-            && sure_ends(alloc, &words, row)?,
+            && row_ends(alloc, &words, row)?,
     )
 }
 
 #[test]
 fn rows_end_as_they_say(rt: HostRuntime) {
-    for number in 1..=PARTS {
-        for row in part(number) {
-            check_row(&rt, row.name, ends_so(rt.alloc(), row));
-        }
+    for row in rows() {
+        check_row(&rt, row.name, ends_so(rt.alloc(), row));
     }
 }
 
@@ -153,9 +184,37 @@ fn ends_for_the_outside(alloc: Global, row: &Row) -> Result<bool, NoMemory> {
 
 #[test]
 fn rows_end_where_the_outside_fails(rt: HostRuntime) {
-    for number in 1..=PARTS {
-        for row in part(number) {
-            check_row(&rt, row.name, ends_for_the_outside(rt.alloc(), row));
-        }
+    for row in rows() {
+        check_row(&rt, row.name, ends_for_the_outside(rt.alloc(), row));
     }
+}
+
+/// The session of the rows that ask a server, but for its replies.
+const SESSION: &[u8] =
+    b"dns-session 1\nmoment 9000\nalgorithms 13\nanchor . 13 aabb\nquery . NS\nend\n";
+
+// A dialer of one link, which is refused.
+fn refusing(alloc: Global) -> Result<ListDialer, NoMemory> {
+    let mut links = Vec::new(alloc);
+    links.push(Err(IoKind::ConnectionRefused))?;
+    Ok(ListDialer::new(links, Vec::new(alloc)))
+}
+
+// Over a server that refuses a connection the program ends with this status and this text.
+fn refused_ends(alloc: Global, session: &[u8], status: u8, text: &[u8]) -> Result<bool, NoMemory> {
+    let dial = refusing(alloc)?;
+    let words = words_of(alloc, &["ask", "tcp", "127.0.0.1:53"])?;
+    sure_ends(alloc, &words, session, dial, status, text)
+}
+
+#[test]
+fn a_connection_that_is_refused_is_a_fault(rt: HostRuntime) {
+    let held = refused_ends(rt.alloc(), SESSION, 1, b"fault io ConnectionRefused\n");
+    check_row(&rt, "refused", held);
+}
+
+#[test]
+fn an_input_that_is_no_session_is_not_asked_for(rt: HostRuntime) {
+    let held = refused_ends(rt.alloc(), b"no session\n", 3, b"bad line 1\n");
+    check_row(&rt, "no session", held);
 }

@@ -4,16 +4,14 @@ ghost use Rattle.std.specs.Prelude.{IsTrue};
 ghost use Rattle.dns_cache.specs.Caches.{HasAccepted};
 ghost use Rattle.dns_validation.specs.Validations.{AcceptedWhereKept};
 
-use crate::driven_tests::{NAME_ERROR, session_of};
-use dns_cache::{Acceptance, AcceptedBy, Entry, ListCache, TtlRanges, ValidationCache};
-use dns_chain_check::accepted_chain;
-use dns_evidence::{IterationLimits, Verifier};
-use dns_handle::DnsHandle;
-use dns_recorded::Recorded;
-use dns_run::{session_anchors, session_options, session_upstream};
-use dns_session::{Anchor, Session};
-use dns_trust::{Judge, TrustAnchors};
-use dns_validation::{Validation, Wanted};
+use crate::given::{MOMENT, anchors_of, begun, upstream_of};
+use crate::rows::check_held;
+use crate::scenes::name_error;
+use dns_chain::{
+    Acceptance, AcceptedBy, CacheKey, DnsHandle, Entry, Judge, ListCache, TrustAnchors, TtlRanges,
+    Validation, ValidationCache, Verifier, Wanted, accepted_chain,
+};
+use dns_net::Recorded;
 use std::alloc::Global;
 use std::cell::Cell;
 
@@ -54,9 +52,6 @@ impl Verifier for AcceptsAll {
     }
 }
 
-// When entries are asked for and kept.
-const KEPT_AT: u64 = 1_000;
-
 // How a validation is driven: by whose acceptance chains are told to have been kept, by which trust, and at which moment it judges.
 #[derive(Clone, Copy)]
 struct Way {
@@ -68,7 +63,7 @@ struct Way {
 const FIRST: Way = Way {
     acceptance: Acceptance::Unknown,
     is_anchored: true,
-    moment: KEPT_AT,
+    moment: MOMENT,
 };
 
 // What was seen of a validation: how often it asked its upstream, whether its verifier, and whether it had an answer.
@@ -79,61 +74,64 @@ struct Seen {
     is_answered: bool,
 }
 
-// By the anchors of a session, or by none.
-fn trust_of(alloc: Global, anchors: Vec<Anchor>, is_anchored: bool) -> Option<TrustAnchors> {
+// By the anchors of the scene, or by none.
+fn trust_of(alloc: Global, is_anchored: bool) -> TrustAnchors {
     if is_anchored {
-        session_anchors(alloc, anchors).ok()
-    } else {
-        drop(anchors);
-        Some(TrustAnchors::empty(alloc))
+        return anchors_of(alloc, name_error());
     }
+    TrustAnchors::empty(alloc)
 }
 
-// What is seen of a validation of a session, where it came to its end.
-fn seen_over(alloc: Global, text: &[u8], cache: &mut ListCache, way: Way) -> Option<Seen> {
-    let Session {
-        by_turn,
-        moment: _,
-        depth,
-        algorithms: _,
-        anchors,
-        accepts: _,
-        query,
-        replies,
-    } = session_of(alloc, text)?;
+// What is seen of a validation of a name error, where it came to its end.
+fn seen_over(alloc: Global, cache: &mut ListCache, way: Way) -> Option<Seen> {
+    let anchors = trust_of(alloc, way.is_anchored);
     let verifier = AcceptsAll::new();
-    let anchors = trust_of(alloc, anchors, way.is_anchored)?;
-    let mut upstream = session_upstream(alloc, by_turn, replies).ok()?;
     let judge = Judge {
         verifier: &verifier,
         anchors: &anchors,
         moment: way.moment,
     };
-    let options = session_options(depth);
-    let mut validation = Validation::new(
-        alloc,
-        judge,
-        query,
-        options,
-        IterationLimits::DEFAULT,
-        TtlRanges::new(),
-    )
-    .ok()?;
-    let mut sends = 0_u32;
-    for _ in 0..1_000_u32 {
-        let Some(asked) = served(alloc, &mut upstream, cache, &mut validation, way) else {
-            break;
-        };
-        if asked {
-            sends = sends.saturating_add(1);
-        }
-    }
-    let is_answered = validation.into_answer()?.is_ok();
+    let ended = driven(alloc, cache, judge, way.acceptance);
+    let asks_verifier = verifier.questions.get() > 0;
+    drop(anchors);
+    let (sends, is_answered) = ended?;
     Some(Seen {
         sends,
-        asks_verifier: verifier.questions.get() > 0,
+        asks_verifier,
         is_answered,
     })
+}
+
+// How often such a validation asked its upstream, and whether it had an answer.
+fn driven(
+    alloc: Global,
+    cache: &mut ListCache,
+    judge: Judge<'_, AcceptsAll>,
+    acceptance: Acceptance,
+) -> Option<(u32, bool)> {
+    let (scene, ranges, moment) = (name_error(), TtlRanges::new(), judge.moment);
+    let mut validation = begun(alloc, judge, scene.name, scene.query_type, 26, ranges)?;
+    let mut upstream = upstream_of(alloc, scene);
+    let mut sends = 0_u32;
+    for _ in 0..1_000_u32 {
+        match served(
+            alloc,
+            &mut upstream,
+            cache,
+            &mut validation,
+            moment,
+            acceptance,
+        ) {
+            Some(true) => sends = sends.saturating_add(1),
+            Some(false) => {}
+            None => break,
+        }
+    }
+    drop(upstream);
+    let answer = validation.into_answer()?;
+    let is_answered = answer.is_ok();
+    drop(answer);
+    Some((sends, is_answered))
 }
 
 // Gives a validation what it wants, and keeps what it gives out. Whether its upstream was asked; None where it wants nothing.
@@ -142,17 +140,16 @@ fn served(
     upstream: &mut Recorded,
     cache: &mut ListCache,
     validation: &mut Validation<'_, AcceptsAll>,
-    way: Way,
+    moment: u64,
+    acceptance: Acceptance,
 ) -> Option<bool> {
     let asked = match validation.next()? {
         Wanted::Reply(ask) => {
-            validation.answer(upstream.send(alloc, ask.request, way.moment));
+            validation.answer(upstream.send(alloc, ask.request, moment));
             true
         }
         Wanted::Entry(key) => {
-            let verifier = AcceptsAll::new();
-            let given = cache.get_for(alloc, &key, KEPT_AT, &verifier).ok()?;
-            validation.found(accepted_by(alloc, &verifier, given, way.acceptance));
+            entry_told(alloc, cache, validation, &key, acceptance)?;
             false
         }
     };
@@ -163,6 +160,19 @@ fn served(
         cache.insert(alloc, entry).ok()?;
     }
     Some(asked)
+}
+
+fn entry_told(
+    alloc: Global,
+    cache: &mut ListCache,
+    validation: &mut Validation<'_, AcceptsAll>,
+    key: &CacheKey,
+    acceptance: Acceptance,
+) -> Option<()> {
+    let verifier = AcceptsAll::new();
+    let given = cache.get_for(alloc, key, MOMENT, &verifier).ok()?;
+    validation.found(accepted_by(alloc, &verifier, given, acceptance));
+    Some(())
 }
 
 // The entry, with another acceptance: with `Kept` where the verifier accepts its chain.
@@ -207,11 +217,7 @@ fn has_accepted<V: Verifier>(alloc: Global, verifier: &V, entry: &Entry) -> bool
 }
 
 /// What is seen of a second validation, over what a first one left.
-struct Row {
-    message: &'static str,
-    way: Way,
-    seen: Seen,
-}
+struct Row(&'static str, Way, Seen);
 
 const SERVED: Seen = Seen {
     sends: 1,
@@ -219,31 +225,21 @@ const SERVED: Seen = Seen {
     is_answered: true,
 };
 
+const KEPT: Way = Way {
+    acceptance: Acceptance::Kept,
+    ..FIRST
+};
+
+const OTHER: Way = Way {
+    acceptance: Acceptance::Other,
+    ..FIRST
+};
+
+#[rattlefmt::skip]
 const ROWS: &[Row] = &[
-    Row {
-        message: "what was kept of each set serves it",
-        way: FIRST,
-        seen: SERVED,
-    },
-    Row {
-        message: "and so it does where the asker's own verifier accepted it, which isn't asked again",
-        way: Way {
-            acceptance: Acceptance::Kept,
-            ..FIRST
-        },
-        seen: Seen {
-            asks_verifier: false,
-            ..SERVED
-        },
-    },
-    Row {
-        message: "what another verifier accepted is judged anew",
-        way: Way {
-            acceptance: Acceptance::Other,
-            ..FIRST
-        },
-        seen: Seen { sends: 3, ..SERVED },
-    },
+    Row("what was kept of each set serves it", FIRST, SERVED),
+    Row("and so it does where the asker's own verifier accepted it, which isn't asked again", KEPT, Seen { asks_verifier: false, ..SERVED }),
+    Row("what another verifier accepted is judged anew", OTHER, Seen { sends: 3, ..SERVED }),
 ];
 
 fn rows() -> &'static [Row] {
@@ -251,26 +247,21 @@ fn rows() -> &'static [Row] {
 }
 
 /// A later validation isn't answered by what the asker's own verifier accepted: its signatures have ended, or nobody trusts its keys.
+#[rattlefmt::skip]
 const REFUSED: &[Way] = &[
-    Way {
-        acceptance: Acceptance::Kept,
-        is_anchored: true,
-        moment: 3_000,
-    },
-    Way {
-        acceptance: Acceptance::Kept,
-        is_anchored: false,
-        moment: KEPT_AT,
-    },
+    Way { moment: 3_000, ..KEPT },
+    Way { is_anchored: false, ..KEPT },
 ];
 
 // What is seen of a validation over what a first one left.
 fn seen_later(alloc: Global, way: Way) -> Option<Seen> {
     let mut cache = ListCache::new(alloc, 100);
-    let first = seen_over(alloc, NAME_ERROR, &mut cache, FIRST)?;
-    // It asks for the name, and for the keys of two signatures.
-    if first.sends == 3 && first.asks_verifier && first.is_answered {
-        seen_over(alloc, NAME_ERROR, &mut cache, way)
+    let first = seen_over(alloc, &mut cache, FIRST);
+    let later = seen_over(alloc, &mut cache, way);
+    drop(cache);
+    // it asks for the name, and for the keys of two signatures
+    if first == Some(Seen { sends: 3, ..SERVED }) {
+        later
     } else {
         None
     }
@@ -279,19 +270,22 @@ fn seen_later(alloc: Global, way: Way) -> Option<Seen> {
 #[test]
 fn a_kept_set_serves_the_next_validation(rt: HostRuntime) {
     for row in rows() {
-        let seen = seen_later(rt.alloc(), row.way);
-        assert!(rt; seen == Some(row.seen), "{}", row.message);
+        let seen = seen_later(rt.alloc(), row.1);
+        check_held(&rt, row.0, seen == Some(row.2));
+    }
+}
+
+fn is_refused(alloc: Global, way: Way) -> bool {
+    match seen_later(alloc, way) {
+        Some(seen) => !seen.is_answered,
+        None => false,
     }
 }
 
 #[test]
 fn an_accepted_chain_serves_while_anchors_and_times_hold(rt: HostRuntime) {
     for way in REFUSED {
-        let seen = seen_later(rt.alloc(), *way);
-        let is_refused = match seen {
-            Some(seen) => !seen.is_answered,
-            None => false,
-        };
-        assert!(rt; is_refused, "what was kept doesn't serve at {}", way.moment);
+        let refused = is_refused(rt.alloc(), *way);
+        check_held(&rt, "what was kept doesn't serve", refused);
     }
 }
