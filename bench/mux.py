@@ -21,9 +21,9 @@ MOST_BESIDE = 1_000
 MOST_TIMES = 2
 
 
-def nanoseconds(path, name, *words):
-    """Nanoseconds of one pass of a run, which writes the name with the number of its passes."""
-    taken, counts = counts_of([path, *words, str(PASSES)], b"", (name,), processor_seconds)
+def nanoseconds(path, *words):
+    """Nanoseconds of one pass of a run, which writes the number of its passes."""
+    taken, counts = counts_of([path, *words, str(PASSES)], b"", ("done",), processor_seconds)
     if counts != (PASSES,):
         sys.exit(f"{' '.join(words)}: {counts[0]} of {PASSES}")
     return taken * 1e9 / PASSES
@@ -31,13 +31,11 @@ def nanoseconds(path, name, *words):
 
 def measured(path):
     """The least of nine runs each: decoding, sends and arrivals by live requests."""
-    runs = {("decoded",): "decoded"}
-    runs.update({("sends", str(live)): "sent" for live in LIVE})
-    runs.update({("arrivals", str(live)): "taken" for live in LIVE})
+    runs = [("decoded",), *((work, str(live)) for work in ("sends", "arrivals") for live in LIVE)]
     best = dict.fromkeys(runs, float("inf"))
     for _ in range(TURNS):
-        for words, name in runs.items():
-            best[words] = min(best[words], nanoseconds(path, name, *words))
+        for words in runs:
+            best[words] = min(best[words], nanoseconds(path, *words))
     return best
 
 

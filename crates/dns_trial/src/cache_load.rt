@@ -1,7 +1,7 @@
 //! One thing done with a cache, or with the map that it stands on, many times.
 
 use crate::entries::{chain_of, keys_of, secure_entry};
-use crate::form::{CacheWork, MapWork};
+use crate::form::{Form, Work};
 use dns_cache::{CacheKey, LruValidationCache, ValidationCache};
 use dns_evidence::Chain;
 use dns_name::NoMemory;
@@ -11,80 +11,94 @@ use std::hash::BuildHasherDefault;
 use std::num::NonZeroUsize;
 
 // Puts an entry of each key in.
-fn insert_all(
+fn insert_all<C: ValidationCache>(
     alloc: Global,
-    cache: &mut LruValidationCache,
+    cache: &mut C,
     keys: &[CacheKey],
     chain: &Chain,
 ) -> Result<u64, NoMemory> {
     let mut count: u64 = 0;
     for key in keys {
-        cache.insert(alloc, secure_entry(key, chain)?)?;
+        let entry = secure_entry(key, chain)?;
+        cache.insert(alloc, entry)?;
         count = count.saturating_add(1);
     }
     Ok(count)
 }
 
-// Gets the entry of each key: how many are given is the cache's own count.
-fn get_all(
+// How many entries of the keys the cache gives.
+fn get_all<C: ValidationCache>(
     alloc: Global,
-    cache: &mut LruValidationCache,
+    cache: &mut C,
     keys: &[CacheKey],
-) -> Result<(), NoMemory> {
+) -> Result<u64, NoMemory> {
+    let mut count: u64 = 0;
     for key in keys {
-        drop(cache.get(alloc, key, 0)?);
-    }
-    Ok(())
-}
-
-// How many gets of so many passes over all keys give an entry.
-fn gets(alloc: Global, keys: &[CacheKey], chain: &Chain, passes: u32) -> Result<u64, NoMemory> {
-    let mut cache = LruValidationCache::new(alloc, keys.len())?;
-    let _ = insert_all(alloc, &mut cache, keys, chain)?;
-    for _ in 0..passes {
-        get_all(alloc, &mut cache, keys)?;
-    }
-    Ok(cache.hits())
-}
-
-// How many inserts so many passes over all keys make, in a cache with room for all of them but one: none finds its key.
-fn inserts(alloc: Global, keys: &[CacheKey], chain: &Chain, passes: u32) -> Result<u64, NoMemory> {
-    let mut cache = LruValidationCache::new(alloc, keys.len().saturating_sub(1))?;
-    let _ = insert_all(alloc, &mut cache, keys, chain)?;
-    let mut count: u64 = 0;
-    for _ in 0..passes {
-        count = count.saturating_add(insert_all(alloc, &mut cache, keys, chain)?);
+        let given = cache.get(alloc, key, 0)?;
+        count = count.saturating_add(u64::from(given.is_some()));
+        drop(given);
     }
     Ok(count)
 }
 
-// How many entries so many passes over all keys make and let go.
-fn copies(keys: &[CacheKey], chain: &Chain, passes: u32) -> Result<u64, NoMemory> {
+// Makes an entry of each key and lets it go.
+fn copy_all(keys: &[CacheKey], chain: &Chain) -> Result<u64, NoMemory> {
     let mut count: u64 = 0;
-    for _ in 0..passes {
-        for key in keys {
-            drop(secure_entry(key, chain)?);
-            count = count.saturating_add(1);
-        }
+    for key in keys {
+        drop(secure_entry(key, chain)?);
+        count = count.saturating_add(1);
     }
     Ok(count)
+}
+
+// Goes over all keys once: how often it went well.
+fn pass<C: ValidationCache>(
+    alloc: Global,
+    work: Work,
+    cache: &mut C,
+    keys: &[CacheKey],
+    chain: &Chain,
+) -> Result<u64, NoMemory> {
+    match work {
+        Work::Get => get_all(alloc, cache, keys),
+        Work::Insert => insert_all(alloc, cache, keys, chain),
+        _ => copy_all(keys, chain),
+    }
+}
+
+// Puts an entry of each key in, and then does the same so many times.
+fn passes<C: ValidationCache>(
+    alloc: Global,
+    form: Form,
+    cache: &mut C,
+    keys: &[CacheKey],
+    chain: &Chain,
+) -> Result<u64, NoMemory> {
+    let _ = insert_all(alloc, cache, keys, chain)?;
+    let mut count: u64 = 0;
+    for _ in 0..form.third {
+        count = count.saturating_add(pass(alloc, form.work, cache, keys, chain)?);
+    }
+    Ok(count)
+}
+
+// For gets there is room for all keys, for inserts for all but one, so that none finds its key, and else for none.
+fn room(work: Work, keys: usize) -> usize {
+    match work {
+        Work::Get | Work::MapGet => keys,
+        Work::Insert | Work::MapPut => keys.saturating_sub(1),
+        _ => 0,
+    }
 }
 
 /// How often it was done, on so many entries with a chain of so many links each, in so many passes.
-pub(crate) fn worked_on_cache(
-    alloc: Global,
-    work: CacheWork,
-    entries: u32,
-    links: u32,
-    passes: u32,
-) -> Result<u64, NoMemory> {
-    let keys = keys_of(alloc, entries)?;
-    let chain = chain_of(alloc, links)?;
-    match work {
-        CacheWork::Get => gets(alloc, &keys, &chain, passes),
-        CacheWork::Insert => inserts(alloc, &keys, &chain, passes),
-        CacheWork::Copy => copies(&keys, &chain, passes),
-    }
+pub(crate) fn worked_on_cache(alloc: Global, form: Form) -> Result<u64, NoMemory> {
+    let keys = keys_of(alloc, form.first)?;
+    let chain = chain_of(alloc, form.second)?;
+    let mut cache = LruValidationCache::new(alloc, room(form.work, keys.len()))?;
+    let count = passes(alloc, form, &mut cache, &keys, &chain);
+    drop(cache);
+    count
 }
 
 // A map for so many keys, made as the cache makes its own.
@@ -104,40 +118,40 @@ fn put_all(map: &mut LruCache<CacheKey, u64>, keys: &[CacheKey]) -> Result<u64, 
     Ok(count)
 }
 
-// How many gets of so many passes over all keys find a number.
-fn map_gets(alloc: Global, keys: &[CacheKey], passes: u32) -> Result<u64, NoMemory> {
-    let mut map = map_for(alloc, keys.len())?;
-    let _ = put_all(&mut map, keys)?;
+// How many keys have a number.
+fn find_all(map: &mut LruCache<CacheKey, u64>, keys: &[CacheKey]) -> u64 {
     let mut count: u64 = 0;
-    for _ in 0..passes {
-        for key in keys {
-            count = count.saturating_add(map.get(key).copied().unwrap_or(0));
+    for key in keys {
+        if let Some(number) = map.get(key) {
+            count = count.saturating_add(*number);
         }
     }
-    Ok(count)
+    count
 }
 
-// How many puts so many passes over all keys make, in a map with room for all of them but one.
-fn map_puts(alloc: Global, keys: &[CacheKey], passes: u32) -> Result<u64, NoMemory> {
-    let mut map = map_for(alloc, keys.len().saturating_sub(1))?;
-    let _ = put_all(&mut map, keys)?;
+// Puts all keys in, and then goes over them in so many passes: how often it went well.
+fn map_passes(
+    form: Form,
+    map: &mut LruCache<CacheKey, u64>,
+    keys: &[CacheKey],
+) -> Result<u64, NoMemory> {
+    let _ = put_all(map, keys)?;
     let mut count: u64 = 0;
-    for _ in 0..passes {
-        count = count.saturating_add(put_all(&mut map, keys)?);
+    for _ in 0..form.second {
+        let done = match form.work {
+            Work::MapGet => find_all(map, keys),
+            _ => put_all(map, keys)?,
+        };
+        count = count.saturating_add(done);
     }
     Ok(count)
 }
 
 /// How often it was done, with so many keys in so many passes.
-pub(crate) fn worked_on_map(
-    alloc: Global,
-    work: MapWork,
-    entries: u32,
-    passes: u32,
-) -> Result<u64, NoMemory> {
-    let keys = keys_of(alloc, entries)?;
-    match work {
-        MapWork::MapGet => map_gets(alloc, &keys, passes),
-        MapWork::MapPut => map_puts(alloc, &keys, passes),
-    }
+pub(crate) fn worked_on_map(alloc: Global, form: Form) -> Result<u64, NoMemory> {
+    let keys = keys_of(alloc, form.first)?;
+    let mut map = map_for(alloc, room(form.work, keys.len()))?;
+    let count = map_passes(form, &mut map, &keys);
+    drop(map);
+    count
 }

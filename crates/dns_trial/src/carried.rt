@@ -1,13 +1,17 @@
 //! A hundred messages of 510 bytes over a link in memory, so often.
-ghost use Rattle.std.specs.Prelude.{◌≢◌, [], All, IfOk};
 
+use crate::cuts::cut_at;
+use crate::form::Work;
+use crate::measured::server;
 use dns_handle::NetError;
 use dns_link::{Link, PairLink};
 use dns_mux::{BufDnsStreamHandle, SerialMessage};
 use dns_name::{NoMemory, Octets};
 use dns_transport::{Feed, TcpStream};
 use std::alloc::Global;
-use std::net::{IpAddr, Ipv4Addr, SocketAddr};
+
+/// The bytes of a message. As an array of a function they would be dear to prove.
+const MESSAGE: &[u8; 510] = &[7; 510];
 
 /// The bytes of a frame.
 const FRAME: usize = 512;
@@ -15,15 +19,10 @@ const FRAME: usize = 512;
 /// So many messages go over a link.
 const MESSAGES: u32 = 100;
 
-/// The other side.
-fn server() -> SocketAddr {
-    SocketAddr::new(IpAddr::V4(Ipv4Addr::new(192, 0, 2, 1)), 53)
-}
-
-/// A frame of 510 bytes behind their length (RFC 1035, 4.2.2).
+/// The message behind its length (RFC 1035, 4.2.2).
 fn frame(alloc: Global) -> Result<Vec<u8>, NoMemory> {
-    let mut bytes = Vec::from_slice(alloc, &[1u8, 254])?;
-    bytes.resize(FRAME, 7)?;
+    let mut bytes = Vec::from_slice(alloc, b"\x01\xfe")?;
+    bytes.extend_from_slice(MESSAGE)?;
     Ok(bytes)
 }
 
@@ -37,37 +36,22 @@ fn frames(alloc: Global) -> Result<Vec<u8>, NoMemory> {
     Ok(bytes)
 }
 
-/// Bytes as one piece, if there are any.
-fn one_piece(alloc: Global, bytes: &[u8]) -> Result<Vec<Octets>, NoMemory>
-    ensures { IfOk result (λ pieces. All (λ piece. piece ≢ []) pieces.items) }
-{
-    let mut pieces = Vec::new(alloc);
-    let piece = Octets::from_slice(alloc, bytes)?;
-    if !piece.is_empty() {
-        pieces.push(piece)?;
-    }
-    Ok(pieces)
-}
-
 /// A link that gives these bytes.
 fn link_of(alloc: Global, bytes: &[u8]) -> Result<PairLink, NoMemory> {
-    let pieces = one_piece(alloc, bytes)?;
+    let pieces = cut_at(alloc, bytes, 0)?;
     PairLink::new(alloc, pieces, 0, Vec::new(alloc))
 }
 
-/// A stream over a link.
-fn stream_over(alloc: Global, link: PairLink) -> TcpStream<PairLink> {
-    let (stream, _) = TcpStream::from_stream(alloc, link, server());
-    stream
+/// A link with room for a hundred frames.
+fn roomy_link(alloc: Global) -> Result<PairLink, NoMemory> {
+    let room = (MESSAGES as usize).saturating_mul(FRAME);
+    PairLink::new(alloc, Vec::new(alloc), room, Vec::new(alloc))
 }
 
-/// Makes a link with the messages so often, reads nothing, and answers how many messages were there.
-pub(crate) fn made(alloc: Global, count: u32) -> Result<u64, NoMemory> {
-    let frames = frames(alloc)?;
-    for _ in 0..count {
-        drop(link_of(alloc, &frames)?);
-    }
-    Ok(u64::from(count).saturating_mul(u64::from(MESSAGES)))
+/// Makes a link that gives these bytes, reads nothing, and answers how many messages were there.
+fn made(alloc: Global, bytes: &[u8]) -> Result<u64, NoMemory> {
+    drop(link_of(alloc, bytes)?);
+    Ok(u64::from(MESSAGES))
 }
 
 /// How many messages a read gave; none where it ended or failed.
@@ -99,33 +83,10 @@ fn read_all(stream: &mut TcpStream<PairLink>) -> u64 {
     read
 }
 
-/// How many messages are read off a link that gives these bytes.
-fn read_once(alloc: Global, bytes: &[u8]) -> Result<u64, NoMemory> {
-    let mut stream = stream_over(alloc, link_of(alloc, bytes)?);
-    Ok(read_all(&mut stream))
-}
-
-/// How many messages are read off so many links.
-pub(crate) fn read(alloc: Global, count: u32) -> Result<u64, NoMemory> {
-    let frames = frames(alloc)?;
-    let mut read: u64 = 0;
-    for _ in 0..count {
-        read = read.saturating_add(read_once(alloc, &frames)?);
-    }
-    Ok(read)
-}
-
 /// A copy of bytes. It is a call of its own, so that no compiler leaves out a copy that nobody looks at.
 #[inline(never)]
 fn copy_of(alloc: Global, bytes: &[u8]) -> Result<Vec<u8>, NoMemory> {
     Ok(Vec::from_slice(alloc, bytes)?)
-}
-
-/// Room for a frame. As an array of a function it would be dear to prove.
-fn room(alloc: Global) -> Result<Vec<u8>, NoMemory> {
-    let mut bytes = Vec::new(alloc);
-    bytes.resize(FRAME, 0)?;
-    Ok(bytes)
 }
 
 /// How many frames are read plainly off a link, each copied into a vector of its own.
@@ -139,45 +100,23 @@ fn copy_all(alloc: Global, link: &mut PairLink, buf: &mut [u8]) -> u64 {
     copied
 }
 
-/// The same off a link that gives these bytes.
-fn copied_once(alloc: Global, bytes: &[u8], buf: &mut [u8]) -> Result<u64, NoMemory> {
+/// How many frames are copied off a link that gives these bytes.
+fn copied(alloc: Global, bytes: &[u8]) -> Result<u64, NoMemory> {
+    let mut buf = frame(alloc)?;
     let mut link = link_of(alloc, bytes)?;
-    let copied = copy_all(alloc, &mut link, buf);
+    let copied = copy_all(alloc, &mut link, &mut buf);
     drop(link);
     Ok(copied)
 }
 
-/// How many frames are copied off so many links that give these bytes.
-fn copied_often(alloc: Global, bytes: &[u8], buf: &mut [u8], count: u32) -> Result<u64, NoMemory> {
-    let mut copied: u64 = 0;
-    for _ in 0..count {
-        copied = copied.saturating_add(copied_once(alloc, bytes, buf)?);
-    }
-    Ok(copied)
-}
-
-/// The same off so many links.
-pub(crate) fn copied(alloc: Global, count: u32) -> Result<u64, NoMemory> {
-    let frames = frames(alloc)?;
-    let mut buf = room(alloc)?;
-    copied_often(alloc, &frames, &mut buf, count)
-}
-
-/// Puts a message of these bytes into a stream's queue, and tells whether it took it.
+/// Puts a message into a stream's queue, and tells whether it took it.
 fn is_put(
-    alloc: Global,
     stream: &mut TcpStream<PairLink>,
     handle: &mut BufDnsStreamHandle,
-    bytes: &[u8],
+    message: SerialMessage,
 ) -> bool {
-    let Ok(bytes) = Octets::from_slice(alloc, bytes) else {
-        return false;
-    };
-    let message = SerialMessage {
-        bytes,
-        addr: server(),
-    };
     if message.bytes.is_empty() {
+        drop(message);
         return false;
     }
     let put = stream.enqueue(handle, message);
@@ -194,39 +133,54 @@ fn is_drained(stream: &mut TcpStream<PairLink>) -> bool {
     held
 }
 
-/// How many of a hundred messages of these bytes are written.
-fn write_all(alloc: Global, stream: &mut TcpStream<PairLink>, bytes: &[u8]) -> u64 {
-    let (mut handle, _) = BufDnsStreamHandle::new(alloc, server());
+/// How many of a hundred messages are written.
+fn write_all(
+    alloc: Global,
+    stream: &mut TcpStream<PairLink>,
+    handle: &mut BufDnsStreamHandle,
+) -> Result<u64, NoMemory> {
     let mut written: u64 = 0;
     for _ in 0..MESSAGES {
-        if is_put(alloc, stream, &mut handle, bytes) && is_drained(stream) {
+        let bytes = Octets::from_slice(alloc, MESSAGE)?;
+        let message = SerialMessage {
+            bytes,
+            addr: server(),
+        };
+        if is_put(stream, handle, message) && is_drained(stream) {
             written = written.saturating_add(1);
         }
     }
-    written
-}
-
-/// The bytes of a message.
-fn message(alloc: Global) -> Result<Vec<u8>, NoMemory> {
-    let mut bytes = Vec::new(alloc);
-    bytes.resize(FRAME - 2, 7)?;
-    Ok(bytes)
-}
-
-/// The same to a link with room for them.
-fn written_once(alloc: Global, bytes: &[u8]) -> Result<u64, NoMemory> {
-    let room = (MESSAGES as usize).saturating_mul(FRAME);
-    let link = PairLink::new(alloc, Vec::new(alloc), room, Vec::new(alloc))?;
-    let mut stream = stream_over(alloc, link);
-    Ok(write_all(alloc, &mut stream, bytes))
-}
-
-/// The same to so many links.
-pub(crate) fn written(alloc: Global, count: u32) -> Result<u64, NoMemory> {
-    let bytes = message(alloc)?;
-    let mut written: u64 = 0;
-    for _ in 0..count {
-        written = written.saturating_add(written_once(alloc, &bytes)?);
-    }
     Ok(written)
+}
+
+/// How many messages are read off a link that gives these bytes, or written to a roomy one.
+fn streamed(alloc: Global, link: PairLink, is_reading: bool) -> Result<u64, NoMemory> {
+    let (mut stream, mut handle) = TcpStream::from_stream(alloc, link, server());
+    let count = if is_reading {
+        Ok(read_all(&mut stream))
+    } else {
+        write_all(alloc, &mut stream, &mut handle)
+    };
+    drop(stream);
+    count
+}
+
+/// How often it went well over one link.
+fn carried_once(alloc: Global, work: Work, frames: &[u8]) -> Result<u64, NoMemory> {
+    match work {
+        Work::Made => made(alloc, frames),
+        Work::Copied => copied(alloc, frames),
+        Work::Read => streamed(alloc, link_of(alloc, frames)?, true),
+        _ => streamed(alloc, roomy_link(alloc)?, false),
+    }
+}
+
+/// How often it went well over so many links.
+pub(crate) fn carried(alloc: Global, work: Work, count: u32) -> Result<u64, NoMemory> {
+    let frames = frames(alloc)?;
+    let mut carried: u64 = 0;
+    for _ in 0..count {
+        carried = carried.saturating_add(carried_once(alloc, work, &frames)?);
+    }
+    Ok(carried)
 }

@@ -31,7 +31,7 @@ fn push_piece(alloc: Global, pieces: &mut Vec<Octets>, bytes: &[u8]) -> Result<(
 }
 
 /// Bytes that are cut at a place.
-fn cut_at(alloc: Global, bytes: &[u8], at: usize) -> Result<Vec<Octets>, NoMemory>
+pub(crate) fn cut_at(alloc: Global, bytes: &[u8], at: usize) -> Result<Vec<Octets>, NoMemory>
     ensures { IfOk result (λ pieces. All (λ piece. piece ≢ []) pieces.items) }
 {
     let (front, back) = bytes.split_at(at.min(bytes.len()));
@@ -64,34 +64,30 @@ fn is_message(read: &Result<Vec<Octets>, NetError>, frame: &[u8]) -> Result<bool
     }
 }
 
-/// Whether pieces give the message of a frame, and no more.
-fn is_read(alloc: Global, pieces: Vec<Octets>, frame: &[u8]) -> Result<bool, NoMemory>
+/// How often pieces give the message of a frame, and no more: once or never.
+fn times_read(alloc: Global, pieces: Vec<Octets>, frame: &[u8]) -> Result<u64, NoMemory>
     requires { All (λ piece. piece ≢ []) pieces.items }
 {
     let read = unframe(alloc, pieces);
     let held = is_message(&read, frame);
     drop(read);
-    held
+    Ok(u64::from(held?))
 }
 
-/// Whether a frame that is cut at a place gives its message.
-fn is_read_when_cut(alloc: Global, frame: &[u8], at: usize) -> Result<bool, NoMemory> {
-    let pieces = cut_at(alloc, frame, at)?;
-    is_read(alloc, pieces, frame)
-}
-
-/// Whether a frame gives its message byte by byte.
-fn is_read_by_bytes(alloc: Global, frame: &[u8]) -> Result<bool, NoMemory> {
-    let pieces = single_bytes(alloc, frame)?;
-    is_read(alloc, pieces, frame)
+/// How often a frame gives its message, cut before each of its bytes in turn.
+fn times_cut(alloc: Global, frame: &[u8]) -> Result<u64, NoMemory> {
+    let mut read: u64 = 0;
+    for at in 0..frame.len() {
+        let pieces = cut_at(alloc, frame, at)?;
+        read = read.saturating_add(times_read(alloc, pieces, frame)?);
+    }
+    Ok(read)
 }
 
 /// How often the frame of a message of so many bytes gives it: cut before each of its bytes in turn, and then into single bytes.
 pub(crate) fn cut(alloc: Global, len: u32) -> Result<u64, NoMemory> {
     let frame = framed(alloc, len)?;
-    let mut read: u64 = 0;
-    for at in 0..frame.len() {
-        read = read.saturating_add(u64::from(is_read_when_cut(alloc, &frame, at)?));
-    }
-    Ok(read.saturating_add(u64::from(is_read_by_bytes(alloc, &frame)?)))
+    let pieces = single_bytes(alloc, &frame)?;
+    let read = times_read(alloc, pieces, &frame)?;
+    Ok(read.saturating_add(times_cut(alloc, &frame)?))
 }

@@ -1,4 +1,5 @@
 //! Keys and entries as many as one wants.
+ghost use Rattle.std.specs.Prelude.{◌≤◌, length};
 
 use dns_cache::{CacheKey, Entry, RrsetProof};
 use dns_evidence::{Chain, Link};
@@ -22,44 +23,34 @@ fn some_bytes(alloc: Global) -> Result<Rdata, NoMemory> {
     Rdata::from_slice(alloc, SOME_BYTES)
 }
 
-fn record(name: Name, record_type: RecordType, rdata: Rdata) -> Record {
-    Record {
+// One record of a type.
+fn record(alloc: Global, record_type: RecordType, bytes: &[u8]) -> Result<Record, NoMemory>
+    requires { length bytes.now ≤ 65535 }
+{
+    let rdata = Rdata::from_slice(alloc, bytes)?;
+    let name = owner(alloc)?;
+    Ok(Record {
         name,
         record_type,
         dns_class: DNSClass::IN,
         ttl: 3600,
         rdata,
         proof: Proof::Indeterminate,
-    }
+    })
 }
 
-// An address, which is the number.
-fn address(alloc: Global, number: u32) -> Result<Record, NoMemory> {
-    let rdata = Rdata::from_slice(alloc, &number.to_be_bytes())?;
-    Ok(record(owner(alloc)?, RecordType::A, rdata))
-}
-
-fn signature(alloc: Global) -> Result<Record, NoMemory> {
-    let rdata = some_bytes(alloc)?;
-    Ok(record(owner(alloc)?, RecordType::RRSIG, rdata))
-}
-
-fn signatures(alloc: Global) -> Result<Vec<Record>, NoMemory> {
-    let mut rrsigs = Vec::new(alloc);
-    rrsigs.push(signature(alloc)?)?;
-    Ok(rrsigs)
-}
-
-fn addresses(alloc: Global, number: u32) -> Result<Vec<Record>, NoMemory> {
+fn records(alloc: Global, record_type: RecordType, bytes: &[u8]) -> Result<Vec<Record>, NoMemory>
+    requires { length bytes.now ≤ 65535 }
+{
     let mut records = Vec::new(alloc);
-    records.push(address(alloc, number)?)?;
+    records.push(record(alloc, record_type, bytes)?)?;
     Ok(records)
 }
 
 // A set of one address, which is the number, and one signature.
 fn set_of(alloc: Global, number: u32) -> Result<RecordSet, NoMemory> {
-    let records = addresses(alloc, number)?;
-    let rrsigs = signatures(alloc)?;
+    let records = records(alloc, RecordType::A, &number.to_be_bytes())?;
+    let rrsigs = self::records(alloc, RecordType::RRSIG, SOME_BYTES)?;
     let name = owner(alloc)?;
     Ok(RecordSet {
         name,
@@ -70,19 +61,15 @@ fn set_of(alloc: Global, number: u32) -> Result<RecordSet, NoMemory> {
     })
 }
 
-fn query(alloc: Global) -> Result<Query, NoMemory> {
+// The key for a number.
+fn key_of(alloc: Global, number: u32) -> Result<CacheKey, NoMemory> {
     let name = owner(alloc)?;
-    Ok(Query {
+    let set = set_of(alloc, number)?;
+    let query = Query {
         name,
         query_type: RecordType::A,
         query_class: DNSClass::IN,
-    })
-}
-
-// The key for a number.
-fn key_of(alloc: Global, number: u32) -> Result<CacheKey, NoMemory> {
-    let query = query(alloc)?;
-    let set = set_of(alloc, number)?;
+    };
     Ok(CacheKey { query, set })
 }
 
@@ -108,9 +95,12 @@ fn signed(alloc: Global) -> Result<(Rdata, Rdata), NoMemory> {
     Ok((sig, key))
 }
 
-fn signed_link(number: u32, owner: Name, rdatas: Vec<Rdata>, signed: (Rdata, Rdata)) -> Link {
-    let (sig, key) = signed;
-    Link::Signed {
+// A signed link of one rdata.
+fn link(alloc: Global, number: u32) -> Result<Link, NoMemory> {
+    let rdatas = rdatas(alloc)?;
+    let owner = owner(alloc)?;
+    let (sig, key) = signed(alloc)?;
+    Ok(Link::Signed {
         owner,
         class: DNSClass::IN,
         record_type: RecordType::DNSKEY,
@@ -118,15 +108,7 @@ fn signed_link(number: u32, owner: Name, rdatas: Vec<Rdata>, signed: (Rdata, Rda
         sig,
         key_link: number,
         key,
-    }
-}
-
-// A signed link of one rdata.
-fn link(alloc: Global, number: u32) -> Result<Link, NoMemory> {
-    let rdatas = rdatas(alloc)?;
-    let owner = owner(alloc)?;
-    let signed = signed(alloc)?;
-    Ok(signed_link(number, owner, rdatas, signed))
+    })
 }
 
 /// A chain of so many signed links.
@@ -148,8 +130,8 @@ pub(crate) fn secure_entry(key: &CacheKey, chain: &Chain) -> Result<Entry, NoMem
         adjusted_ttl: Some(3600),
         rrsig_index: Some(0),
     };
-    let key = key.try_clone()?;
     let chain = chain.try_clone()?;
+    let key = key.try_clone()?;
     Ok(Entry::new(key, u64::MAX, Ok(found), Some(chain)))
 }
 
@@ -165,14 +147,12 @@ pub(crate) fn plain_entry(key: &CacheKey, expires: u64, value: u32) -> Result<En
 }
 
 /// The value of an entry that was given.
-pub(crate) fn value_in(given: Option<Entry>) -> Option<u32> {
-    let value = match &given {
-        Some(entry) => entry
-            .result
-            .as_ref()
-            .map_or(None, |found| found.adjusted_ttl),
+pub(crate) fn value_in(given: &Option<Entry>) -> Option<u32> {
+    match given {
+        Some(entry) => match &entry.result {
+            Ok(found) => found.adjusted_ttl,
+            Err(_) => None,
+        },
         None => None,
-    };
-    drop(given);
-    value
+    }
 }

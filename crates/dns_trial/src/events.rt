@@ -1,8 +1,8 @@
 //! Random events, played on both machines.
 
-use crate::four_ids::FourIds;
-use crate::measured::{answer, multiplexer};
-use crate::plain_mux::{Event, Plain};
+use crate::few_ids::FewIds;
+use crate::measured::{answer, multiplexer, response};
+use crate::plain_mux::{Event, MAXIMUM, Plain};
 use dns_mux::{DnsMultiplexer, Draws, RandDraws};
 use dns_name::NoMemory;
 use std::alloc::Global;
@@ -14,17 +14,18 @@ const MOST_EVENTS: u32 = 600;
 /// Both machines, with the same draws of ids, and the time in milliseconds.
 #[derive(Drop)]
 struct Pair {
-    mux: DnsMultiplexer<FourIds>,
+    mux: DnsMultiplexer<FewIds>,
     plain: Plain,
     now: u64,
     events: u32,
     is_closed: bool,
 }
 
+// Ids are below four.
 fn new_pair(alloc: Global, seed: u64) -> Pair {
     Pair {
-        mux: multiplexer(alloc, FourIds::from_seed(seed)),
-        plain: Plain::new(alloc, FourIds::from_seed(seed)),
+        mux: multiplexer(alloc, FewIds::from_seed(seed, 3), MAXIMUM),
+        plain: Plain::new(alloc, FewIds::from_seed(seed, 3)),
         now: 0,
         events: 0,
         is_closed: false,
@@ -56,9 +57,14 @@ fn next_event(random: &mut RandDraws, pair: &Pair) -> Event {
 }
 
 // Whether both machines answer an event alike.
-fn answer_alike(alloc: Global, pair: &mut Pair, event: Event) -> Result<bool, NoMemory> {
-    let real = answer(alloc, &mut pair.mux, event)?;
-    let plain = pair.plain.answer(alloc, event)?;
+fn answer_alike(
+    alloc: Global,
+    pair: &mut Pair,
+    response: &mut [u8; 50],
+    event: Event,
+) -> Result<bool, NoMemory> {
+    let real = answer(alloc, &mut pair.mux, response, event)?;
+    let plain = pair.plain.answer(event)?;
     pair.events = pair.events.saturating_add(1);
     match event {
         Event::Tick(now) => pair.now = now,
@@ -84,9 +90,10 @@ fn difference_by(
     pair: &mut Pair,
     count: u32,
 ) -> Result<Option<u32>, NoMemory> {
+    let mut response = response();
     for number in 0..count {
         let event = next_event(random, pair);
-        if !answer_alike(alloc, pair, event)? {
+        if !answer_alike(alloc, pair, &mut response, event)? {
             return Ok(Some(number));
         }
         refresh(alloc, random, pair);

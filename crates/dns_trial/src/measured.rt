@@ -1,7 +1,6 @@
 //! The multiplexer beside the plain machine: what it answers to the same events.
 
-use crate::four_ids::FourIds;
-use crate::plain_mux::{Answer, Event, MAXIMUM, SIZE, TIMEOUT};
+use crate::plain_mux::{Answer, Event, SIZE, TIMEOUT};
 use dns_handle::{DnsRequest, DnsRequestOptions, IoKind, NetError, Notice};
 use dns_message::Message;
 use dns_mux::{
@@ -26,18 +25,33 @@ pub(crate) fn request(alloc: Global) -> DnsRequest {
     }
 }
 
-/// A multiplexer with the settings of the plain machine.
-pub(crate) fn multiplexer(alloc: Global, draws: FourIds) -> DnsMultiplexer<FourIds> {
+/// A multiplexer with the settings of the plain machine, and so many live requests at most.
+pub(crate) fn multiplexer<R: Draws + Drop>(
+    alloc: Global,
+    draws: R,
+    maximum: usize,
+) -> DnsMultiplexer<R> {
     let (handle, queue) = BufDnsStreamHandle::with_buffer_size(alloc, server(), SIZE);
     DnsMultiplexer::new(alloc, server(), handle, queue, draws)
         .with_timeout(TIMEOUT)
-        .with_max_active_requests(MAXIMUM)
+        .with_max_active_requests(maximum)
 }
 
-// A response without a question, whose code is the mark (RFC 1035, 4.1.1).
-fn response_bytes(id: u16, mark: u8) -> [u8; 12] {
+/// A response of 50 bytes: one question for `www.validate.org.`, and one address (RFC 1035, 4.1).
+const RESPONSE: &[u8; 50] =
+    b"\0\0\x81\x80\0\x01\0\x01\0\0\0\0\x03www\x08validate\x03org\0\0\x01\0\x01\xc0\x0c\0\x01\0\x01\0\0\x0e\x10\0\x04\xc0\0\x02\x07";
+
+/// That response, whose id and code are to be set.
+pub(crate) fn response() -> [u8; 50] {
+    *RESPONSE
+}
+
+/// Sets the id of a response and its code, which is the mark (RFC 1035, 4.1.1).
+pub(crate) fn set_front(response: &mut [u8; 50], id: u16, mark: u8) {
     let [high, low] = id.to_be_bytes();
-    [high, low, 0x80, mark % 16, 0, 0, 0, 0, 0, 0, 0, 0]
+    response[0] = high;
+    response[1] = low;
+    response[3] = 0x80 | (mark % 16);
 }
 
 fn refusal(error: &NetError) -> Answer {
@@ -58,7 +72,8 @@ fn told_by(sent: &Result<RequestId, NetError>) -> Result<Answer, NoMemory> {
     }
 }
 
-fn send<R: Draws + Drop>(
+/// What a send is answered.
+pub(crate) fn send<R: Draws + Drop>(
     alloc: Global,
     mux: &mut DnsMultiplexer<R>,
     moment: u64,
@@ -88,7 +103,8 @@ fn given(taken: &Taken) -> Answer {
     }
 }
 
-fn taken<R: Draws + Drop>(mux: &mut DnsMultiplexer<R>, number: u64) -> Answer {
+/// What a request is given.
+pub(crate) fn taken<R: Draws + Drop>(mux: &mut DnsMultiplexer<R>, number: u64) -> Answer {
     let taken = mux.take(RequestId(number));
     let answer = given(&taken);
     drop(taken);
@@ -105,38 +121,32 @@ fn outbound(message: &Option<SerialMessage>) -> Answer {
     }
 }
 
-fn popped<R: Draws + Drop>(mux: &mut DnsMultiplexer<R>) -> Answer {
+/// What is popped.
+pub(crate) fn popped<R: Draws + Drop>(mux: &mut DnsMultiplexer<R>) -> Answer {
     let message = mux.pop_outbound();
     let answer = outbound(&message);
     drop(message);
     answer
 }
 
-/// What the multiplexer answers to an event.
+/// What the multiplexer answers to an event, where the bytes that come are those of a response.
 pub(crate) fn answer<R: Draws + Drop>(
     alloc: Global,
     mux: &mut DnsMultiplexer<R>,
+    response: &mut [u8; 50],
     event: Event,
 ) -> Result<Answer, NoMemory> {
     match event {
-        Event::Send(moment) => send(alloc, mux, moment),
+        Event::Send(moment) => return send(alloc, mux, moment),
         Event::Arrive(id, mark) => {
-            let arrival = mux.arrive(alloc, &response_bytes(id, mark))?;
-            Ok(Answer::Arrived(arrival))
+            set_front(response, id, mark);
+            return Ok(Answer::Arrived(mux.arrive(alloc, response)?));
         }
-        Event::Take(number) => Ok(taken(mux, number)),
-        Event::Cancel(number) => {
-            mux.cancel(RequestId(number));
-            Ok(Answer::Nothing)
-        }
-        Event::Tick(now) => {
-            mux.tick(now);
-            Ok(Answer::Nothing)
-        }
-        Event::Close => {
-            mux.close(IoKind::UnexpectedEof);
-            Ok(Answer::Nothing)
-        }
-        Event::Pop => Ok(popped(mux)),
+        Event::Take(number) => return Ok(taken(mux, number)),
+        Event::Pop => return Ok(popped(mux)),
+        Event::Cancel(number) => mux.cancel(RequestId(number)),
+        Event::Tick(now) => mux.tick(now),
+        Event::Close => mux.close(IoKind::UnexpectedEof),
     }
+    Ok(Answer::Nothing)
 }

@@ -1,4 +1,5 @@
 //! A cache as one would write it with a list of numbers alone.
+ghost use Rattle.std.specs.Prelude.{◌<◌, length, IfSome};
 
 use dns_name::NoMemory;
 use std::alloc::Global;
@@ -19,6 +20,18 @@ pub(crate) struct Plain {
     hits: u64,
 }
 
+// Where the entry of a number stands.
+fn place_of(entries: &[PlainEntry], number: usize) -> Option<usize>
+    ensures { IfSome result (λ place. place < length entries.now) }
+{
+    for place in 0..entries.len() {
+        if entries[place].number == number {
+            return Some(place);
+        }
+    }
+    None
+}
+
 impl Plain {
     /// A list without entries.
     pub(crate) fn new(alloc: Global, capacity: usize) -> Plain {
@@ -36,17 +49,15 @@ impl Plain {
 
     /// The value of the key with a number.
     pub(crate) fn get(&mut self, number: usize, now: u64) -> Result<Option<u32>, NoMemory> {
-        let place = self
-            .entries
-            .iter()
-            .position(|e| e.number == number && now < e.expires);
-        let Some(place) = place else {
-            return Ok(None);
-        };
-        let found = self.entries.remove(place);
-        self.entries.insert(0, found)?;
-        self.hits = self.hits.saturating_add(1);
-        Ok(Some(found.value))
+        match place_of(&self.entries, number) {
+            Some(place) if now < self.entries[place].expires => {
+                let found = self.entries.remove(place);
+                self.entries.insert(0, found)?;
+                self.hits = self.hits.saturating_add(1);
+                Ok(Some(found.value))
+            }
+            _ => Ok(None),
+        }
     }
 
     /// Keeps a value for the key with a number.
@@ -56,7 +67,9 @@ impl Plain {
         expires: u64,
         value: u32,
     ) -> Result<(), NoMemory> {
-        self.entries.retain(|e| e.number != number);
+        if let Some(place) = place_of(&self.entries, number) {
+            self.entries.remove(place);
+        }
         let next = PlainEntry {
             number,
             expires,

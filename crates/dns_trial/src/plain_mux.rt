@@ -1,16 +1,19 @@
 //! A multiplexer as one would write it with lists alone, and what both machines are told and answer.
+ghost use Rattle.std.specs.Prelude.{◌<◌, length, IfSome};
 
-use crate::four_ids::FourIds;
+use crate::few_ids::FewIds;
 use dns_mux::{Arrival, Draws, RequestId};
 use dns_name::NoMemory;
 use std::alloc::Global;
-use std::collections::VecDeque;
 
 /// So many requests are live at most: one more than there are ids.
 pub(crate) const MAXIMUM: usize = 5;
 
 /// So many messages wait beside one more at most.
 pub(crate) const SIZE: usize = 4;
+
+/// So many responses wait for one request at most.
+const MOST_WAITING: usize = 9;
 
 /// Milliseconds after which a request ends.
 pub(crate) const TIMEOUT: u64 = 1000;
@@ -49,27 +52,96 @@ pub(crate) enum Answer {
     Other,
 }
 
-#[derive(Drop)]
+/// A request.
+#[derive(Clone, Copy)]
 struct PlainRequest {
     id: u16,
     moment: u64,
     is_live: bool,
-    waiting: VecDeque<Answer>,
+    is_cancelled: bool,
 }
 
-/// The requests in the order of their numbers, and what is to be sent.
+/// What waits for the request with a number: a response with a mark, or the fault of a connection that was closed.
+#[derive(Clone, Copy)]
+struct Waiting {
+    number: usize,
+    mark: Option<u8>,
+}
+
+/// The requests in the order of their numbers, what waits for them in the order in which it came, and what is to be sent.
 #[derive(Drop)]
 pub(crate) struct Plain {
     requests: Vec<PlainRequest>,
-    outbound: VecDeque<u16>,
-    draws: FourIds,
+    waiting: Vec<Waiting>,
+    outbound: Vec<u16>,
+    draws: FewIds,
+}
+
+// Where the first item of a request stands.
+fn place_of(waiting: &[Waiting], number: usize) -> Option<usize>
+    ensures { IfSome result (λ place. place < length waiting.now) }
+{
+    for place in 0..waiting.len() {
+        if waiting[place].number == number {
+            return Some(place);
+        }
+    }
+    None
+}
+
+// How many items wait for a request.
+fn count_of(waiting: &[Waiting], number: usize) -> usize {
+    let mut count: usize = 0;
+    for one in waiting {
+        if one.number == number {
+            count = count.saturating_add(1);
+        }
+    }
+    count
+}
+
+// Puts an item behind those that wait for a request. False where there is no room for it.
+fn add(waiting: &mut Vec<Waiting>, number: usize, mark: Option<u8>) -> Result<bool, NoMemory> {
+    if count_of(waiting, number) >= MOST_WAITING {
+        return Ok(false);
+    }
+    waiting.push(Waiting { number, mark })?;
+    Ok(true)
+}
+
+fn item_of(mark: Option<u8>) -> Answer {
+    match mark {
+        Some(mark) => Answer::Response(mark),
+        None => Answer::Fault,
+    }
+}
+
+fn live_count(requests: &[PlainRequest]) -> usize {
+    let mut count: usize = 0;
+    for request in requests {
+        if request.is_live {
+            count = count.saturating_add(1);
+        }
+    }
+    count
+}
+
+// The number of the live request with an id.
+fn holder(requests: &[PlainRequest], id: u16) -> Option<usize> {
+    for number in 0..requests.len() {
+        if requests[number].is_live && requests[number].id == id {
+            return Some(number);
+        }
+    }
+    None
 }
 
 impl Plain {
-    pub(crate) fn new(alloc: Global, draws: FourIds) -> Plain {
+    pub(crate) fn new(alloc: Global, draws: FewIds) -> Plain {
         Plain {
             requests: Vec::new(alloc),
-            outbound: VecDeque::new(alloc),
+            waiting: Vec::new(alloc),
+            outbound: Vec::new(alloc),
             draws,
         }
     }
@@ -79,26 +151,18 @@ impl Plain {
         self.requests.len() as u64
     }
 
-    fn live_count(&self) -> usize {
-        self.requests.iter().filter(|r| r.is_live).count()
-    }
-
-    fn holder(&self, id: u16) -> Option<usize> {
-        self.requests.iter().position(|r| r.is_live && r.id == id)
-    }
-
     fn draw(&mut self) -> Option<u16> {
         for _ in 0..100 {
             let id = self.draws.id();
-            if self.holder(id).is_none() {
+            if holder(&self.requests, id).is_none() {
                 return Some(id);
             }
         }
         None
     }
 
-    fn send(&mut self, alloc: Global, moment: u64) -> Result<Answer, NoMemory> {
-        if self.live_count() >= MAXIMUM {
+    fn send(&mut self, moment: u64) -> Result<Answer, NoMemory> {
+        if live_count(&self.requests) >= MAXIMUM {
             return Ok(Answer::Busy);
         }
         let Some(id) = self.draw() else {
@@ -108,45 +172,46 @@ impl Plain {
             return Ok(Answer::QueueFull);
         }
         let number = self.count();
-        self.outbound.push_back(id)?;
+        self.outbound.push(id)?;
         self.requests.push(PlainRequest {
             id,
             moment,
             is_live: true,
-            waiting: VecDeque::new(alloc),
+            is_cancelled: false,
         })?;
         Ok(Answer::Sent(number))
     }
 
-    fn arrive(&mut self, id: u16, mark: u8) -> Result<Answer, NoMemory> {
-        let Some(place) = self.holder(id) else {
-            return Ok(Answer::Arrived(Arrival::Stranger));
+    fn arrive(&mut self, id: u16, mark: u8) -> Result<Arrival, NoMemory> {
+        let Some(number) = holder(&self.requests, id) else {
+            return Ok(Arrival::Stranger);
         };
-        let Some(request) = self.requests.get_mut(place) else {
-            return Ok(Answer::Other);
-        };
-        if request.waiting.len() >= 9 {
-            return Ok(Answer::Arrived(Arrival::Full));
+        if add(&mut self.waiting, number, Some(mark))? {
+            Ok(Arrival::Queued(RequestId(number as u64)))
+        } else {
+            Ok(Arrival::Full)
         }
-        request.waiting.push_back(Answer::Response(mark))?;
-        Ok(Answer::Arrived(Arrival::Queued(RequestId(place as u64))))
     }
 
-    fn take(&mut self, number: u64) -> Answer {
-        match self.requests.get_mut(number as usize) {
+    fn take(&mut self, number: usize) -> Answer {
+        let Some(request) = self.requests.get(number) else {
+            return Answer::Ended;
+        };
+        if request.is_cancelled {
+            return Answer::Ended;
+        }
+        match place_of(&self.waiting, number) {
+            Some(place) => item_of(self.waiting.remove(place).mark),
+            None if request.is_live => Answer::Pending,
             None => Answer::Ended,
-            Some(request) => match request.waiting.pop_front() {
-                Some(item) => item,
-                None if request.is_live => Answer::Pending,
-                None => Answer::Ended,
-            },
         }
     }
 
-    fn cancel(&mut self, number: u64) {
-        if let Some(request) = self.requests.get_mut(number as usize) {
+    // What waits for a cancelled request is never taken.
+    fn cancel(&mut self, number: usize) {
+        if let Some(request) = self.requests.get_mut(number) {
             request.is_live = false;
-            request.waiting.clear();
+            request.is_cancelled = true;
         }
     }
 
@@ -159,37 +224,36 @@ impl Plain {
     }
 
     fn close(&mut self) -> Result<(), NoMemory> {
-        for request in &mut self.requests {
-            if request.is_live && request.waiting.len() < 9 {
-                request.waiting.push_back(Answer::Fault)?;
+        for number in 0..self.requests.len() {
+            if let Some(request) = self.requests.get_mut(number)
+                && request.is_live
+            {
+                request.is_live = false;
+                let _ = add(&mut self.waiting, number, None)?;
             }
-            request.is_live = false;
         }
         Ok(())
     }
 
-    /// What an event is answered.
-    pub(crate) fn answer(&mut self, alloc: Global, event: Event) -> Result<Answer, NoMemory> {
-        match event {
-            Event::Send(moment) => self.send(alloc, moment),
-            Event::Arrive(id, mark) => self.arrive(id, mark),
-            Event::Take(number) => Ok(self.take(number)),
-            Event::Cancel(number) => {
-                self.cancel(number);
-                Ok(Answer::Nothing)
-            }
-            Event::Tick(now) => {
-                self.tick(now);
-                Ok(Answer::Nothing)
-            }
-            Event::Close => {
-                self.close()?;
-                Ok(Answer::Nothing)
-            }
-            Event::Pop => match self.outbound.pop_front() {
-                Some(id) => Ok(Answer::Popped(id)),
-                None => Ok(Answer::Nothing),
-            },
+    fn pop(&mut self) -> Answer {
+        if self.outbound.is_empty() {
+            Answer::Nothing
+        } else {
+            Answer::Popped(self.outbound.remove(0))
         }
+    }
+
+    /// What an event is answered.
+    pub(crate) fn answer(&mut self, event: Event) -> Result<Answer, NoMemory> {
+        match event {
+            Event::Send(moment) => return self.send(moment),
+            Event::Arrive(id, mark) => return Ok(Answer::Arrived(self.arrive(id, mark)?)),
+            Event::Take(number) => return Ok(self.take(number as usize)),
+            Event::Pop => return Ok(self.pop()),
+            Event::Cancel(number) => self.cancel(number as usize),
+            Event::Tick(now) => self.tick(now),
+            Event::Close => self.close()?,
+        }
+        Ok(Answer::Nothing)
     }
 }

@@ -1,23 +1,15 @@
 //! Requests over sockets of this machine: by an exchange, and by a plain socket of std.
-use crate::server::{FRAME, listener, read_whole, serve};
+use crate::form::Work;
+use crate::measured::request;
+use crate::server::{FRAME, serve};
 use dns_exchange::TcpExchange;
-use dns_handle::{DnsHandle, DnsRequest, DnsRequestOptions};
+use dns_handle::DnsHandle;
 use dns_link::{Link, SocketDialer};
-use dns_message::Message;
 use dns_mux::{Draws, RandDraws};
 use std::alloc::Global;
 use std::io::{Read, Write};
-use std::net::{SocketAddr, TcpStream};
+use std::net::{SocketAddr, TcpListener, TcpStream};
 use std::thread::{Threads, join};
-
-/// A query without a question.
-fn request(alloc: Global) -> DnsRequest {
-    DnsRequest {
-        message: Message::query(alloc),
-        options: DnsRequestOptions::default(),
-        original: None,
-    }
-}
 
 /// Whether a request is answered by an exchange.
 fn is_answered<L: Link + Drop, D: Draws + Drop>(
@@ -38,9 +30,7 @@ fn ask_all<L: Link + Drop, D: Draws + Drop>(
 ) -> u64 {
     let mut answered: u64 = 0;
     for _ in 0..count {
-        if is_answered(alloc, exchange) {
-            answered = answered.saturating_add(1);
-        }
+        answered = answered.saturating_add(u64::from(is_answered(alloc, exchange)));
     }
     answered
 }
@@ -56,28 +46,13 @@ fn ask(rt: &HostRuntime, alloc: Global, server: SocketAddr, count: u32) -> u64 {
     }
 }
 
-/// How many of so many requests are answered by a server of this machine.
-pub(crate) fn asked<T: Threads>(rt: &HostRuntime, threads: &T, alloc: Global, count: u32) -> u64 {
-    match listener(rt) {
-        Some((listener, addr)) => {
-            let (_, answered) = join(
-                threads,
-                || serve(&listener, count),
-                || ask(rt, alloc, addr, count),
-            );
-            answered
-        }
-        None => 0,
-    }
-}
-
 /// Writes and reads as many bytes by a plain stream.
 fn echo_all<S: Read + Write>(stream: &mut S, count: u32) -> u64 {
     let mut buf = [0u8; FRAME];
     buf[1] = 12;
     let mut answered: u64 = 0;
     for _ in 0..count {
-        if stream.write_all(&buf).is_err() || !read_whole(stream, &mut buf) {
+        if stream.write_all(&buf).is_err() || stream.read_exact(&mut buf).is_err() {
             break;
         }
         answered = answered.saturating_add(1);
@@ -93,17 +68,46 @@ fn echo(rt: &HostRuntime, server: SocketAddr, count: u32) -> u64 {
     }
 }
 
-/// The same by plain sockets of std on both sides.
-pub(crate) fn echoed<T: Threads>(rt: &HostRuntime, threads: &T, count: u32) -> u64 {
-    match listener(rt) {
-        Some((listener, addr)) => {
+/// The same by an exchange, or by a plain socket.
+fn ask_by(rt: &HostRuntime, alloc: Global, work: Work, server: SocketAddr, count: u32) -> u64 {
+    match work {
+        Work::Asked => ask(rt, alloc, server, count),
+        _ => echo(rt, server, count),
+    }
+}
+
+/// How many of so many requests a listener of this machine answers.
+fn answered_by<T: Threads>(
+    rt: &HostRuntime,
+    threads: &T,
+    alloc: Global,
+    work: Work,
+    listener: &TcpListener,
+    count: u32,
+) -> u64 {
+    match listener.local_addr() {
+        Ok(addr) => {
             let (_, answered) = join(
                 threads,
-                || serve(&listener, count),
-                || echo(rt, addr, count),
+                || serve(listener, count),
+                || ask_by(rt, alloc, work, addr, count),
             );
             answered
         }
-        None => 0,
+        Err(_) => 0,
+    }
+}
+
+/// How many of so many requests are answered by a server of this machine.
+pub(crate) fn answered<T: Threads>(
+    rt: &HostRuntime,
+    threads: &T,
+    alloc: Global,
+    work: Work,
+    count: u32,
+) -> u64 {
+    match TcpListener::bind(rt, "127.0.0.1:0") {
+        Ok(listener) => answered_by(rt, threads, alloc, work, &listener, count),
+        Err(_) => 0,
     }
 }

@@ -2,13 +2,11 @@
 
 use dns_name::NoMemory;
 use dns_text::push_decimal;
-use std::alloc::Global;
 
-/// A line with a word and a number.
-pub(crate) fn line(alloc: Global, name: &[u8], number: u64) -> Result<Vec<u8>, NoMemory> {
-    let mut text = Vec::from_slice(alloc, name)?;
-    text.push(b' ')?;
-    push_decimal(&mut text, number)?;
+/// Puts a line with a word and a number behind a text.
+pub(crate) fn push_line(text: &mut Vec<u8>, name: &[u8], number: u64) -> Result<(), NoMemory> {
+    text.extend_from_slice(name)?;
+    push_decimal(text, number)?;
     text.push(b'\n')?;
-    Ok(text)
+    Ok(())
 }

@@ -1,21 +1,24 @@
 use dns_mux::{Draws, RandDraws};
 
-/// Draws ids from 0 to 3 alone, so that live ids are often drawn.
+/// Draws ids from 0 up to the greatest alone. Where that is 3, live ids are often drawn.
 #[derive(Drop)]
-pub(crate) struct FourIds {
+pub(crate) struct FewIds {
     random: RandDraws,
+    /// One less than a power of 2.
+    greatest: u16,
 }
 
-impl FourIds {
+impl FewIds {
     /// From one seed the ids are the same.
-    pub(crate) fn from_seed(seed: u64) -> FourIds {
-        FourIds {
+    pub(crate) fn from_seed(seed: u64, greatest: u16) -> FewIds {
+        FewIds {
             random: RandDraws::from_seed(seed),
+            greatest,
         }
     }
 }
 
-impl Draws for FourIds {
+impl Draws for FewIds {
     ghost use Rattle.std.specs.Prelude.{⊤};
 
     ghost draws_id = { λ _ _ _. ⊤ };
@@ -23,7 +26,7 @@ impl Draws for FourIds {
     ghost draws_port = { λ _ _ _. ⊤ };
 
     fn id(&mut self) -> u16 {
-        self.random.id() % 4
+        self.random.id() & self.greatest
     }
 
     fn port(&mut self) -> u16 {
