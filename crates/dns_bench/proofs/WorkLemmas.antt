@@ -5,7 +5,7 @@ use Rattle.dns_session.specs.Grammar.{session_of}
 use Rattle.dns_session.specs.Stops.{session_status}
 use Rattle.dns_bench.specs.Forms.{EndsWork}
 use Rattle.dns_bench.specs.declared.form.Work.{Work}
-use Rattle.dns_bench.specs.declared.form.Work.TheVariants.{Decode, LookUp, LookUpAnew, Report, Verdicts}
+use Rattle.dns_bench.specs.declared.form.Work.TheVariants.{Decode, OnSession}
 
 small : (told : Result SessionValue ℕ) → session_status told < 4
 small (Ok session) = omega arith
@@ -20,7 +20,4 @@ session_done bytes status is =
 pub work_done : (work : Work) (bytes : List ℕ) (status : ℕ) → EndsWork work bytes status → status < 4
 work_done Decode bytes status (inl is) = omega (arith, is)
 work_done Decode bytes status (inr is) = omega (arith, is)
-work_done LookUp bytes status is = session_done bytes status is
-work_done LookUpAnew bytes status is = session_done bytes status is
-work_done Report bytes status is = session_done bytes status is
-work_done Verdicts bytes status is = session_done bytes status is
+work_done (OnSession on) bytes status is = session_done bytes status is

@@ -11,7 +11,8 @@ use Rattle.dns_session.specs.Stops.{session_status}
 use Rattle.dns_bench.specs.declared.form.Form.{Form}
 use Rattle.dns_bench.specs.declared.form.Form.TheVariants.{Reading, Signed}
 use Rattle.dns_bench.specs.declared.form.Work.{Work}
-use Rattle.dns_bench.specs.declared.form.Work.TheVariants.{Decode, LookUp, LookUpAnew, Report, Verdicts}
+use Rattle.dns_bench.specs.declared.form.Work.TheVariants.{Decode, OnSession}
+use Rattle.dns_bench.specs.declared.form.SessionWork.TheVariants.{LookUp, LookUpAnew, Report, Verdicts}
 
 -- how often is a number of 32 bits
 abbrev pub passes_in : List ℕ → Option ℕ
@@ -27,13 +28,13 @@ signed_form records passes = option_and_then (λ r. option_map (λ n. Signed r n
 -- 65535 records
 abbrev pub form_in : List (List ℕ) → Option Form
 form_in (name ∷ []) =
-    if bytes_eq name (codes "report") then Some (Reading Report 1)
-    else if bytes_eq name (codes "verdicts") then Some (Reading Verdicts 1)
+    if bytes_eq name (codes "report") then Some (Reading (OnSession Report) 1)
+    else if bytes_eq name (codes "verdicts") then Some (Reading (OnSession Verdicts) 1)
     else None
 form_in (name ∷ passes ∷ []) =
     if bytes_eq name (codes "decode") then reading_form Decode (passes_in passes)
-    else if bytes_eq name (codes "lookup") then reading_form LookUp (passes_in passes)
-    else if bytes_eq name (codes "anew") then reading_form LookUpAnew (passes_in passes)
+    else if bytes_eq name (codes "lookup") then reading_form (OnSession LookUp) (passes_in passes)
+    else if bytes_eq name (codes "anew") then reading_form (OnSession LookUpAnew) (passes_in passes)
     else None
 form_in (name ∷ records ∷ passes ∷ []) =
     if bytes_eq name (codes "signed") then signed_form (decimal_in 65535 records) (passes_in passes) else None
@@ -52,10 +53,7 @@ form_asks (Some (Reading work passes)) = AnInput
 -- the status of work on bytes: 3 where they are no frames, or no session
 abbrev pub EndsWork : Work → List ℕ → ℕ → Type 0
 EndsWork Decode bytes status = (status ≡ 0) ⊎ (status ≡ 3)
-EndsWork LookUp bytes status = status ≡ session_status (session_of bytes)
-EndsWork LookUpAnew bytes status = status ≡ session_status (session_of bytes)
-EndsWork Report bytes status = status ≡ session_status (session_of bytes)
-EndsWork Verdicts bytes status = status ≡ session_status (session_of bytes)
+EndsWork (OnSession work) bytes status = status ≡ session_status (session_of bytes)
 
 -- a status below 4, by what the words ask for; where a source tells no bytes, by some bytes
 abbrev pub EndsAsAsked : Option Form → ℕ → Option (List ℕ) → Option (List ℕ) → Option (List ℕ) → Type 0

@@ -1,7 +1,7 @@
 //! What decoding counts.
 ghost use Rattle.std.specs.Prelude.{◌<◌, ◌^◌, length};
 
-use crate::frames::Frame;
+use crate::frames::front;
 use dns_message::{DecodeError, DecodeKind, Message};
 use dns_name::NoMemory;
 use std::alloc::Global;
@@ -57,28 +57,35 @@ fn with_message(
     }
 }
 
-/// Decodes each message once.
-fn pass(alloc: Global, before: Counts, messages: &[Frame]) -> Result<Counts, NoMemory> {
+/// Decodes each message of the frames once, up to one that is cut off.
+fn pass(alloc: Global, before: Counts, bytes: &[u8]) -> Result<Counts, NoMemory>
+    requires { length bytes.now < 2 ^ 32 }
+{
     let mut counts = before;
-    for message in messages {
-        counts = counted(alloc, counts, message.as_slice())?;
+    let mut rest = bytes;
+    'frames: while !rest.is_empty() {
+        match front(rest) {
+            Some((message, after)) => {
+                counts = counted(alloc, counts, message)?;
+                rest = after;
+            }
+            None => break,
+        }
     }
     Ok(counts)
 }
 
-/// Decodes all messages so many times.
-pub(crate) fn count_passes(
-    alloc: Global,
-    passes: u32,
-    messages: &[Frame],
-) -> Result<Counts, NoMemory> {
+/// Decodes all messages of the frames so many times.
+pub(crate) fn count_passes(alloc: Global, passes: u32, bytes: &[u8]) -> Result<Counts, NoMemory>
+    requires { length bytes.now < 2 ^ 32 }
+{
     let mut counts = Counts {
         messages: 0,
         refused: 0,
         records: 0,
     };
     for _ in 0..passes {
-        counts = pass(alloc, counts, messages)?;
+        counts = pass(alloc, counts, bytes)?;
     }
     Ok(counts)
 }

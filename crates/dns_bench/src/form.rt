@@ -5,19 +5,26 @@ ghost use Rattle.dns_bench.specs.Forms.{asked_form, passes_in as passes_of_word,
 
 use dns_text::{decimal_in, u16_in};
 
+/// What is done with a session.
+#[derive(Clone, Copy)]
+pub enum SessionWork {
+    /// Its query is looked up, over one validator, whose cache is filled by the first lookup.
+    LookUp,
+    /// The same, each time with an empty cache.
+    LookUpAnew,
+    /// Any answer to it is reported with its trail: an Ok one, or that inside a denial. Once alone.
+    Report,
+    /// What the NSEC or NSEC3 records of each reply prove is told. Once alone.
+    Verdicts,
+}
+
 /// What is done with an input.
 #[derive(Clone, Copy)]
 pub enum Work {
     /// Its messages are decoded.
     Decode,
-    /// The session's query is looked up, over one validator, whose cache is filled by the first lookup.
-    LookUp,
-    /// The same, each time with an empty cache.
-    LookUpAnew,
-    /// Any answer to the session is reported with its trail: an Ok one, or that inside a denial. Once alone.
-    Report,
-    /// What the NSEC or NSEC3 records of each reply prove is told. Once alone.
-    Verdicts,
+    /// It is a session.
+    OnSession(SessionWork),
 }
 
 /// What the program is asked for.
@@ -61,10 +68,10 @@ pub(crate) fn form_of(words: &[Vec<u8>]) -> Option<Form>
     match words {
         [name] => {
             if name.as_slice() == b"report".as_slice() {
-                return Some(Form::Reading(Work::Report, 1));
+                return Some(Form::Reading(Work::OnSession(SessionWork::Report), 1));
             }
             if name.as_slice() == b"verdicts".as_slice() {
-                return Some(Form::Reading(Work::Verdicts, 1));
+                return Some(Form::Reading(Work::OnSession(SessionWork::Verdicts), 1));
             }
             None
         }
@@ -73,10 +80,10 @@ pub(crate) fn form_of(words: &[Vec<u8>]) -> Option<Form>
                 return reading_form(Work::Decode, passes);
             }
             if name.as_slice() == b"lookup".as_slice() {
-                return reading_form(Work::LookUp, passes);
+                return reading_form(Work::OnSession(SessionWork::LookUp), passes);
             }
             if name.as_slice() == b"anew".as_slice() {
-                return reading_form(Work::LookUpAnew, passes);
+                return reading_form(Work::OnSession(SessionWork::LookUpAnew), passes);
             }
             None
         }

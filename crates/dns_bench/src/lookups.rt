@@ -21,7 +21,6 @@ pub struct Lookups {
 /// What is looked up again and again.
 #[derive(Drop)]
 struct Repeated {
-    alloc: Global,
     query: Query,
     options: DnsRequestOptions,
     /// Seconds.
@@ -35,23 +34,12 @@ const CACHE_ENTRIES: usize = 65_536;
 
 // Looks it up.
 fn look_up(
+    alloc: Global,
     what: &Repeated,
     handle: &mut DnssecDnsHandle<Recorded, Listed>,
 ) -> Result<DnsResponse, NetError> {
     let query = what.query.try_clone()?;
-    handle.lookup(what.alloc, query, what.options, what.moment)
-}
-
-// Looks it up, and counts what came of it.
-fn count_one(
-    what: &Repeated,
-    handle: &mut DnssecDnsHandle<Recorded, Listed>,
-    counts: Lookups,
-) -> Result<Lookups, NoMemory> {
-    let reply = look_up(what, handle);
-    let counts = with_reply(counts, &reply);
-    drop(reply);
-    counts
+    handle.lookup(alloc, query, what.options, what.moment)
 }
 
 // The counts, with what came of a lookup.
@@ -69,34 +57,53 @@ fn with_reply(counts: Lookups, reply: &Result<DnsResponse, NetError>) -> Result<
     }
 }
 
+// Looks it up, and counts what came of it.
+fn count_one(
+    alloc: Global,
+    what: &Repeated,
+    handle: &mut DnssecDnsHandle<Recorded, Listed>,
+    counts: Lookups,
+) -> Result<Lookups, NoMemory> {
+    let reply = look_up(alloc, what, handle);
+    let counts = with_reply(counts, &reply);
+    drop(reply);
+    counts
+}
+
 // The validator, with an empty cache where that is wanted.
 fn made_ready(
+    alloc: Global,
     what: &Repeated,
     handle: DnssecDnsHandle<Recorded, Listed>,
 ) -> Result<DnssecDnsHandle<Recorded, Listed>, NoMemory> {
     if what.anew {
-        handle.validation_cache_size(what.alloc, CACHE_ENTRIES)
+        handle.validation_cache_size(alloc, CACHE_ENTRIES)
     } else {
         Ok(handle)
     }
 }
 
-// Looks it up so many times.
+// Looks it up so many times. The validator is let go at one place, which is cheaper to prove than at each `?`.
 fn count_all(
+    alloc: Global,
     what: &Repeated,
     handle: DnssecDnsHandle<Recorded, Listed>,
     times: u32,
 ) -> Result<Lookups, NoMemory> {
-    let mut counts = Lookups {
+    let mut counts = Ok(Lookups {
         answers: 0,
         faults: 0,
-    };
+    });
     let mut handle = handle;
     for _ in 0..times {
-        handle = made_ready(what, handle)?;
-        counts = count_one(what, &mut handle, counts)?;
+        handle = made_ready(alloc, what, handle)?;
+        let Ok(before) = counts else {
+            break;
+        };
+        counts = count_one(alloc, what, &mut handle, before);
     }
-    Ok(counts)
+    drop(handle);
+    counts
 }
 
 /// Looks a session's query up so many times, over one validator, each time with an empty cache or not, and counts what came of it.
@@ -114,11 +121,12 @@ pub(crate) fn count_lookups(
         moment,
     } = made;
     let what = Repeated {
-        alloc,
         query,
         options,
         moment,
         anew,
     };
-    count_all(&what, validator, times)
+    let counts = count_all(alloc, &what, validator, times);
+    drop(what);
+    counts
 }

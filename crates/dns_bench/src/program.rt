@@ -8,95 +8,99 @@ ghost use Rattle.dns_bench.specs.Forms.{asked_form, form_asks, EndsAsAsked, Ends
 ghost use Rattle.dns_bench.specs.declared.form.Work.TheVariants.{Decode};
 
 use crate::counts::count_passes;
-use crate::form::{Form, Work, form_of};
-use crate::frames::{FrameStop, messages_of};
+use crate::form::{Form, SessionWork, Work, form_of};
+use crate::frames::cut_off;
 use crate::lookups::count_lookups;
 use crate::signing::signed_count;
-use crate::texts::{bad_frame_text, counts_text, lookups_text, signed_text};
-use crate::trails::session_text;
-use crate::verdicts::session_lines;
+use crate::texts::{push_counts, push_line, push_lookups};
+use crate::trails::push_report;
+use crate::verdicts::push_lines;
 use dns_io::status::{self, read_status, refuse_long, refuse_words, write_text};
 use dns_io::{ReadStop, Sink, Source, read_all};
 use dns_name::NoMemory;
-use dns_session::{Session, SessionStop, bad_line_text, read_session};
+use dns_session::{Session, SessionStop, read_session};
 use std::alloc::Global;
 
-// Decodes the frames of the bytes so many times: what was counted, or which frame is cut off.
-fn decode(alloc: Global, passes: u32, bytes: &[u8]) -> Result<(u8, Vec<u8>), NoMemory>
+// Decodes the frames of the bytes so many times, and puts what was counted behind a text, or which frame is cut off.
+fn decode(alloc: Global, passes: u32, bytes: &[u8], text: &mut Vec<u8>) -> Result<u8, NoMemory>
     requires { length bytes.now ≤ input_limit }
-    ensures { IfOk result (λ x. EndsWork Decode bytes.now x.0) }
+    ensures { IfOk result (λ status. EndsWork Decode bytes.now status) }
 {
-    match messages_of(alloc, bytes) {
-        Ok(messages) => {
-            let counts = count_passes(alloc, passes, &messages)?;
-            let text = counts_text(alloc, counts)?;
-            Ok((status::DONE, text))
-        }
-        Err(FrameStop::CutOff(number)) => {
-            let text = bad_frame_text(alloc, number)?;
-            Ok((status::BAD_INPUT, text))
-        }
-        Err(FrameStop::NoMemory) => Err(NoMemory),
+    if let Some(number) = cut_off(bytes) {
+        push_line(text, b"bad frame ", number)?;
+        return Ok(status::BAD_INPUT);
     }
+    let counts = count_passes(alloc, passes, bytes)?;
+    push_counts(text, counts)?;
+    Ok(status::DONE)
 }
 
-// Looks a session up so many times, each time with an empty cache or not: what was counted.
-fn counted_text(
+// Looks a session up so many times, each time with an empty cache or not, and puts what was counted behind a text.
+fn push_counted(
     alloc: Global,
     passes: u32,
     session: Session,
     anew: bool,
-) -> Result<Vec<u8>, NoMemory> {
+    text: &mut Vec<u8>,
+) -> Result<(), NoMemory> {
     let counts = count_lookups(alloc, session, passes, anew)?;
-    lookups_text(alloc, counts)
+    push_lookups(text, counts)
 }
 
-// A line for each reply of a session.
-fn verdicts_text(alloc: Global, session: Session) -> Result<Vec<u8>, NoMemory> {
-    let text = session_lines(alloc, &session);
-    drop(session);
-    text
-}
-
-// The text of work on a session.
-fn text_of(alloc: Global, work: Work, passes: u32, session: Session) -> Result<Vec<u8>, NoMemory> {
+// Puts the text of work on a session behind a text.
+fn push_text(
+    alloc: Global,
+    work: SessionWork,
+    passes: u32,
+    session: Session,
+    text: &mut Vec<u8>,
+) -> Result<(), NoMemory> {
     match work {
-        Work::Report => session_text(alloc, session),
-        Work::Verdicts => verdicts_text(alloc, session),
-        Work::LookUpAnew => counted_text(alloc, passes, session, true),
-        _ => counted_text(alloc, passes, session, false),
+        SessionWork::Report => push_report(alloc, session, text),
+        SessionWork::Verdicts => push_lines(alloc, session, text),
+        SessionWork::LookUp => push_counted(alloc, passes, session, false, text),
+        SessionWork::LookUpAnew => push_counted(alloc, passes, session, true, text),
     }
 }
 
-// Works on the session that the bytes are: its text, or which line is bad.
-fn work_on(alloc: Global, work: Work, passes: u32, bytes: &[u8]) -> Result<(u8, Vec<u8>), NoMemory>
+// Works on the session that the bytes are, and puts its text behind a text, or which line is bad.
+fn work_on(
+    alloc: Global,
+    work: SessionWork,
+    passes: u32,
+    bytes: &[u8],
+    text: &mut Vec<u8>,
+) -> Result<u8, NoMemory>
     requires { length bytes.now ≤ input_limit }
-    ensures { IfOk result (λ x. x.0 ≡ session_status (session_of bytes.now)) }
+    ensures { IfOk result (λ status. status ≡ session_status (session_of bytes.now)) }
 {
     match read_session(alloc, bytes) {
         Ok(session) => {
-            let text = text_of(alloc, work, passes, session)?;
-            Ok((status::DONE, text))
+            push_text(alloc, work, passes, session, text)?;
+            Ok(status::DONE)
         }
         Err(SessionStop::BadLine(number)) => {
-            let text = bad_line_text(alloc, number)?;
-            Ok((status::BAD_INPUT, text))
+            push_line(text, b"bad line ", number)?;
+            Ok(status::BAD_INPUT)
         }
         Err(SessionStop::NoMemory) => Err(NoMemory),
     }
 }
 
 // Works on the bytes so many times.
-fn measure(alloc: Global, work: Work, passes: u32, bytes: &[u8]) -> Result<(u8, Vec<u8>), NoMemory>
+fn measure(
+    alloc: Global,
+    work: Work,
+    passes: u32,
+    bytes: &[u8],
+    text: &mut Vec<u8>,
+) -> Result<u8, NoMemory>
     requires { length bytes.now ≤ input_limit }
-    ensures { IfOk result (λ x. EndsWork work bytes.now x.0) }
+    ensures { IfOk result (λ status. EndsWork work bytes.now status) }
 {
     match work {
-        Work::Decode => decode(alloc, passes, bytes),
-        Work::LookUp => work_on(alloc, work, passes, bytes),
-        Work::LookUpAnew => work_on(alloc, work, passes, bytes),
-        Work::Report => work_on(alloc, work, passes, bytes),
-        Work::Verdicts => work_on(alloc, work, passes, bytes),
+        Work::Decode => decode(alloc, passes, bytes, text),
+        Work::OnSession(work) => work_on(alloc, work, passes, bytes, text),
     }
 }
 
@@ -113,8 +117,9 @@ fn write_measured<W: Sink>(
     ensures ends { result < 4 → EndsWork work bytes.now result }
     ensures keeps { KeepsSink W.faults result output.old output.new }
 {
-    match measure(alloc, work, passes, bytes) {
-        Ok((status, text)) => write_text(status, &text, output),
+    let mut text = Vec::new(alloc);
+    match measure(alloc, work, passes, bytes, &mut text) {
+        Ok(status) => write_text(status, &text, output),
         Err(NoMemory) => status::NO_MEMORY,
     }
 }
@@ -139,21 +144,27 @@ fn read_and_measure<S: Source, W: Sink>(
     }
 }
 
-// Makes signed bytes so many times, and writes how many that were.
+// Makes signed bytes so many times, and puts how many that were behind a text.
+fn push_signed(
+    alloc: Global,
+    records: u16,
+    passes: u32,
+    text: &mut Vec<u8>,
+) -> Result<(), NoMemory> {
+    let count = signed_count(alloc, records, passes)?;
+    push_line(text, b"bytes ", count)
+}
+
+// The same, and writes it.
 fn write_signed<W: Sink>(alloc: Global, records: u16, passes: u32, output: &mut W) -> u8
     ensures ends { result < 4 → result ≡ 0 }
     ensures keeps { KeepsSink W.faults result output.old output.new }
 {
-    match signed_words(alloc, records, passes) {
-        Ok(text) => write_text(status::DONE, &text, output),
+    let mut text = Vec::new(alloc);
+    match push_signed(alloc, records, passes, &mut text) {
+        Ok(()) => write_text(status::DONE, &text, output),
         Err(NoMemory) => status::NO_MEMORY,
     }
-}
-
-// The text of the signed bytes of so many passes.
-fn signed_words(alloc: Global, records: u16, passes: u32) -> Result<Vec<u8>, NoMemory> {
-    let count = signed_count(alloc, records, passes)?;
-    signed_text(alloc, count)
 }
 
 /// Runs the program with its words, those after its name, and answers its status.

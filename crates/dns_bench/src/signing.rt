@@ -59,7 +59,9 @@ pub(crate) fn signed_count(alloc: Global, records: u16, passes: u32) -> Result<u
                 records,
                 rrsigs: Vec::new(alloc),
             };
-            count_signed(alloc, &set, &sig, passes)
+            let count = count_signed(alloc, &set, &sig, passes);
+            drop(set);
+            count
         }
         None => Ok(0),
     }

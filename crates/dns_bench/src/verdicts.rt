@@ -122,17 +122,27 @@ fn proof_line(proof: Proof) -> &'static [u8] {
     }
 }
 
-/// A line for each reply.
-fn lines_of(alloc: Global, zone: &Name, replies: &[SessionReply]) -> Result<Vec<u8>, NoMemory> {
-    let mut text = Vec::new(alloc);
+/// Puts a line for each reply behind a text, in a zone.
+fn push_verdicts(
+    alloc: Global,
+    zone: &Name,
+    replies: &[SessionReply],
+    text: &mut Vec<u8>,
+) -> Result<(), NoMemory> {
     for reply in replies {
         let proof = reply_proof(alloc, zone, reply)?;
         text.extend_from_slice(proof_line(proof))?;
     }
-    Ok(text)
+    Ok(())
 }
 
-/// A line for each reply of a session, in the zone that its query names.
-pub(crate) fn session_lines(alloc: Global, session: &Session) -> Result<Vec<u8>, NoMemory> {
-    lines_of(alloc, &session.query.name, &session.replies)
+/// Puts a line for each reply of a session behind a text, in the zone that its query names.
+pub(crate) fn push_lines(
+    alloc: Global,
+    session: Session,
+    text: &mut Vec<u8>,
+) -> Result<(), NoMemory> {
+    let pushed = push_verdicts(alloc, &session.query.name, &session.replies, text);
+    drop(session);
+    pushed
 }

@@ -1,5 +1,5 @@
 use Rattle.std.proofs.Common.{◌<◌, ◌^◌, length}
-use Rattle.dns_bench.proofs.frames.messages_of.Given as goal
+use Rattle.dns_bench.proofs.frames.cut_off.Given as goal
 
 abbrev pub invariant-frames : goal.invariant-frames
 invariant-frames l = length l.rest < 2 ^ 32
