@@ -7,6 +7,8 @@
 #[cfg(test)]
 mod cause_tests;
 #[cfg(test)]
+mod copy_tests;
+#[cfg(test)]
 mod expiry_tests;
 #[cfg(test)]
 mod key_tests;

@@ -1,8 +1,11 @@
 use crate::parts::check;
-use dns_datagrams::Retries;
+use dns_datagrams::{Retries, next_port};
 use dns_handle::IoKind;
 use dns_link::{Clock, Dialer, FixedClock, SocketDialer, SystemClock};
-use dns_mux::{Draws, RandDraws};
+use dns_mux::{Draws, ListDraws, RandDraws};
+use dns_name::NoMemory;
+use std::alloc::Global;
+use std::collections::BTreeSet;
 use std::net::{IpAddr, Ipv4Addr, SocketAddr};
 
 /// Whether two generators draw alike in a row.
@@ -27,6 +30,30 @@ fn draws_go_by_the_seed(rt: HostRuntime) {
         "another seed gives another",
         !are_alike(&mut RandDraws::from_seed(5), &mut RandDraws::from_seed(6)),
     );
+}
+
+/// The port that is drawn where 2000 is avoided and so many draws give it before 2001, and how many attempts there were.
+fn attempted(alloc: Global, avoided: usize) -> Result<(u16, u8), NoMemory> {
+    let mut ports = Vec::new(alloc);
+    for _ in 0..avoided {
+        ports.push(2000u16)?;
+    }
+    ports.push(2001u16)?;
+    let mut draws = ListDraws::new(Vec::new(alloc), ports);
+    let mut avoid = BTreeSet::new(alloc);
+    let _ = avoid.insert(2000u16)?;
+    let mut attempted = 0;
+    let port = next_port(&mut draws, &mut attempted, &avoid);
+    Ok((port, attempted))
+}
+
+#[test]
+fn an_avoided_port_is_passed(rt: HostRuntime) {
+    let alloc = rt.alloc();
+    let first = attempted(alloc, 0) == Ok((2001, 0)) && attempted(alloc, 1) == Ok((2001, 1));
+    check(&rt, "the first draw that isn't avoided", first);
+    let last = attempted(alloc, 9) == Ok((2001, 9)) && attempted(alloc, 10) == Ok((0, 10));
+    check(&rt, "ten draws and none more", last);
 }
 
 #[test]

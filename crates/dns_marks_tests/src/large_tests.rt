@@ -49,7 +49,7 @@ fn accept_keys(listed: &mut Listed, keys: &[&[u8]]) -> Result<(), NameError> {
     Ok(())
 }
 
-/// Both lists are the same once the other supports algorithm 13, also where it supports algorithm 1.
+/// Both lists are the same once the other supports algorithm 13, also where it supports algorithm 1, which is never known.
 fn become_same(listed: &mut Listed, other: &mut Listed) -> Result<bool, NameError> {
     listed.support(13);
     accept_keys(listed, &[KEY, OTHER_KEY, THIRD_KEY])?;
@@ -57,7 +57,10 @@ fn become_same(listed: &mut Listed, other: &mut Listed) -> Result<bool, NameErro
     let before = listed.same(other);
     other.support(13);
     other.support(1);
-    Ok(!before && listed.same(other) && other.same(listed))
+    let same = listed.same(other) && other.same(listed);
+    other.accept(1, KEY, b"\x07", b"\x08")?;
+    let is_known = other.supports(1) || other.accepts(1, KEY, b"\x07", b"\x08");
+    Ok(!before && same && !is_known)
 }
 
 fn are_same(alloc: Global) -> Result<bool, NameError> {
@@ -138,6 +141,36 @@ fn are_anchors_copied(alloc: Global) -> Result<bool, NameError> {
     let held = copy_trusts_all(alloc, &mut anchors);
     drop(anchors);
     held
+}
+
+fn trusts_for(
+    alloc: Global,
+    anchors: &mut TrustAnchors,
+    owner: &str,
+    algorithm: u8,
+) -> Result<bool, NameError> {
+    let name = Name::from_ascii(alloc, "org.")?;
+    let _ = anchors.insert_with_name(name, 13, Octets::from_slice(alloc, KEY)?)?;
+    let owner = Name::from_ascii(alloc, owner)?;
+    let held = anchors.contains_with_name(&owner, algorithm, KEY);
+    drop(owner);
+    Ok(held)
+}
+
+/// Whether a set that trusts a key of `org.` by algorithm 13 trusts it for this owner and this algorithm.
+fn is_trusted_for(alloc: Global, owner: &str, algorithm: u8) -> Result<bool, NameError> {
+    let mut anchors = TrustAnchors::empty(alloc);
+    let held = trusts_for(alloc, &mut anchors, owner, algorithm);
+    drop(anchors);
+    held
+}
+
+#[test]
+fn a_key_is_trusted_for_its_owner_and_algorithm(rt: HostRuntime) {
+    let alloc = rt.alloc();
+    assert!(rt; is_trusted_for(alloc, "oRg.", 13) == Ok(true));
+    assert!(rt; is_trusted_for(alloc, "org.", 8) == Ok(false));
+    assert!(rt; is_trusted_for(alloc, "net.", 13) == Ok(false));
 }
 
 #[test]

@@ -138,10 +138,11 @@ fn nsec3_of(alloc: Global, told: &Told) -> Result<Option<Nsec3Record>, NameError
     Ok(read?)
 }
 
+/// A record that can't be read fails its test by this error.
 fn push_nsec3(alloc: Global, records: &mut Vec<Nsec3Record>, told: &Told) -> Result<(), NameError> {
     match nsec3_of(alloc, told)? {
         Some(nsec3) => Ok(records.push(nsec3)?),
-        None => Ok(()),
+        None => Err(NameError::EmptyLabel),
     }
 }
 

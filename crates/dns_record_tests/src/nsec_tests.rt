@@ -17,10 +17,11 @@ fn nsec_of(alloc: Global, told: &Told) -> Result<Option<NsecRecord>, NameError> 
     Ok(read?)
 }
 
+/// A record that can't be read fails its test by this error.
 fn push_nsec(alloc: Global, records: &mut Vec<NsecRecord>, told: &Told) -> Result<(), NameError> {
     match nsec_of(alloc, told)? {
         Some(nsec) => Ok(records.push(nsec)?),
-        None => Ok(()),
+        None => Err(NameError::EmptyLabel),
     }
 }
 
