@@ -1,11 +1,10 @@
 //! `run` over sources and sinks in memory, for a row.
 use crate::rows::check_row;
+use crate::runs::{status_over, sure_ends, words_of};
 use crate::worked_rows::{Row, rows};
-use dns_handle::IoKind;
-use dns_io::{Sink, SinkFault, Source, SureSink, SureSource, TextSink, TextSource};
-use dns_link::{FixedClock, ListDialer};
+use dns_io::{Sink, SinkFault, Source, SureSource, TextSink, TextSource};
+use dns_link::ListDialer;
 use dns_name::{NoMemory, Octets};
-use dns_run::run;
 use std::alloc::Global;
 
 // A sink that takes one byte a write, and fails at its second.
@@ -36,34 +35,6 @@ impl Sink for Slow {
             }
         }
     }
-}
-
-fn push_word(all: &mut Vec<Vec<u8>>, alloc: Global, word: &str) -> Result<(), NoMemory> {
-    all.push(word.as_bytes().to_vec(alloc)?)?;
-    Ok(())
-}
-
-fn words_of(alloc: Global, words: &[&str]) -> Result<Vec<Vec<u8>>, NoMemory> {
-    let mut all = Vec::new(alloc);
-    for word in words {
-        push_word(&mut all, alloc, word)?;
-    }
-    Ok(all)
-}
-
-// The status of a run over a dialer.
-fn status_over<S: Source, W: Sink>(
-    alloc: Global,
-    words: &[Vec<u8>],
-    source: &mut S,
-    sink: &mut W,
-    dial: ListDialer,
-) -> u8 {
-    let mut clock = FixedClock::new(1000);
-    let end = run(alloc, words, source, sink, dial, &mut clock);
-    let status = end.status;
-    drop(end);
-    status
 }
 
 // The status of a run that has no server to ask.
@@ -101,21 +72,6 @@ fn failing_ends(
     let bytes = Octets::from_slice(alloc, session)?;
     let mut source = TextSource::new(bytes, failing.to_vec(alloc)?);
     Ok(told_ends(alloc, words, &mut source, status, text))
-}
-
-// Over a source and a sink that never fail the words end with this status and this text.
-fn sure_ends(
-    alloc: Global,
-    words: &[Vec<u8>],
-    session: &[u8],
-    dial: ListDialer,
-    status: u8,
-    text: &[u8],
-) -> Result<bool, NoMemory> {
-    let mut source = SureSource::new(Octets::from_slice(alloc, session)?);
-    let mut sink = SureSink::new(alloc);
-    let ended = status_over(alloc, words, &mut source, &mut sink, dial);
-    Ok(ended == status && *sink.taken() == *text)
 }
 
 // So ends a row, which asks no server.
@@ -187,34 +143,4 @@ fn rows_end_where_the_outside_fails(rt: HostRuntime) {
     for row in rows() {
         check_row(&rt, row.name, ends_for_the_outside(rt.alloc(), row));
     }
-}
-
-/// The session of the rows that ask a server, but for its replies.
-const SESSION: &[u8] =
-    b"dns-session 1\nmoment 9000\nalgorithms 13\nanchor . 13 aabb\nquery . NS\nend\n";
-
-// A dialer of one link, which is refused.
-fn refusing(alloc: Global) -> Result<ListDialer, NoMemory> {
-    let mut links = Vec::new(alloc);
-    links.push(Err(IoKind::ConnectionRefused))?;
-    Ok(ListDialer::new(links, Vec::new(alloc)))
-}
-
-// Over a server that refuses a connection the program ends with this status and this text.
-fn refused_ends(alloc: Global, session: &[u8], status: u8, text: &[u8]) -> Result<bool, NoMemory> {
-    let dial = refusing(alloc)?;
-    let words = words_of(alloc, &["ask", "tcp", "127.0.0.1:53"])?;
-    sure_ends(alloc, &words, session, dial, status, text)
-}
-
-#[test]
-fn a_connection_that_is_refused_is_a_fault(rt: HostRuntime) {
-    let held = refused_ends(rt.alloc(), SESSION, 1, b"fault io ConnectionRefused\n");
-    check_row(&rt, "refused", held);
-}
-
-#[test]
-fn an_input_that_is_no_session_is_not_asked_for(rt: HostRuntime) {
-    let held = refused_ends(rt.alloc(), b"no session\n", 3, b"bad line 1\n");
-    check_row(&rt, "no session", held);
 }
