@@ -142,7 +142,8 @@ keys_read (k ∷ ks) h short =
     let both = and_parts (is_u32 k.0) (is_bytes k.1) parts.0 in
     rw (number_read k.0 both.0, rdata_read k.1 both.1 sizes.0, keys_read ks parts.1 sizes.1) refl
 
-pub link_reads : (l : Shown) → fitting_link l ≡ true → short_link l ≡ true → link_line (joined (link_of l)) ≡ Some (link_shown l)
+pub link_reads : (l : Shown) → fitting_link l ≡ true → short_link l ≡ true
+    → link_line (joined (link_of l)) ≡ Some (link_shown l)
 unfolding link_by
 link_reads (Anchored owner class key) h short =
     let f = fits_anchored owner class key h in
@@ -188,7 +189,8 @@ link_reads (Signed owner class rtype rdatas sig key_link key) h short =
 
 -- ---- the lines of a trail
 
-pub count_reads : (steps : List StepView) → is_u32 (length steps) ≡ true → trail_line (joined (count_of steps)) ≡ Some (length steps)
+pub count_reads : (steps : List StepView) → is_u32 (length steps) ≡ true
+    → trail_line (joined (count_of steps)) ≡ Some (length steps)
 count_reads steps h =
     let good : is_line (count_of steps) ≡ true = rw (number_good (length steps) h) refl in
     ap trail_by (line_words (count_of steps) good) ∙ number_read (length steps) h
@@ -215,7 +217,8 @@ not_fault code h =
     let fits : code < 2 ^ 64 = omega (arith, le) in
     not_decimal code (codes "fault") fits (λ e. no_number code (codes "fault") fits refl e)
 
-pub got_reads : (reply : HeardView) → fitting_heard reply ≡ true → got_line (joined (got_of reply)) ≡ Some (got_shown reply)
+pub got_reads : (reply : HeardView) → fitting_heard reply ≡ true
+    → got_line (joined (got_of reply)) ≡ Some (got_shown reply)
 unfolding got_by
 got_reads (Records code true a u n) h =
     let f = fits_records code true a u n h in

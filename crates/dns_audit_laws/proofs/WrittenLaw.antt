@@ -118,5 +118,6 @@ report_read v h small number =
     ap (λ ps. report_at (place number ps)) (ap (pieces 10) (sym (text_is_lines v)) ∙ text_pieces (lines_of v) (lines_good v h))
     ∙ lines_read v h small number
 
-pub written_is_read : (v : View) → fitting_view v ≡ true → short_view v ≡ true → report_of (view_text v) ≡ Ok (report_shown v)
+pub written_is_read : (v : View) → fitting_view v ≡ true → short_view v ≡ true
+    → report_of (view_text v) ≡ Ok (report_shown v)
 written_is_read v h small = report_read v h small 1
