@@ -1,12 +1,13 @@
 //! Lookups of a session's query, one after another.
 
 use dns_evidence::Listed;
+use dns_handle::{DnsRequestOptions, DnsResponse, NetError};
 use dns_lookup::DnssecDnsHandle;
 use dns_name::NoMemory;
-use dns_net::{DnsRequestOptions, DnsResponse, NetError, Recorded};
 use dns_record::Query;
-use dns_run::{SessionLookup, session_lookup};
+use dns_recorded::Recorded;
 use dns_session::Session;
+use dns_session_lookup::{SessionLookup, session_lookup};
 use std::alloc::Global;
 
 /// How many lookups gave an answer, and how many a fault. A count stops at the greatest `u64`.

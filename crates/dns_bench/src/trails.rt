@@ -3,8 +3,8 @@
 use dns_handle::{DnsError, DnsResponse, NetError};
 use dns_name::NoMemory;
 use dns_report::{Parts, write_fault, write_report};
-use dns_run::session_answer;
 use dns_session::Session;
+use dns_session_lookup::session_answer;
 use std::alloc::Global;
 
 // The report on a response, with its trail: an Ok one, or that inside a denial. The line of another error.

@@ -26,8 +26,8 @@ use Rattle.dns_run.specs.Asks.{AnswersOver, Reported, Failed, EndsAsk, IsInquiry
 use Rattle.dns_run.specs.Outcomes.{Wrote, WrotePrefix}
 use Rattle.dns_run.specs.declared.form.Form.{Form}
 use Rattle.dns_run.specs.declared.form.Form.TheVariants.{Ask}
-use Rattle.dns_run.specs.Soundness.{session_judge}
-use Rattle.dns_run.proofs.JudgeLemmas.{judge_plain}
+use Rattle.dns_session_lookup.specs.Soundness.{session_judge}
+use Rattle.dns_session_lookup.proofs.JudgeLemmas.{judge_plain}
 
 -- ---- the answer
 

@@ -14,7 +14,7 @@ use Rattle.dns_report.specs.View.{View, view_of, fitting_view}
 use Rattle.dns_report.specs.Report.{report_text, view_text}
 use Rattle.dns_report.specs.Faults.{fault_text}
 use Rattle.dns_session.specs.SessionValue.{SessionValue}
-use Rattle.dns_run.specs.Causes.{AnswersSession}
+use Rattle.dns_session_lookup.specs.Causes.{AnswersSession}
 use Rattle.dns_run.specs.Outcomes.{IsTrailReport, IsFault}
 
 -- a report on the answer to a session

@@ -11,18 +11,18 @@ use Rattle.dns_lookup.proofs.CompletingLemmas.{IsProved, replies_prove, denied_n
 use Rattle.dns_report.specs.declared.parts.Parts.{Parts}
 use Rattle.dns_session.specs.SessionValue.{SessionValue}
 use Rattle.dns_session.specs.Grammar.{session_of}
-use Rattle.dns_run.specs.Answering.{session_replies, session_depth, session_limits, IsSessionTrail}
-use Rattle.dns_run.specs.Causes.{FaultCause, NoMessage, OtherClass, NotDenied}
+use Rattle.dns_session_lookup.specs.Answering.{session_replies, session_depth, session_limits, IsSessionTrail}
+use Rattle.dns_session_lookup.specs.Causes.{FaultCause, NoMessage, OtherClass, NotDenied}
 use Rattle.dns_run.specs.Completing.{IsValid, EndsSecurely, Shown, Stopped}
 use Rattle.dns_run.specs.Outcomes.{IsTrailReport, IsFault}
 use Rattle.dns_run.specs.Forms.{form_in, other_form, shown_by}
 use Rattle.dns_run.specs.declared.form.Form.{Form}
 use Rattle.dns_run.specs.declared.form.Form.TheVariants.{Validate, Task, Bench, Ask, Help, Version}
-use Rattle.dns_run.specs.Replies.{session_records}
+use Rattle.dns_session_lookup.specs.Replies.{session_records}
 use Rattle.dns_run.specs.Runs.{IfSession}
-use Rattle.dns_run.specs.Soundness.{session_judge}
+use Rattle.dns_session_lookup.specs.Soundness.{session_judge}
 use Rattle.dns_run.proofs.EndLemmas.{RunEnding, Reported, Failed, Refused, Later, Says, ending, session_same, no_line, no_records, own_class}
-use Rattle.dns_run.proofs.ReplyLemmas.{session_replied}
+use Rattle.dns_session_lookup.proofs.ReplyLemmas.{session_replied}
 
 -- a trail for a valid session proves its query
 session_proved : (s : SessionValue) (trail : List AskedValue) (ending : EndingValue) → IsValid s

@@ -14,14 +14,14 @@ use Rattle.dns_session.specs.SessionValue.{SessionValue}
 use Rattle.dns_session.specs.Grammar.{session_of}
 use Rattle.dns_session.specs.Stops.{bad_line_text}
 use Rattle.dns_run.specs.declared.form.Form.{Form}
-use Rattle.dns_run.specs.Soundness.{IsSound}
-use Rattle.dns_run.specs.Replies.{session_told, session_message, session_records}
-use Rattle.dns_run.specs.Answering.{IsSessionAnswer}
-use Rattle.dns_run.specs.Causes.{HasNoMessage, HasForeign, FaultCause, NoMessage, OtherClass, NotDenied}
+use Rattle.dns_session_lookup.specs.Soundness.{IsSound}
+use Rattle.dns_session_lookup.specs.Replies.{session_told, session_message, session_records}
+use Rattle.dns_session_lookup.specs.Answering.{IsSessionAnswer}
+use Rattle.dns_session_lookup.specs.Causes.{HasNoMessage, HasForeign, FaultCause, NoMessage, OtherClass, NotDenied}
 use Rattle.dns_run.specs.Outcomes.{IsTrailReport, IsFault, Derives, Fails, Refuses, Wrote, Leaves}
 use Rattle.dns_run.specs.Runs.{EndsWith, Ended, Stopped, EndsAsAnswered, EndsAsSession, EndsByGrammar, EndsByWords, IfSession, IfBadLine}
 use Rattle.dns_run.specs.Runs as runs
-use Rattle.dns_run.proofs.ReplyLemmas.{err_same}
+use Rattle.dns_session_lookup.proofs.ReplyLemmas.{err_same}
 use Rattle.dns_run.proofs.TopLemmas.{some_same, trail_foreign}
 
 -- ---- the ways to end

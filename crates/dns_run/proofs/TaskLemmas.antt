@@ -26,9 +26,9 @@ use Rattle.dns_session.specs.SessionValue.{SessionValue}
 use Rattle.dns_session.specs.Grammar.{session_of}
 use Rattle.dns_run.specs.declared.task.Task.{Task}
 use Rattle.dns_run.specs.declared.task.Task.TheVariants.{Audit, Questions}
-use Rattle.dns_run.specs.Causes.{AnswersSession}
+use Rattle.dns_session_lookup.specs.Causes.{AnswersSession}
 use Rattle.dns_run.specs.Outcomes.{Fails, Leaves, Wrote, WrotePrefix}
-use Rattle.dns_run.specs.Soundness.{listing}
+use Rattle.dns_session_lookup.specs.Soundness.{listing}
 use Rattle.dns_run.specs.Tasks.{AuditEnds, QuestionsEnd, AnswersQuestions, Listed, Failed, question_judge, denied_trail, TaskEnds, TaskTells, Ended, TooLong, Nothing, EndsTask}
 
 -- ---- what bytes come to, written

@@ -14,10 +14,10 @@ use Rattle.dns_validation.specs.Received.{heard_from, says_none}
 use Rattle.dns_lookup.specs.LookupParts.{heard_told}
 use Rattle.dns_lookup.specs.Sends.{IsFromReplies}
 use Rattle.dns_session.specs.SessionValue.{SessionValue}
-use Rattle.dns_run.specs.Replies.{recorded, session_told, session_records}
-use Rattle.dns_run.specs.Soundness.{session_judge}
-use Rattle.dns_run.specs.Answering.{session_replies, session_limits, IsSessionTrail}
-use Rattle.dns_run.proofs.ReplyLemmas.{session_replied}
+use Rattle.dns_session_lookup.specs.Replies.{recorded, session_told, session_records}
+use Rattle.dns_session_lookup.specs.Soundness.{session_judge}
+use Rattle.dns_session_lookup.specs.Answering.{session_replies, session_limits, IsSessionTrail}
+use Rattle.dns_session_lookup.proofs.ReplyLemmas.{session_replied}
 
 pub some_same : {X : Type 0} (o : Option X) (a b : X) → o ≡ Some a → o ≡ Some b → a ≡ b
 some_same o a b x y = cc

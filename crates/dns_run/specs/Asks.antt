@@ -21,9 +21,9 @@ use Rattle.dns_report.specs.Faults.{fault_text}
 use Rattle.dns_session.specs.SessionValue.{SessionValue}
 use Rattle.dns_session.specs.Grammar.{session_of}
 use Rattle.dns_io.specs.Reading.{input_limit, too_long_text, OfInput}
-use Rattle.dns_run.specs.Answering.{session_depth}
+use Rattle.dns_session_lookup.specs.Answering.{session_depth}
 use Rattle.dns_run.specs.Outcomes.{Leaves, WrotePrefix}
-use Rattle.dns_run.specs.Soundness.{listing, session_judge}
+use Rattle.dns_session_lookup.specs.Soundness.{listing, session_judge}
 use Rattle.dns_run.specs.Tasks.{NamesLine}
 
 -- ---- what is asked

@@ -4,9 +4,9 @@ use Rattle.dns_laws.specs.Valid.{IsValidSession}
 use Rattle.dns_lookup.specs.Completing.{first_told, AnswersSecurely}
 use Rattle.dns_report.specs.declared.parts.Parts.{Parts}
 use Rattle.dns_session.specs.SessionValue.{SessionValue}
-use Rattle.dns_run.specs.Answering.{session_replies, session_depth}
+use Rattle.dns_session_lookup.specs.Answering.{session_replies, session_depth}
 use Rattle.dns_run.specs.Outcomes.{IsTrailReport, Wrote}
-use Rattle.dns_run.specs.Soundness.{session_judge}
+use Rattle.dns_session_lookup.specs.Soundness.{session_judge}
 
 -- the session is valid for its query, by its keys, algorithms and accepted signatures at its moment, within its depth
 abbrev pub IsValid : SessionValue → Type 0

@@ -1,9 +1,4 @@
 pub mod Forms
-pub mod Replies
-pub mod Soundness
-pub mod Answering
-pub mod Adding
-pub mod Causes
 pub mod Outcomes
 pub mod Endings
 pub mod Runs

@@ -15,9 +15,9 @@ use Rattle.dns_session.specs.Grammar.{session_of}
 use Rattle.dns_session.specs.Stops.{bad_line_text}
 use Rattle.dns_io.specs.Reading.{input_limit, too_long_text, OfInput}
 use Rattle.dns_io.specs.Writing.{TakesPrefix}
-use Rattle.dns_run.specs.Answering.{IsSessionAnswer}
-use Rattle.dns_run.specs.Soundness.{IsSound}
-use Rattle.dns_run.specs.Causes.{FaultCause}
+use Rattle.dns_session_lookup.specs.Answering.{IsSessionAnswer}
+use Rattle.dns_session_lookup.specs.Soundness.{IsSound}
+use Rattle.dns_session_lookup.specs.Causes.{FaultCause}
 
 -- the text is the report of one answer, with its trail or without, and the answer is sound; what is shown of it, its view, fits,
 -- and no other fitting view has this text

@@ -19,10 +19,10 @@ use Rattle.dns_questions.specs.QuestionsText.{questions_text}
 use Rattle.dns_io.specs.Reading.{input_limit, too_long_text, OfInput}
 use Rattle.dns_run.specs.declared.task.Task.{Task}
 use Rattle.dns_run.specs.declared.task.Task.TheVariants.{Audit, Questions}
-use Rattle.dns_run.specs.Answering.{session_limits, IsSessionTrail}
-use Rattle.dns_run.specs.Causes.{AnswersSession}
+use Rattle.dns_session_lookup.specs.Answering.{session_limits, IsSessionTrail}
+use Rattle.dns_session_lookup.specs.Causes.{AnswersSession}
 use Rattle.dns_run.specs.Outcomes.{IsFault, Leaves, WrotePrefix}
-use Rattle.dns_run.specs.Soundness.{listing, session_judge}
+use Rattle.dns_session_lookup.specs.Soundness.{listing, session_judge}
 
 -- ---- what an input comes to: a status and a text
 

@@ -3,17 +3,17 @@ ghost use Rattle.std.specs.Prelude.{◌≡◌, ◌<◌, ◌^◌, length, unwrap_
 ghost use Rattle.dns_handle.specs.Requests.{plain_options};
 ghost use Rattle.dns_audit.specs.ReportGrammar.{audit_of};
 ghost use Rattle.dns_audit_text.specs.AuditText.{audit_text};
-ghost use Rattle.dns_run.specs.Answering.{session_limits};
-ghost use Rattle.dns_run.specs.Soundness.{session_judge};
+ghost use Rattle.dns_session_lookup.specs.Answering.{session_limits};
+ghost use Rattle.dns_session_lookup.specs.Soundness.{session_judge};
 ghost use Rattle.dns_run.specs.Tasks.{AuditEnds};
 
-use crate::answering::{session_anchors, session_options, session_verifier};
 use dns_audit::{Report, read_audit};
 use dns_audit_text::write_audit;
 use dns_evidence::{IterationLimits, Limits};
 use dns_io::status;
 use dns_name::NoMemory;
 use dns_session::{Session, SessionStop, bad_line_text};
+use dns_session_lookup::{session_anchors, session_options, session_verifier};
 use dns_trust::Judge;
 use std::alloc::Global;
 

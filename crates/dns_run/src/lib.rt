@@ -6,7 +6,6 @@
 //! whole answer to it. What a caller needs to name beside these calls is given here too: sources, sinks, sessions and answers.
 #![tactic(auto)]
 
-mod answering;
 mod audit;
 mod bench;
 mod form;
@@ -14,14 +13,9 @@ mod offline;
 mod outcome;
 mod program;
 mod questions;
-mod replies;
 mod server;
 mod task;
 
-pub use answering::{
-    SessionLookup, session_anchors, session_answer, session_lookup, session_options,
-    session_upstream, session_verifier,
-};
 pub use dns_evidence::Listed;
 pub use dns_handle::{DnsRequestOptions, DnsResponse, NetError};
 pub use dns_io::{
@@ -35,6 +29,10 @@ pub use dns_recorded::Recorded;
 pub use dns_session::{
     AcceptedSignature, Anchor, ReplyFault, ReplyKind, Session, SessionReply, SessionStop,
     read_session,
+};
+pub use dns_session_lookup::{
+    SessionLookup, session_anchors, session_answer, session_lookup, session_options,
+    session_upstream, session_verifier,
 };
 pub use dns_trust::TrustAnchors;
 pub use program::{RunEnd, run, run_seeded};

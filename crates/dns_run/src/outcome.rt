@@ -3,14 +3,14 @@ ghost use Rattle.std.specs.Prelude.{◌<◌, ◌^◌, length, IfOk};
 ghost use Rattle.dns_handle.specs.Replies.{reply_of};
 ghost use Rattle.dns_lookup.specs.LookupAnswers.{UnlessNoMemory};
 ghost use Rattle.dns_session.specs.SessionValue.{SessionValue};
-ghost use Rattle.dns_run.specs.Causes.{AnswersSession};
+ghost use Rattle.dns_session_lookup.specs.Causes.{AnswersSession};
 ghost use Rattle.dns_run.specs.Endings.{IsOutcome, IsAnswered};
 
-use crate::answering::session_answer;
 use dns_handle::{DnsResponse, NetError};
 use dns_name::NoMemory;
 use dns_report::{Parts, write_fault, write_report};
 use dns_session::{Session, SessionStop, bad_line_text, read_session};
+use dns_session_lookup::session_answer;
 use std::alloc::Global;
 
 /// How a run ends where its input was read.

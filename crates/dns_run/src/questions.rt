@@ -9,11 +9,10 @@ ghost use Rattle.dns_questions.specs.Questions.{questions};
 ghost use Rattle.dns_questions.specs.QuestionsText.{questions_text};
 ghost use Rattle.dns_session.specs.Grammar.{session_of};
 ghost use Rattle.dns_session.specs.SessionValue.{SessionValue};
-ghost use Rattle.dns_run.specs.Causes.{AnswersSession};
-ghost use Rattle.dns_run.specs.Soundness.{listing};
+ghost use Rattle.dns_session_lookup.specs.Causes.{AnswersSession};
+ghost use Rattle.dns_session_lookup.specs.Soundness.{listing};
 ghost use Rattle.dns_run.specs.Tasks.{AnswersQuestions, QuestionsEnd, MayFail, denied_trail};
 
-use crate::answering::{session_answer, session_verifier};
 use dns_evidence::{Listed, Trail};
 use dns_handle::{DnsError, DnsResponse, NetError};
 use dns_io::status;
@@ -21,6 +20,7 @@ use dns_name::NoMemory;
 use dns_questions::{trail_questions, write_questions};
 use dns_report::write_fault;
 use dns_session::{Session, SessionStop, bad_line_text, read_session};
+use dns_session_lookup::{session_answer, session_verifier};
 use std::alloc::Global;
 
 /// The trail of the response inside a denial.

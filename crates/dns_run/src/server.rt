@@ -12,7 +12,6 @@ ghost use Rattle.dns_run.specs.Asks.{AnswersOver, EndsAsk, IsInquiryOf, IsReplyT
 ghost use Rattle.dns_run.specs.Outcomes.{Wrote, WrotePrefix};
 ghost use Rattle.dns_run.specs.Tasks.{NamesLine};
 
-use crate::answering::{session_anchors, session_options, session_verifier};
 use dns_asking::{AskEnd, Inquiry, ServerAddress, ask_server};
 use dns_evidence::Listed;
 use dns_exchange::TcpExchange;
@@ -24,6 +23,7 @@ use dns_mux::RandDraws;
 use dns_name::NoMemory;
 use dns_report::{Parts, write_fault, write_report};
 use dns_session::{Session, SessionStop, bad_line_text, read_session};
+use dns_session_lookup::{session_anchors, session_options, session_verifier};
 use dns_udp::UdpExchange;
 use std::alloc::Global;
 

@@ -1,7 +1,7 @@
 use Rattle.std.proofs.Common.{subst}
 use Rattle.dns_handle.specs.Replies.{reply_of}
 use Rattle.dns_lookup.specs.LookupAnswers.{UnlessNoMemory}
-use Rattle.dns_run.specs.Causes.{AnswersSession}
+use Rattle.dns_session_lookup.specs.Causes.{AnswersSession}
 use Rattle.dns_run.proofs.CauseLemmas.{report_given, fault_tested}
 use Rattle.dns_run.proofs.outcome.reply_ending.Goals as goal
 

@@ -32,12 +32,12 @@ use Rattle.dns_lookup.specs.Sends.{IsFromReplies}
 use Rattle.dns_lookup.specs.Causes.{PassedOn, PassesOn, NamesForeign, ForeignNamed, HasItsCause, AnswersTold}
 use Rattle.dns_lookup.specs.LookupAnswers.{UnlessNoMemory, OfAnswer, IsSoundAnswer, IsTrail, HasMarksOfTrail, IsExplained, ShowsItsDenial, DeniesQuery}
 use Rattle.dns_session.specs.SessionValue.{SessionValue}
-use Rattle.dns_run.specs.Replies.{recorded, session_told}
-use Rattle.dns_run.specs.Soundness.{listing, session_judge, IsSound}
-use Rattle.dns_run.specs.Answering.{recorded_by, session_replies, session_depth, session_limits, IsSessionTrail, IsSessionAnswer}
-use Rattle.dns_run.specs.Causes.{HasNoMessage, FaultCause, NoMessage, OtherClass, NotDenied, AnswersSession}
-use Rattle.dns_run.proofs.JudgeLemmas.{judge_plain}
-use Rattle.dns_run.proofs.ReplyLemmas.{err_same, session_replied}
+use Rattle.dns_session_lookup.specs.Replies.{recorded, session_told}
+use Rattle.dns_session_lookup.specs.Soundness.{listing, session_judge, IsSound}
+use Rattle.dns_session_lookup.specs.Answering.{recorded_by, session_replies, session_depth, session_limits, IsSessionTrail, IsSessionAnswer}
+use Rattle.dns_session_lookup.specs.Causes.{HasNoMessage, FaultCause, NoMessage, OtherClass, NotDenied, AnswersSession}
+use Rattle.dns_session_lookup.proofs.JudgeLemmas.{judge_plain}
+use Rattle.dns_session_lookup.proofs.ReplyLemmas.{err_same, session_replied}
 
 -- how far asks of this depth go that count so many iterations
 abbrev limits_by : ℕ → IterationLimits → Limits

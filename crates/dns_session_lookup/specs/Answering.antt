@@ -12,8 +12,8 @@ use Rattle.dns_recorded.specs.Recording.{RecordedValue}
 use Rattle.dns_lookup.specs.Sends.{IsFromReplies}
 use Rattle.dns_lookup.specs.LookupAnswers.{HasMarksOfTrail}
 use Rattle.dns_session.specs.SessionValue.{ReplyValue, SessionValue}
-use Rattle.dns_run.specs.Replies.{recorded}
-use Rattle.dns_run.specs.Soundness.{session_judge, IsSound}
+use Rattle.dns_session_lookup.specs.Replies.{recorded}
+use Rattle.dns_session_lookup.specs.Soundness.{session_judge, IsSound}
 
 -- what the session's upstream tells: its replies in order, and whether it serves them by turn
 abbrev pub session_replies : SessionValue → Replies

@@ -9,8 +9,8 @@ use Rattle.dns_handle.specs.Errors.{Reply, ErrorValue, Dns, ForeignClassRecord, 
 use Rattle.dns_lookup.specs.LookupAnswers.{OfAnswer, ShowsItsDenial}
 use Rattle.dns_lookup.specs.Causes.{PassesOn, ForeignNamed, AnswersTold}
 use Rattle.dns_session.specs.SessionValue.{SessionValue}
-use Rattle.dns_run.specs.Replies.{session_told, session_message, session_records}
-use Rattle.dns_run.specs.Answering.{session_replies, IsSessionAnswer}
+use Rattle.dns_session_lookup.specs.Replies.{session_told, session_message, session_records}
+use Rattle.dns_session_lookup.specs.Answering.{session_replies, IsSessionAnswer}
 
 -- the session's upstream answers this error to its query, which has no message: nothing came in time, the bytes are none, a
 -- server failed, or there was a fault

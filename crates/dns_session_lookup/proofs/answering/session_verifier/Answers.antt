@@ -1,6 +1,6 @@
 use Rattle.std.proofs.Common.{rules}
-use Rattle.dns_run.proofs.JudgeLemmas.{listed_made}
-use Rattle.dns_run.proofs.answering.session_verifier.Goals as goal
+use Rattle.dns_session_lookup.proofs.JudgeLemmas.{listed_made}
+use Rattle.dns_session_lookup.proofs.answering.session_verifier.Goals as goal
 
 pub returns : goal.returns
 returns c =

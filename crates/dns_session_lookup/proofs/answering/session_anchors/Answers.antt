@@ -2,9 +2,9 @@ use Rattle.std.proofs.Common.{◌≡◌, ◌∙◌, ap, sym}
 use Rattle.std.proofs.lemmas.List.{map-id}
 use Rattle.std.proofs.lemmas.Iterator.Consumers.{YieldsList-end}
 use Rattle.std.proofs.lemmas.Iterator.Adapters.{YieldsList-from_vec}
-use Rattle.dns_run.specs.Adding.{trusted_by}
-use Rattle.dns_run.proofs.JudgeLemmas.{trusted_made}
-use Rattle.dns_run.proofs.answering.session_anchors.Goals as goal
+use Rattle.dns_session_lookup.specs.Adding.{trusted_by}
+use Rattle.dns_session_lookup.proofs.JudgeLemmas.{trusted_made}
+use Rattle.dns_session_lookup.proofs.answering.session_anchors.Goals as goal
 
 pub returns : goal.returns
 returns c =

@@ -3,8 +3,8 @@ use Rattle.dns_cache.specs.CacheLists.{CountedList}
 use Rattle.dns_cache.specs.declared.validation_cache.ValidationCache as cache
 use Rattle.dns_recorded.specs.contracts.recorded.RecordedDnsHandle.TheImpl as upstream
 use Rattle.dns_evidence.specs.contracts.listed.ListedVerifier.TheImpl as tests
-use Rattle.dns_run.proofs.LookupLemmas.{reply_ok, all_known, answers_looked}
-use Rattle.dns_run.proofs.answering.session_answer.Goals as goal
+use Rattle.dns_session_lookup.proofs.LookupLemmas.{reply_ok, all_known, answers_looked}
+use Rattle.dns_session_lookup.proofs.answering.session_answer.Goals as goal
 
 -- what its cache tells
 abbrev kept : cache.Ghosts CountedList

@@ -7,10 +7,10 @@ ghost use Rattle.dns_evidence.specs.Listing.{answers_of};
 ghost use Rattle.dns_lookup.specs.Calls.{inner_of, anchors_of, verifier_of, iterations_of, cache_of};
 ghost use Rattle.dns_lookup.specs.Limiting.{default_iterations, default_entries};
 ghost use Rattle.dns_lookup.specs.LookupAnswers.{UnlessNoMemory};
-ghost use Rattle.dns_run.specs.Adding.{with_algorithms, with_accepts};
-ghost use Rattle.dns_run.specs.Answering.{recorded_by, session_depth};
-ghost use Rattle.dns_run.specs.Causes.{AnswersSession};
-ghost use Rattle.dns_run.specs.Soundness.{listing};
+ghost use Rattle.dns_session_lookup.specs.Adding.{with_algorithms, with_accepts};
+ghost use Rattle.dns_session_lookup.specs.Answering.{recorded_by, session_depth};
+ghost use Rattle.dns_session_lookup.specs.Causes.{AnswersSession};
+ghost use Rattle.dns_session_lookup.specs.Soundness.{listing};
 
 use crate::replies::reply_from;
 use dns_evidence::Listed;

@@ -1,7 +1,7 @@
 use Rattle.std.proofs.Common.{ap, ◌∙◌, rules}
 use Rattle.dns_evidence.specs.Listing.{answers_of}
-use Rattle.dns_run.specs.Soundness.{listing}
-use Rattle.dns_run.proofs.answering.session_lookup.Goals as goal
+use Rattle.dns_session_lookup.specs.Soundness.{listing}
+use Rattle.dns_session_lookup.proofs.answering.session_lookup.Goals as goal
 
 pub returns : goal.returns
 returns c =

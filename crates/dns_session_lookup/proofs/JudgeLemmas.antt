@@ -20,8 +20,8 @@ use Rattle.dns_evidence.specs.Listing.{ListedValue, is_entry, is_listed, answers
 use Rattle.dns_trust.specs.Anchoring.{with_anchor}
 use Rattle.dns_evidence.proofs.Alike.{entry_same}
 use Rattle.dns_session.specs.SessionValue.{SessionValue}
-use Rattle.dns_run.specs.Adding.{with_algorithms, with_accepts, listed_by, with_anchors, trusted_by}
-use Rattle.dns_run.specs.Soundness.{listing, session_judge}
+use Rattle.dns_session_lookup.specs.Adding.{with_algorithms, with_accepts, listed_by, with_anchors, trusted_by}
+use Rattle.dns_session_lookup.specs.Soundness.{listing, session_judge}
 use Rattle.dns_model.proofs.ViewSteps.{anchored_by}
 
 -- an element that doesn't count, or that is there already, may be left out of a test of a list

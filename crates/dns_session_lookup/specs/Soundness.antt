@@ -5,7 +5,7 @@ use Rattle.dns_model.specs.Chains.{Judge, judge}
 use Rattle.dns_model.specs.SoundAnswers.{told_by, Sound, ResponseValue}
 use Rattle.dns_evidence.specs.Listing.{ListedValue, answers_of}
 use Rattle.dns_session.specs.SessionValue.{SessionValue}
-use Rattle.dns_run.specs.Replies.{session_message}
+use Rattle.dns_session_lookup.specs.Replies.{session_message}
 use Rattle.dns_model.specs.Keys.{AcceptedSignatureValue}
 
 -- what a session's verifier lists

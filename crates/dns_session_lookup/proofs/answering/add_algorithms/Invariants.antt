@@ -1,6 +1,6 @@
 use Rattle.std.proofs.Common.{◌≡◌, length}
-use Rattle.dns_run.specs.Adding.{with_algorithms}
-use Rattle.dns_run.proofs.answering.add_algorithms.Given as goal
+use Rattle.dns_session_lookup.specs.Adding.{with_algorithms}
+use Rattle.dns_session_lookup.proofs.answering.add_algorithms.Given as goal
 
 abbrev pub invariant-algorithms : goal.invariant-algorithms
 invariant-algorithms l = with_algorithms l.verifier l.left ≡ with_algorithms l.initial.verifier l.algorithms

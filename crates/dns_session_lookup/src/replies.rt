@@ -4,7 +4,7 @@ ghost use Rattle.dns_handle.specs.Errors as seen;
 ghost use Rattle.dns_handle.specs.Replies.{error_of, reply_of, response_of};
 ghost use Rattle.dns_handle.specs.declared.error.ProtoError.TheVariants.{Decode};
 ghost use Rattle.dns_session.specs.Kinds.{kind_of};
-ghost use Rattle.dns_run.specs.Replies.{answer_from, fault_from, reply_from, response_with};
+ghost use Rattle.dns_session_lookup.specs.Replies.{answer_from, fault_from, reply_from, response_with};
 
 use dns_evidence::Trail;
 use dns_handle::{DnsError, DnsResponse, IoKind, NetError, ProtoError};

@@ -5,7 +5,7 @@ use Rattle.dns_model.specs.Records.{Question, question_eq}
 use Rattle.dns_handle.specs.Errors.{Reply, ErrorValue, Timeout}
 use Rattle.dns_handle.specs.Handles.{reply_to}
 use Rattle.dns_session.specs.SessionValue.{SessionValue, ReplyValue}
-use Rattle.dns_run.specs.Replies.{reply_from, recorded, session_told}
+use Rattle.dns_session_lookup.specs.Replies.{reply_from, recorded, session_told}
 use Rattle.std.specs.Option.{option_map_or}
 
 -- an answer is one error

@@ -1,0 +1,11 @@
+//! The lookup that a session asks for: what its upstream answers, its verifier, its trusted keys and its options, the lookup of these,
+//! and the whole answer to it. `dns_run` gives these calls again, so that callers of the program find them there.
+#![tactic(auto)]
+
+mod answering;
+mod replies;
+
+pub use answering::{
+    SessionLookup, session_anchors, session_answer, session_lookup, session_options,
+    session_upstream, session_verifier,
+};
