@@ -1,10 +1,10 @@
-//! What tests of requests, responses and errors share.
+//! What tests of steps, of replies and of requests that wait share.
 use dns_evidence::Trail;
 use dns_handle::{DnsError, DnsRequest, DnsRequestOptions, DnsResponse, IoKind, NetError, Notice};
 use dns_message::Message;
-use dns_model::{Denial, NameError, Proof};
+use dns_model::{Denial, NameError};
 use dns_name::Name;
-use dns_record::{DNSClass, Query, Rdata, Record, RecordType};
+use dns_record::{DNSClass, Query, RecordType};
 use std::alloc::Global;
 
 pub(crate) fn query(alloc: Global, name: &str, record_type: u16) -> Result<Query, NameError> {
@@ -18,17 +18,6 @@ pub(crate) fn query(alloc: Global, name: &str, record_type: u16) -> Result<Query
 
 pub(crate) fn is_named(name: &Name, wire: &[u8]) -> bool {
     name.wire() == wire
-}
-
-/// Asks for this too.
-pub(crate) fn ask_also(
-    alloc: Global,
-    queries: &mut Vec<Query>,
-    name: &str,
-    record_type: u16,
-) -> Result<(), NameError> {
-    queries.push(query(alloc, name, record_type)?)?;
-    Ok(())
 }
 
 pub(crate) fn request(
@@ -50,38 +39,13 @@ pub(crate) fn nothing(alloc: Global) -> DnsRequest {
 }
 
 /// A response that is this message.
-pub(crate) fn response(alloc: Global, message: Message) -> DnsResponse {
+fn response(alloc: Global, message: Message) -> DnsResponse {
     DnsResponse {
         message,
         chains: Vec::new(alloc),
         denial: Denial::None,
         trail: Trail::new(alloc),
     }
-}
-
-/// An rdata of these bytes, which are fewer than 65,536.
-pub(crate) fn rdata(alloc: Global, bytes: &[u8]) -> Result<Rdata, NameError> {
-    let few = if bytes.len() < 65_536 { bytes } else { b"" };
-    Ok(Rdata::from_slice(alloc, few)?)
-}
-
-pub(crate) fn record(
-    alloc: Global,
-    name: &str,
-    record_type: u16,
-    ttl: u32,
-    bytes: &[u8],
-) -> Result<Record, NameError> {
-    let name = Name::from_ascii(alloc, name)?;
-    let rdata = rdata(alloc, bytes)?;
-    Ok(Record {
-        name,
-        record_type: RecordType(record_type),
-        dns_class: DNSClass::IN,
-        ttl,
-        rdata,
-        proof: Proof::Indeterminate,
-    })
 }
 
 /// A reply, as far as tests tell one from another.

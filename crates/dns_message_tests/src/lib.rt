@@ -1,0 +1,28 @@
+//! Tests of messages, of requests, errors and responses that deny, and of links: by what `dns_message`, `dns_handle` and
+//! `dns_evidence` give.
+//!
+//! They stand apart, since a crate with tests of its own is proved twice.
+#![tactic(auto)]
+
+#[cfg(test)]
+mod message_pointer_tests;
+#[cfg(test)]
+mod message_shape_tests;
+#[cfg(test)]
+mod message_tests;
+#[cfg(test)]
+mod net_error_tests;
+#[cfg(test)]
+mod net_missing_tests;
+#[cfg(test)]
+mod net_negative_tests;
+#[cfg(test)]
+mod net_request_tests;
+#[cfg(test)]
+mod net_shown_tests;
+#[cfg(test)]
+mod parts;
+#[cfg(test)]
+mod protocol_tests;
+#[cfg(test)]
+mod rows;

@@ -1,0 +1,30 @@
+//! What tests share: the assertion on a row, and on each row of a table.
+use std::alloc::Global;
+use std::process::Abort;
+
+/// What a table says in a row.
+pub(crate) trait Row {
+    /// Whether it holds.
+    fn holds(&self, alloc: Global) -> bool;
+}
+
+/// What was tried on a row held; the message names the row.
+pub(crate) fn check_row(rt: &impl Abort, row: &str, held: bool) {
+    assert!(rt; held, "{row}");
+}
+
+/// Each row of a table holds.
+pub(crate) fn check_rows<R: Row>(rt: &impl Abort, alloc: Global, rows: &[(&str, R)]) {
+    for row in rows {
+        check_row(rt, row.0, row.1.holds(alloc));
+    }
+}
+
+/// Each row of a table without names holds; the message says which row doesn't.
+pub(crate) fn check_numbered<R: Row>(rt: &impl Abort, alloc: Global, rows: &[R]) {
+    let mut number = 0usize;
+    for row in rows {
+        assert!(rt; row.holds(alloc), "row {number}");
+        number = number.wrapping_add(1);
+    }
+}
