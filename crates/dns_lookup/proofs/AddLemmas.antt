@@ -1,8 +1,9 @@
 -- What a lookup may add to a cache, and that each other entry was there before.
-use Rattle.std.proofs.Common.{◌≡◌, ◌⊎◌, ℕ, Bool, true, false, List, [], ◌∷◌, ◌++◌, append_assoc, append-nil, Option, None, Some, if◌then◌else◌, refl, sym, ap, subst, ◌∙◌, inl, inr}
+use Rattle.std.proofs.Common.{◌≡◌, ◌⊎◌, ◌&&◌, ℕ, Bool, true, false, List, [], ◌∷◌, ◌++◌, append_assoc, append-nil, Option, None, Some, if◌then◌else◌, refl, sym, ap, subst, ◌∙◌, inl, inr}
 use Rattle.std.specs.List.{AllByRecursion}
 use Rattle.std.specs.Option.{option_map}
 use Rattle.std.specs.Prelude.{Result, Ok, Err}
+use Rattle.std.proofs.lemmas.Bool.{and_from}
 use Rattle.dns_model.specs.SoundAnswers.{ChainValue, is_secure}
 use Rattle.dns_model.proofs.EachLemmas.{each_more, each_front}
 use Rattle.dns_rules.specs.CacheKeys.{CacheKeyValue}
@@ -10,7 +11,7 @@ use Rattle.dns_rules.specs.CacheEntries.{EntryValue, mark_of, sig_of}
 use Rattle.dns_rules.specs.ChainedSets.{ChainedSet, stands}
 use Rattle.dns_rules.specs.MarkedSets.{MarkedSet, placed_of}
 use Rattle.dns_rules.specs.ProofErrors.{ProofErrorKindValue}
-use Rattle.dns_rules.specs.Serving.{proves_set, judged_as, links_of}
+use Rattle.dns_rules.specs.Serving.{has_place, proves_set, judged_as, links_of}
 use Rattle.dns_cache.specs.CacheLists.{CacheList, after_get}
 use Rattle.dns_cache.specs.Caches.{LeftByGet}
 use Rattle.dns_flow.specs.Causes.{found_of}
@@ -44,22 +45,30 @@ links_back c false is = cc
 
 holds_by : (t : Terms) (c : ChainedSet) (cause : ProofErrorKindValue) (b : Bool) → is_secure c.judged.mark ≡ b
     → (if b then proves_set t.judge c.judged c.chain else true) ≡ true
-    → (if b then proves_set t.judge (judged_as (placed_of c.judged) (found_of t.now c.judged cause))
+    → has_place c.judged.set c.judged.sig ≡ true
+    → (if b then has_place c.judged.set (sig_of (found_of t.now c.judged cause))
+    && proves_set t.judge (judged_as (placed_of c.judged) (found_of t.now c.judged cause))
     (links_of (chain_of c)) else true) ≡ true
-holds_by t c cause false is stand = refl
-holds_by t c cause true is stand =
-    ap (λ j. proves_set t.judge j (links_of (chain_of c))) (judged_again t c cause)
-    ∙ ap (proves_set t.judge c.judged) (links_back c (is_secure c.judged.mark) is) ∙ stand
+holds_by t c cause false is stand place = refl
+holds_by t c cause true is stand place =
+    and_from (has_place c.judged.set (sig_of (found_of t.now c.judged cause)))
+    (proves_set t.judge (judged_as (placed_of c.judged) (found_of t.now c.judged cause)) (links_of (chain_of c)))
+    (ap (has_place c.judged.set) (found_sig t.now c.judged cause) ∙ place)
+    (ap (λ j. proves_set t.judge j (links_of (chain_of c))) (judged_again t c cause)
+    ∙ ap (proves_set t.judge c.judged) (links_back c (is_secure c.judged.mark) is) ∙ stand)
 
 entry_holds : (t : Terms) (c : ChainedSet) (cause : ProofErrorKindValue) → stands t.judge c ≡ true
+    → has_place c.judged.set c.judged.sig ≡ true
     → (if is_secure (mark_of (found_of t.now c.judged cause))
-    then proves_set t.judge (judged_as (placed_of c.judged) (found_of t.now c.judged cause))
+    then has_place c.judged.set (sig_of (found_of t.now c.judged cause))
+    && proves_set t.judge (judged_as (placed_of c.judged) (found_of t.now c.judged cause))
     (links_of (chain_of c)) else true) ≡ true
-entry_holds t c cause stand =
-    ap (λ m. if is_secure m then proves_set t.judge (judged_as (placed_of c.judged) (found_of t.now c.judged cause))
+entry_holds t c cause stand place =
+    ap (λ m. if is_secure m then has_place c.judged.set (sig_of (found_of t.now c.judged cause))
+    && proves_set t.judge (judged_as (placed_of c.judged) (found_of t.now c.judged cause))
     (links_of (chain_of c)) else true)
     (found_mark t.now c.judged cause)
-    ∙ holds_by t c cause (is_secure c.judged.mark) refl stand
+    ∙ holds_by t c cause (is_secure c.judged.mark) refl stand place
 
 -- what a run leaves may be added
 left_added : (t : Terms) (cached : List EntryValue) (sends : List Sent) (s : StateValue) (e : EntryValue)
@@ -84,7 +93,7 @@ left_added t cached sends s e run gives h =
       key = refl;
       expires = refl;
       answered = h.kept;
-      holds = entry_holds t h.set h.cause h.stand;
+      holds = entry_holds t h.set h.cause h.stand h.place;
     })
 
 each_added : (t : Terms) (cached : List EntryValue) (sends : List Sent) (s : StateValue) (entries : List EntryValue)

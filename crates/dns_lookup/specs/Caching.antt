@@ -4,16 +4,15 @@ use Rattle.std.specs.List.{AllByRecursion, list_any, count_by, sum_by}
 use Rattle.std.specs.Option.{option_map_or}
 use Rattle.dns_model.specs.declared.trail.MarkOrigin.{MarkOrigin}
 use Rattle.dns_model.specs.declared.trail.MarkOrigin.TheVariants.{Cache}
-use Rattle.dns_model.specs.Chains.{Judge}
 use Rattle.dns_model.specs.Counts.{RoseBy}
 use Rattle.dns_model.specs.Records.{MessageValue}
-use Rattle.dns_model.specs.SoundAnswers.{PlacedSet, Told, is_secure, placed_sets, told_by}
+use Rattle.dns_model.specs.SoundAnswers.{PlacedSet, Told, placed_sets, told_by}
 use Rattle.dns_model.specs.Trails.{AskedValue, JudgedSetValue}
 use Rattle.dns_rules.specs.Asking.{judged_part}
 use Rattle.dns_rules.specs.CacheEntries.{EntryValue, mark_of, sig_of, is_live, live}
 use Rattle.dns_rules.specs.CacheKeys.{key_of}
 use Rattle.dns_rules.specs.Derivation.{top_step, told_in}
-use Rattle.dns_rules.specs.Serving.{may_serve, still_holds, proves_set, judged_as, links_of}
+use Rattle.dns_rules.specs.Serving.{may_serve, still_holds}
 use Rattle.dns_cache.specs.CacheLists.{CacheList}
 use Rattle.dns_cache.specs.Expiry.{expires_at}
 use Rattle.dns_laws.specs.Complete.{are_secure}
@@ -64,13 +63,8 @@ ServesFirst call trail =
 
 -- ---- what is kept
 
--- an entry that says Secure has a chain that proves the set
-abbrev pub is_proved : Judge → PlacedSet → EntryValue → Bool
-is_proved j placed e = if is_secure (mark_of e.found) then proves_set j (judged_as placed e.found) (links_of e.chain) else true
-
 -- a lookup on these terms may add the entry: a run along its sends gives it out, from what was kept before. So a set that one of the sends
--- heard is kept by it: it isn't that an ask failed, it expires as its ttl and its chain say, and where it says Secure its chain proves the
--- set
+-- heard is kept by it: it isn't that an ask failed, it expires as its ttl and its chain say, and what it says holds of the set
 pub record MayAdd (t : Terms) (cached : List EntryValue) (sends : List Sent) (e : EntryValue) : Type 0 where
   pub front : List Sent
   pub rest : List Sent
@@ -88,7 +82,7 @@ pub record MayAdd (t : Terms) (cached : List EntryValue) (sends : List Sent) (e 
   pub key : e.key ≡ key_of sent.ask.query placed.set
   pub expires : e.expires ≡ expires_at t.ranges t.now placed.set e.found e.chain
   pub answered : is_kept e.found ≡ true
-  pub holds : is_proved t.judge placed e ≡ true
+  pub holds : still_holds t.judge placed e ≡ true
 
 -- each entry afterwards is one from before or one that the lookup may add, whatever it answers
 abbrev pub EachKept : Terms → List EntryValue → List Sent → Option CacheList → Option CacheList → Type 0

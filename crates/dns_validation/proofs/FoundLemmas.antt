@@ -46,35 +46,41 @@ each_reverse P (x ∷ xs) h =
 
 -- ---- what is left to be kept
 
--- an entry of one of these sets
-pub record IsLeftOf (t : Terms) (q : Question) (cs : List ChainedSet) (e : EntryValue) : Type 0 where
+-- an entry of one of these sets, beside which a cause stands
+pub record IsLeftOf (t : Terms) (q : Question) (cs : List ChainedSet) (os : List (Option ProofErrorKindValue)) (e : EntryValue)
+    : Type 0 where
   pub set : ChainedSet
   pub among : IsIn set cs
   pub cause : ProofErrorKindValue
+  pub beside : IsIn (set, Some cause) (zip cs os)
   pub kept : is_kept (found_of t.now set.judged cause) ≡ true
   pub is : e ≡ entry_by t q set (found_of t.now set.judged cause)
 
-left_later : (t : Terms) (q : Question) (c : ChainedSet) (cs : List ChainedSet) (e : EntryValue) → IsLeftOf t q cs e
-    → IsLeftOf t q (c ∷ cs) e
-left_later t q c cs e h = record { set = h.set; among = inr h.among; cause = h.cause; kept = h.kept; is = h.is }
+left_later : (t : Terms) (q : Question) (c : ChainedSet) (cs : List ChainedSet) (o : Option ProofErrorKindValue)
+    (os : List (Option ProofErrorKindValue)) (e : EntryValue)
+    → IsLeftOf t q cs os e → IsLeftOf t q (c ∷ cs) (o ∷ os) e
+left_later t q c cs o os e h =
+    record { set = h.set; among = inr h.among; cause = h.cause; beside = inr h.beside; kept = h.kept; is = h.is }
 
-left_if : (t : Terms) (q : Question) (c : ChainedSet) (cs : List ChainedSet) (cause : ProofErrorKindValue) (b : Bool)
-    (es : List EntryValue)
-    → is_kept (found_of t.now c.judged cause) ≡ b → AllByRecursion (IsLeftOf t q (c ∷ cs)) es
-    → AllByRecursion (IsLeftOf t q (c ∷ cs))
+left_if : (t : Terms) (q : Question) (c : ChainedSet) (cs : List ChainedSet) (cause : ProofErrorKindValue)
+    (os : List (Option ProofErrorKindValue)) (b : Bool) (es : List EntryValue)
+    → is_kept (found_of t.now c.judged cause) ≡ b → AllByRecursion (IsLeftOf t q (c ∷ cs) (Some cause ∷ os)) es
+    → AllByRecursion (IsLeftOf t q (c ∷ cs) (Some cause ∷ os))
     (cons_option (if b then Some (entry_by t q c (found_of t.now c.judged cause)) else None) es)
-left_if t q c cs cause false es keeps rest = rest
-left_if t q c cs cause true es keeps rest =
-    (record { set = c; among = inl refl; cause = cause; kept = keeps; is = refl }, rest)
+left_if t q c cs cause os false es keeps rest = rest
+left_if t q c cs cause os true es keeps rest =
+    (record { set = c; among = inl refl; cause = cause; beside = inl refl; kept = keeps; is = refl }, rest)
 
 pub left_each : (t : Terms) (q : Question) (cs : List ChainedSet) (os : List (Option ProofErrorKindValue))
-    → AllByRecursion (IsLeftOf t q cs) (filter_map (entry_if t q) (zip cs os))
+    → AllByRecursion (IsLeftOf t q cs os) (filter_map (entry_if t q) (zip cs os))
 left_each t q [] os = tt
 left_each t q (c ∷ cs) [] = tt
 left_each t q (c ∷ cs) (None ∷ os) =
-    each_more (IsLeftOf t q cs) (IsLeftOf t q (c ∷ cs)) (left_later t q c cs) (filter_map (entry_if t q) (zip cs os))
+    each_more (IsLeftOf t q cs os) (IsLeftOf t q (c ∷ cs) (None ∷ os)) (left_later t q c cs None os)
+    (filter_map (entry_if t q) (zip cs os))
     (left_each t q cs os)
 left_each t q (c ∷ cs) (Some cause ∷ os) =
-    left_if t q c cs cause (is_kept (found_of t.now c.judged cause)) (filter_map (entry_if t q) (zip cs os)) refl
-    (each_more (IsLeftOf t q cs) (IsLeftOf t q (c ∷ cs)) (left_later t q c cs) (filter_map (entry_if t q) (zip cs os))
+    left_if t q c cs cause os (is_kept (found_of t.now c.judged cause)) (filter_map (entry_if t q) (zip cs os)) refl
+    (each_more (IsLeftOf t q cs os) (IsLeftOf t q (c ∷ cs) (Some cause ∷ os)) (left_later t q c cs (Some cause) os)
+    (filter_map (entry_if t q) (zip cs os))
     (left_each t q cs os))

@@ -1,18 +1,20 @@
 -- What a run gives out to be kept is what its steps found of the sets that they heard.
-use Rattle.std.proofs.Common.{ℕ, ◌≡◌, ◌⊎◌, Bool, true, false, not, ◌&&◌, ◌+◌, List, [], ◌∷◌, ◌++◌, drop, Option, None, Some, refl, sym, ap, subst, ◌∙◌, inl, inr}
-use Rattle.std.specs.List.{AllByRecursion}
+use Rattle.std.proofs.Common.{ℕ, ◌≡◌, ◌⊎◌, Bool, true, false, not, ◌&&◌, ◌+◌, List, [], ◌∷◌, ◌++◌, drop, Option, None, Some, map, refl, sym, ap, subst, ◌∙◌, inl, inr}
+use Rattle.std.specs.List.{AllByRecursion, zip}
 use Rattle.std.specs.Option.{IfSome}
 use Rattle.dns_model.specs.declared.trail.AskRef.{AskRef}
 use Rattle.dns_model.specs.Records.{Rr, Question, MessageValue}
-use Rattle.dns_model.specs.SoundAnswers.{PlacedSet, told_by}
+use Rattle.dns_model.specs.SoundAnswers.{PlacedSet, Told, told_by}
 use Rattle.dns_model.specs.Trails.{AskedValue, JudgedSetValue}
 use Rattle.dns_model.proofs.EachLemmas.{each_append, each_more}
 use Rattle.dns_rules.specs.Asking.{judged_part}
 use Rattle.dns_rules.specs.CacheEntries.{EntryValue}
 use Rattle.dns_rules.specs.ChainedSets.{ChainedSet, stands}
-use Rattle.dns_rules.specs.Derivation.{with_entries}
+use Rattle.dns_rules.specs.Derivation.{StepContext, with_entries}
 use Rattle.dns_rules.specs.MarkedSets.{MarkedSet, placed_of}
 use Rattle.dns_rules.specs.Outcome.{Outcome, foreign_record}
+use Rattle.dns_rules.specs.ProofErrors.{ProofErrorKindValue}
+use Rattle.dns_rules.specs.Serving.{has_place}
 use Rattle.dns_handle.specs.Errors.{Reply}
 use Rattle.dns_cache.specs.declared.acceptance.Acceptance.{Acceptance}
 use Rattle.dns_flow.specs.declared.asks.Ask.{Ask}
@@ -22,7 +24,9 @@ use Rattle.dns_validation.specs.Received.{ReceivedValue, Message, Failed, receiv
 use Rattle.dns_validation.specs.Left.{IsLeft}
 use Rattle.dns_validation.specs.Machine.{Terms, SoFar, OpenValue, SeekingValue, MadeValue, StateValue, asked_by, depth_below, entries_left, entry_by, first_kept, found_by_entry, found_in, heard_by, heard_in, heard_nested, heard_own, limit_of, next_in, no_more_waiting, none_open, opened, refusal, serving, step_ended, tick, turned}
 use Rattle.dns_validation.specs.Runs.{Sent, sent_now, Run, Begun, Ticked, Heard, Sought, Given, IsIn, is_none}
+use Rattle.dns_validation.proofs.CausedSets.{AreCaused, HasCause}
 use Rattle.dns_validation.proofs.FoundLemmas.{IsLeftOf, each_in, front_in, left_each, map_in, middle_in}
+use Rattle.dns_validation.proofs.GotLemmas.{context_at}
 use Rattle.dns_validation.proofs.Judgings.{step_judging}
 use Rattle.dns_validation.proofs.RunLemmas.{run_stands}
 use Rattle.dns_validation.proofs.Stands.{IsOnTop, Open, Above, Stand, Waits, Seeks, Moves, Done}
@@ -42,6 +46,7 @@ left_more t sends more e h = record {
   set = h.set;
   placed = h.placed;
   stand = h.stand;
+  place = h.place;
   cause = h.cause;
   kept = h.kept;
   is = h.is;
@@ -56,11 +61,35 @@ placed_in (p ∷ ps) [] judged is = absurd is
 placed_in (p ∷ ps) (e ∷ es) judged (inl same) = inl (ap placed_of same)
 placed_in (p ∷ ps) (e ∷ es) judged (inr is) = inr (placed_in ps es judged is)
 
+head_same : {x y : MarkedSet} {xs ys : List MarkedSet} → x ∷ xs ≡ y ∷ ys → x ≡ y
+head_same h = cc
+
+tail_same : {x y : MarkedSet} {xs ys : List MarkedSet} → x ∷ xs ≡ y ∷ ys → xs ≡ ys
+tail_same h = cc
+
+-- a set beside which a cause stands names the place of one of its signatures
+has_own : (g : StepContext) (told : Told) (ps : List PlacedSet) (es : List JudgedSetValue)
+    (os : List (Option ProofErrorKindValue)) (cs : List ChainedSet) (c : ChainedSet) (cause : ProofErrorKindValue)
+    → AreCaused g told ps es os → map (λ (x : ChainedSet). x.judged) cs ≡ with_entries ps es
+    → IsIn (c, Some cause) (zip cs os)
+    → has_place c.judged.set c.judged.sig ≡ true
+has_own g told ps es os [] c cause are same is = absurd is
+has_own g told ps es [] (d ∷ cs) c cause are same is = absurd is
+has_own g told [] [] (o ∷ os) (d ∷ cs) c cause are same is = absurd are
+has_own g told [] (e ∷ es) (o ∷ os) (d ∷ cs) c cause are same is = absurd are
+has_own g told (p ∷ ps) [] (o ∷ os) (d ∷ cs) c cause are same is = absurd are
+has_own g told (p ∷ ps) (e ∷ es) (o ∷ os) (d ∷ cs) c cause are same (inl first) =
+    let caused = subst (HasCause g told p e) (sym (ap (λ x. x.1) first)) are.0 in
+    let own = ap (λ x. x.judged) (ap (λ x. x.0) first) ∙ head_same same in
+    ap (λ (x : MarkedSet). has_place x.set x.sig) own ∙ caused.1.0
+has_own g told (p ∷ ps) (e ∷ es) (o ∷ os) (d ∷ cs) c cause are same (inr is) =
+    has_own g told ps es os cs c cause are.1 (tail_same same) is
+
 module _ (t : Terms) (cached : List EntryValue) (f : OpenValue) (outer : List OpenValue)
     (below closed : List AskedValue) (n m : ℕ) (before after all : List Sent) (first : Sent) where
   left_step : (o : Outcome) → IsOnTop t cached f outer below closed n m first after
       → all ≡ before ++ first ∷ after
-      → turn f.phase ≡ StepEnds o → (e : EntryValue) → IsLeftOf t f.so_far.query f.so_far.sets e → IsLeft t all e
+      → turn f.phase ≡ StepEnds o → (e : EntryValue) → IsLeftOf t f.so_far.query f.so_far.sets f.so_far.causes e → IsLeft t all e
   left_step o h is ends e left =
       let s = f.so_far in
       let done = step_judging t cached closed f o h.judging ends in
@@ -79,6 +108,9 @@ module _ (t : Terms) (cached : List EntryValue) (f : OpenValue) (outer : List Op
             (subst (IsIn left.set.judged) done.judged.same
             (map_in (λ (c : ChainedSet). c.judged) left.set s.sets left.among)));
         stand = each_in (λ c. stands t.judge c ≡ true) left.set s.sets done.judged.stand left.among;
+        place =
+            has_own (context_at t cached closed s) (told_by s.message) (judged_part s.depth (told_by s.message))
+            s.entries s.causes s.sets left.set left.cause done.caused done.judged.same left.beside;
         cause = left.cause;
         kept = left.kept;
         is = subst (λ q. e ≡ entry_by t q left.set (found_of t.now left.set.judged left.cause)) query left.is;
@@ -125,7 +157,7 @@ module _ (t : Terms) (cached : List EntryValue) (f : OpenValue) (outer : List Op
       let s = f.so_far in
       subst (AreLeft t sends) (sym (ended_keeps t f outer closed n made kept None o))
       (each_append (IsLeft t sends) kept (entries_left t s) each
-      (each_more (IsLeftOf t s.query s.sets) (IsLeft t sends)
+      (each_more (IsLeftOf t s.query s.sets s.causes) (IsLeft t sends)
       (left_step t cached f outer below closed k n before after sends first o h all is)
       (entries_left t s) (left_each t s.query s.sets s.causes)))
   left_need (Asks ask) beneath is each =

@@ -61,7 +61,7 @@ made_stay closed more made each = each_more (IsMade closed) (IsMade (closed ++ m
 -- ---- a step ends
 
 made_new : (t : Terms) (closed : List AskedValue) (s : SoFar) (asked : List AskRef) (o : Outcome) (e : EntryValue)
-    → bare s.sets ≡ with_entries (judged_part s.depth (told_by s.message)) s.entries → IsLeftOf t s.query s.sets e
+    → bare s.sets ≡ with_entries (judged_part s.depth (told_by s.message)) s.entries → IsLeftOf t s.query s.sets s.causes e
     → IsMade (closed ++ step_of s asked o ∷ []) (made_by (length closed) e)
 made_new t closed s asked o e same h = record {
   step = step_of s asked o;
@@ -84,7 +84,7 @@ made_more t closed s asked o made same each =
     each_append (IsMade grown) (reverse new) made
     (each_reverse (IsMade grown) new
     (each_map (IsMade grown) (made_by (length closed)) es
-    (each_more (IsLeftOf t s.query s.sets) (λ e. IsMade grown (made_by (length closed) e))
+    (each_more (IsLeftOf t s.query s.sets s.causes) (λ e. IsMade grown (made_by (length closed) e))
     (λ e. made_new t closed s asked o e same) es
     (left_each t s.query s.sets s.causes))))
     (made_stay closed (step_of s asked o ∷ []) made each)
