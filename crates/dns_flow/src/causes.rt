@@ -96,6 +96,7 @@ pub fn cause_after<V: Verifier>(
     match phase {
         Phase::Marked(_) => Ok(cause),
         Phase::NeedsDs(placed) => {
+            drop(cause);
             keys_cause(alloc, judge.verifier, set_of(placed), answer_in(got, &none))
         }
         Phase::Trying(placed, verdicts) => {
@@ -104,6 +105,7 @@ pub fn cause_after<V: Verifier>(
         }
         Phase::AtName(_, class, name) => after_seen(*class, name, seen_in(got), cause),
         Phase::AtZone(Seeker::Set(placed), class, zone) => {
+            drop(cause);
             let answer = answer_in(got, &none);
             unsigned_cause(alloc, judge.verifier, set_of(placed), *class, zone, answer)
         }
@@ -236,6 +238,7 @@ fn after_try(
     if is_net(&cause) {
         return Ok(cause);
     }
+    drop(cause);
     if answer.is_some() {
         return unverified(set);
     }
@@ -266,6 +269,7 @@ fn after_seen(
         NsProbe::Found => Ok(cause),
         NsProbe::Absent => Ok(cause),
         NsProbe::Failed => {
+            drop(cause);
             let query = ns_query(name, class)?;
             Ok(ProofErrorKind::Net { query })
         }
@@ -283,6 +287,7 @@ pub fn found_of(
     ensures { result ≡ found_in now judged.now (kind_value cause) }
 {
     if judged.mark == Proof::Secure {
+        drop(cause);
         return Ok(RrsetProof {
             proof: Proof::Secure,
             adjusted_ttl: ttl_left(now, judged),
@@ -290,6 +295,7 @@ pub fn found_of(
         });
     }
     if judged.sig.is_some() {
+        drop(cause);
         return Ok(RrsetProof {
             proof: judged.mark,
             adjusted_ttl: None,

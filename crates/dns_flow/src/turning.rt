@@ -59,11 +59,15 @@ pub fn after<V: Verifier>(
         Phase::Marked(set) => Ok(Phase::Marked(set)),
         Phase::NeedsDs(placed) => {
             let answer = answer_of(got);
-            after_ds(alloc, judge, placed, &answer)
+            let led = after_ds(alloc, judge, placed, &answer);
+            drop(answer);
+            led
         }
         Phase::Trying(placed, verdicts) => {
             let answer = answer_of(got);
-            after_signature(alloc, judge, query, placed, verdicts, &answer)
+            let led = after_signature(alloc, judge, query, placed, verdicts, &answer);
+            drop(answer);
+            led
         }
         Phase::AtName(seeker, class, name) => {
             let seen = seen_of(got);
@@ -71,7 +75,13 @@ pub fn after<V: Verifier>(
         }
         Phase::AtZone(seeker, class, zone) => {
             let answer = answer_of(got);
-            let mark = zone_mark(alloc, judge.verifier, class, &zone, &answer)?;
+            let mark = zone_mark(alloc, judge.verifier, class, &zone, &answer);
+            drop(zone);
+            drop(answer);
+            let Ok(mark) = mark else {
+                drop(seeker);
+                return Err(NoMemory);
+            };
             Ok(found(alloc, query, message, seeker, mark))
         }
         Phase::Concluded(outcome) => Ok(Phase::Concluded(outcome)),

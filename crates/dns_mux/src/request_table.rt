@@ -71,13 +71,17 @@ fn push_item(queues: &mut Queues, number: u64, item: Item) -> bool
         (pushed (reply_of item)) }
 {
     match queues.get_mut(&number) {
-        None => false,
+        None => {
+            drop(item);
+            false
+        }
         Some(queue) => {
-            let fits = queue.has_room();
-            if fits {
-                queue.push(item);
+            if !queue.has_room() {
+                drop(item);
+                return false;
             }
-            fits
+            queue.push(item);
+            true
         }
     }
 }

@@ -60,10 +60,12 @@ impl BufDnsRequestStreamHandle {
         ensures { IsQueued self.old request self.new result }
     {
         if self.requests.len() >= MOST_WAITING {
+            drop(request);
             return Err(NetError::Busy);
         }
         let slot = self.slots;
         let Some(slots) = slot.checked_add(1) else {
+            drop(request);
             return Err(NetError::NoMemory);
         };
         self.requests

@@ -9,6 +9,7 @@ use crate::DnsResponseStream;
 use dns_handle::{DnsResponse, NetError};
 use futures::Stream;
 use futures::task::{Context, Poll};
+use std::mem;
 
 /// What a request that was put into a queue has come to. A poll of it is pending, and asks to be polled again, until it is
 /// settled; then it polls the stream, or gives the error once and ends.
@@ -27,12 +28,15 @@ impl DnsResponseReceiver {
     pub fn settle(&mut self, made: Result<DnsResponseStream, NetError>)
         ensures { self.new ≡ settled made self.old }
     {
-        if let DnsResponseReceiver::Receiver(_) = self {
-            *self = match made {
-                Ok(stream) => DnsResponseReceiver::Received(stream),
-                Err(error) => DnsResponseReceiver::Err(Some(error)),
-            };
-        }
+        let DnsResponseReceiver::Receiver(_) = self else {
+            drop(made);
+            return;
+        };
+        let settled = match made {
+            Ok(stream) => DnsResponseReceiver::Received(stream),
+            Err(error) => DnsResponseReceiver::Err(Some(error)),
+        };
+        drop(mem::replace(self, settled));
     }
 }
 

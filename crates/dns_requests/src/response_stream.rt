@@ -83,6 +83,7 @@ impl DnsResponseStream {
             return None;
         };
         if is_timeout(&item) {
+            drop(item);
             self.rest.clear();
             return None;
         }

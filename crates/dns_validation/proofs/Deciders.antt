@@ -1,7 +1,7 @@
 -- A judged set has the signature of which it names the place.
 use Rattle.std.proofs.Common.{ℕ, ◌≡◌, ◌<◌, ◌≤◌, ◌+◌, ◌==◌, zero, suc, Bool, true, false, List, [], ◌∷◌, length, take, Option, None, Some, is_some, slice_get, if◌then◌else◌, refl, sym, ap, ◌∙◌, subst, arith}
 use Rattle.std.specs.Option.{option_map, option_map_or, option_and_then}
-use Rattle.std.specs.List.{cons_option, enumerate_from, filter, filter_map, find, list_all, position}
+use Rattle.std.specs.List.{cons_option, enumerate_from, filter, filter_map, list_all, position}
 use Rattle.std.proofs.lemmas.List.Quantifiers.{position-Some}
 use Rattle.std.proofs.lemmas.Option.{slice_get-get_or}
 use Rattle.dns_model.specs.declared.trail.AskRef.{AskRef}
@@ -14,7 +14,7 @@ use Rattle.dns_rules.specs.Asking.{ask_of}
 use Rattle.dns_rules.specs.ChainedSets.{ChainedSet}
 use Rattle.dns_rules.specs.Delegations.{ZoneVerdict, Signed, Insecure, Bogus, is_supported_ds}
 use Rattle.dns_rules.specs.Derivation.{StepContext, finished_answer, is_ask, is_empty, search_from, verdicts_after, verdicts_asked, verdicts_by, zone_asked}
-use Rattle.dns_rules.specs.KeySets.{KeysOutcome, SignedKeys, SignedByAnchored, WhollyAnchored, NeedsDs, SignedByMatched, WhollyTrusted, Refused, first_signed, is_anchored_key, is_matched_key, is_root, is_trusted_key, judged_keys, keys_outcome, needs_ds, outcome_by_ds, outcome_by_verdict, outcome_mark, signed_by, signer_among}
+use Rattle.dns_rules.specs.KeySets.{KeysOutcome, SignedKeys, SignedByAnchored, WhollyAnchored, SignedByMatched, WhollyTrusted, Refused, first_signed, is_anchored_key, is_matched_key, is_root, is_trusted_key, judged_keys, keys_outcome, needs_ds, outcome_by_ds, outcome_by_verdict, outcome_mark, signed_by, signer_among}
 use Rattle.dns_rules.specs.Marks.{Verdict, is_proved, is_skipped, judged_by, mark_at, most_signatures, set_mark, shows_insecure, verdict_of}
 use Rattle.dns_rules.specs.Marks as marks
 use Rattle.dns_rules.specs.ProofErrors.{DnskeyNotFound, DsRecordsButNoDnskey}

@@ -1,5 +1,5 @@
 -- Elements of a list, and what a step leaves to be kept.
-use Rattle.std.proofs.Common.{◌≡◌, ◌⊎◌, ◌||◌, Bool, true, false, List, [], ◌∷◌, ◌++◌, Option, None, Some, if◌then◌else◌, map, reverse, refl, sym, ap, subst, ◌∙◌, inl, inr}
+use Rattle.std.proofs.Common.{◌≡◌, ◌||◌, Bool, true, false, List, [], ◌∷◌, ◌++◌, Option, None, Some, if◌then◌else◌, map, reverse, refl, sym, ap, subst, inl, inr}
 use Rattle.std.specs.List.{AllByRecursion, cons_option, filter_map, list_any, zip}
 use Rattle.std.proofs.lemmas.Bool.{or_right}
 use Rattle.std.proofs.lemmas.List.{reverse-append}
@@ -43,6 +43,27 @@ each_reverse P [] h = tt
 each_reverse P (x ∷ xs) h =
     subst (AllByRecursion P) (sym (reverse-append (x ∷ []) xs))
     (each_append P (reverse xs) (x ∷ []) (each_reverse P xs h.1) (h.0, tt))
+
+pub head_same : {X : Type 0} {x y : X} {xs ys : List X} → x ∷ xs ≡ y ∷ ys → x ≡ y
+head_same h = cc
+
+pub tail_same : {X : Type 0} {x y : X} {xs ys : List X} → x ∷ xs ≡ y ∷ ys → xs ≡ ys
+tail_same h = cc
+
+pub no_head : {X : Type 0} {x : X} {xs : List X} → x ∷ xs ≡ [] → ⊥
+no_head h = cc
+
+pub no_tail : {X : Type 0} {x : X} {xs : List X} → [] ≡ x ∷ xs → ⊥
+no_tail h = cc
+
+pub some_same : {X : Type 0} {x y : X} → Some x ≡ Some y → x ≡ y
+some_same h = cc
+
+pub no_some : {X : Type 0} {x : X} → None ≡ Some x → ⊥
+no_some h = cc
+
+pub no_truth : false ≡ true → ⊥
+no_truth h = cc
 
 -- ---- what is left to be kept
 

@@ -1,10 +1,9 @@
 -- Each reply keeps where a validation stands.
-use Rattle.std.proofs.Common.{ℕ, ◌+◌, ◌≡◌, ◌≤◌, ◌<◌, Bool, true, false, List, [], ◌∷◌, ◌++◌, length, Option, None, Some, Err, refl, sym, ap, subst, ◌∙◌, arith}
-use Rattle.dns_model.specs.declared.trail.AskRef.{AskRef}
+use Rattle.std.proofs.Common.{ℕ, ◌+◌, ◌≡◌, ◌<◌, Bool, true, false, List, [], ◌∷◌, ◌++◌, length, Option, None, Some, Err, refl, sym, ap, subst, arith}
 use Rattle.dns_model.specs.declared.trail.AskRef.TheVariants.{Step}
 use Rattle.dns_model.specs.Records.{Rr, Question, MessageValue}
 use Rattle.dns_model.specs.SoundAnswers.{told_by}
-use Rattle.dns_model.specs.Trails.{AskedValue, HeardValue, EndingValue, Records, Fault, Failed, Seen}
+use Rattle.dns_model.specs.Trails.{AskedValue, Records, Fault, Failed, Seen}
 use Rattle.dns_rules.specs.Asking.{most_sends, judged_part}
 use Rattle.dns_rules.specs.CacheEntries.{EntryValue}
 use Rattle.dns_rules.specs.Derivation.{step_holds, probe_of, asks_of}
@@ -15,9 +14,9 @@ use Rattle.dns_handle.specs.Errors.{Reply, ErrorValue}
 use Rattle.dns_flow.specs.declared.asks.Ask.{Ask}
 use Rattle.dns_flow.specs.Phases.{GotValue, Answer, Probe, judged_ask, plain_ask}
 use Rattle.dns_flow.proofs.Led.{IsGot}
-use Rattle.dns_validation.specs.Received.{ReceivedValue, Message, Failed as Unheard, received_value, heard_from, is_out_of_memory}
+use Rattle.dns_validation.specs.Received.{ReceivedValue, Message, Failed as Unheard, received_value, is_out_of_memory}
 use Rattle.dns_validation.specs.Steps.{judged_step, plain_step, foreign_ending}
-use Rattle.dns_validation.specs.Machine.{Terms, OpenValue, SeekingValue, MadeValue, StateValue, begun, opened, answered, heard_first, heard_own, heard_judged, heard_nested, heard_plain, heard_by, depth_below, heard, limits_of}
+use Rattle.dns_validation.specs.Machine.{Terms, OpenValue, SeekingValue, MadeValue, StateValue, begun, opened, answered, heard_first, heard_own, heard_judged, heard_nested, heard_plain, heard, limits_of}
 use Rattle.dns_validation.specs.Runs.{Sent, request_in, depth_in, sent_now}
 use Rattle.dns_validation.specs.Comes.{IsFirst, IsStepOf, Passes, Names}
 use Rattle.dns_validation.proofs.Parts.{Part, none_more, step_more}
@@ -26,7 +25,7 @@ use Rattle.dns_validation.proofs.GotLemmas.{context_at, step_answers, step_shows
 use Rattle.dns_validation.proofs.Judgings.{next_opened}
 use Rattle.dns_validation.proofs.MadeLemmas.{AreMade, made_stay}
 use Rattle.dns_validation.proofs.Replies.{heard_message, heard_fault}
-use Rattle.dns_validation.proofs.Stands.{Awaited, Awaits, IsHeard, Open, Ground, Above, Stand, Waits, Seeks, Moves, Done, Stands, at_rest, stand_next, open_answered}
+use Rattle.dns_validation.proofs.Stands.{Awaited, Awaits, Open, Ground, Stand, Waits, Seeks, Moves, Done, Stands, at_rest, stand_next, open_answered}
 
 -- the send of a judged ask
 abbrev sent_judged : Terms → List OpenValue → Question → Reply → Sent

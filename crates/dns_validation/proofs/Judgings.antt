@@ -1,13 +1,12 @@
 -- An open step: what it judged follows from the steps that have ended, and stays so; one lemma for each way in which
 -- it goes on.
-use Rattle.std.proofs.Common.{ℕ, ◌+◌, ◌≡◌, true, false, List, [], ◌∷◌, ◌++◌, None, Some, append_assoc, append-nil, drop, Option, Bool, refl, sym, ap, subst, ◌∙◌}
-use Rattle.std.specs.List.{AllByRecursion, flat_map}
+use Rattle.std.proofs.Common.{ℕ, ◌≡◌, true, false, List, [], ◌∷◌, ◌++◌, None, Some, append_assoc, append-nil, drop, Option, Bool, refl, sym, ap, subst, ◌∙◌}
+use Rattle.std.specs.List.{AllByRecursion}
 use Rattle.std.specs.Option.{option_map}
 use Rattle.std.proofs.lemmas.List.{map-append}
 use Rattle.std.proofs.lemmas.List.Concat.{flat_map-append}
 use Rattle.dns_model.specs.declared.trail.AskRef.{AskRef}
 use Rattle.dns_model.specs.Records.{Question, MessageValue}
-use Rattle.dns_model.specs.Chains.{Judge}
 use Rattle.dns_model.specs.SoundAnswers.{Told, PlacedSet, told_by}
 use Rattle.dns_model.specs.Trails.{AskedValue, JudgedSetValue}
 use Rattle.dns_model.proofs.EachLemmas.{each_append, each_back}
@@ -15,7 +14,7 @@ use Rattle.dns_model.proofs.SetLemmas.{IsProper}
 use Rattle.dns_rules.specs.Asking.{judged_part}
 use Rattle.dns_rules.specs.CacheEntries.{EntryValue}
 use Rattle.dns_rules.specs.ChainedSets.{ChainedSet, bare, stands}
-use Rattle.dns_rules.specs.Derivation.{StepContext, with_entries, entries_hold}
+use Rattle.dns_rules.specs.Derivation.{StepContext, with_entries}
 use Rattle.dns_rules.specs.DerivationParts.{asks_of_sets}
 use Rattle.dns_rules.specs.ProofErrors.{ProofErrorKindValue}
 use Rattle.dns_rules.specs.Outcome.{Outcome, foreign_record}
@@ -25,7 +24,7 @@ use Rattle.dns_rules.proofs.StayLemmas.{later_step_context}
 use Rattle.dns_flow.specs.declared.asks.Ask.{Ask}
 use Rattle.dns_flow.specs.Endings.{IsStepEnd}
 use Rattle.dns_flow.specs.Leads.{entry_of}
-use Rattle.dns_flow.specs.Phases.{PhaseValue, GotValue, SetEnds, StepEnds, Asks, start_set, start_ending, turn, after}
+use Rattle.dns_flow.specs.Phases.{PhaseValue, GotValue, SetEnds, StepEnds, Asks, start_set, start_ending, turn}
 use Rattle.dns_flow.specs.Causes.{start_cause, cause_after}
 use Rattle.dns_flow.specs.CauseRows.{is_by_table}
 use Rattle.dns_flow.proofs.CauseLed.{CauseLed, cause_begins, cause_goes_on, cause_stays}

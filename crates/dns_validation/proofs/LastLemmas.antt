@@ -37,6 +37,7 @@ use Rattle.dns_validation.specs.Machine.{Terms, MadeValue, OpenValue, SeekingVal
 use Rattle.dns_validation.specs.Runs.{Sent, Run, Turns, Here, Onward, is_none, moves}
 use Rattle.dns_validation.specs.Steps.{judged_answer}
 use Rattle.dns_validation.proofs.CausedSets.{HasCause, AreCaused, caused_later}
+use Rattle.dns_validation.proofs.FoundLemmas.{head_same, no_head, no_some, no_tail, no_truth, some_same, tail_same}
 use Rattle.dns_validation.proofs.GotLemmas.{context_at}
 use Rattle.dns_validation.proofs.Judgings.{Judging, step_judging}
 use Rattle.dns_validation.proofs.RunLemmas.{run_stands, run_turns}
@@ -186,33 +187,30 @@ all_left : (t : Terms) (q : Question) (g : StepContext) (told : Told) (ps : List
     → LastOf t q (filter (λ (x : PlacedSet × JudgedSetValue). is_found g.earlier x.1) (zip ps es))
     (filter_map (entry_if t q) (zip sets causes))
 all_left t q g told [] [] [] [] same stand h = NoneOf refl refl
-all_left t q g told [] [] (c ∷ sets) [] same stand h = cc
+all_left t q g told [] [] (c ∷ sets) [] same stand h = absurd (no_head same)
 all_left t q g told [] [] sets (cause ∷ causes) same stand h = absurd h
 all_left t q g told [] (e ∷ es) sets causes same stand h = absurd h
 all_left t q g told (p ∷ ps) [] sets causes same stand h = absurd h
 all_left t q g told (p ∷ ps) (e ∷ es) sets [] same stand h = absurd h
-all_left t q g told (p ∷ ps) (e ∷ es) [] (cause ∷ causes) same stand h = cc
+all_left t q g told (p ∷ ps) (e ∷ es) [] (cause ∷ causes) same stand h = absurd (no_tail same)
 all_left t q g told (p ∷ ps) (e ∷ es) (c ∷ sets) (cause ∷ causes) same stand h =
-    let one : c.judged ≡ with_entry (p, e) = cc in
-    let rest : bare sets ≡ with_entries ps es = cc in
+    let one : c.judged ≡ with_entry (p, e) = head_same same in
+    let rest : bare sets ≡ with_entries ps es = tail_same same in
     last_behind t q g.earlier p e (entry_if t q (c, cause))
     (filter (λ (x : PlacedSet × JudgedSetValue). is_found g.earlier x.1) (zip ps es))
     (filter_map (entry_if t q) (zip sets causes)) (one_left t q g told p e c cause one stand.0 h.0)
     (all_left t q g told ps es sets causes rest stand.1 h.1)
 
-no_pair : (x : PlacedSet × JudgedSetValue) → None ≡ Some x → ⊥
-no_pair x h = cc
-
 last_is : (t : Terms) (q : Question) (found : List (PlacedSet × JudgedSetValue)) (left kept : List EntryValue)
     (p : PlacedSet) (e : JudgedSetValue)
     → LastOf t q found left → slice_get (reverse found) 0 ≡ Some (p, e) → IsKeptLast t q p e (kept ++ left)
 last_is t q found left kept p e (NoneOf none none_left) is =
-    absurd (no_pair (p, e) (sym (ap (λ (xs : List (PlacedSet × JudgedSetValue)). slice_get (reverse xs) 0) none) ∙ is))
+    absurd (no_some (sym (ap (λ (xs : List (PlacedSet × JudgedSetValue)). slice_get (reverse xs) 0) none) ∙ is))
 last_is t q found left kept p e (OneOf before one front entry is_before is_front of) is =
     let turned : reverse found ≡ one ∷ reverse before = ap reverse is_before ∙ reverse-append before (one ∷ []) in
     let some : Some one ≡ Some (p, e) =
     sym (ap (λ (xs : List (PlacedSet × JudgedSetValue)). slice_get xs 0) turned) ∙ is in
-    let same : one ≡ (p, e) = cc in
+    let same : one ≡ (p, e) = some_same some in
     record {
       front = kept ++ front;
       entry = entry;
@@ -282,26 +280,23 @@ module _ (t : Terms) (cached : List EntryValue) where
       → (step_ended t f.so_far f.asked o (at_rest closed outer n made kept)).ended ≡ Some reply
       → LeavesLast t reply (step_ended t f.so_far f.asked o (at_rest closed outer n made kept)).kept
   last_ended f [] closed n sends made kept o reply beneath is ends =
-      let same : judged_answer t.now f.so_far.query (findings closed f.so_far f.asked o) ≡ reply = cc in
+      let same : judged_answer t.now f.so_far.query (findings closed f.so_far f.asked o) ≡ reply = some_same ends in
       subst (λ r. LeavesLast t r (kept ++ entries_left t f.so_far)) same
       (last_step t cached f closed n sends kept o beneath is)
-  last_ended f (g ∷ outer) closed n sends made kept o reply beneath is ends = cc
-
-no_reply : (reply : Reply) → None ≡ Some reply → ⊥
-no_reply reply h = cc
+  last_ended f (g ∷ outer) closed n sends made kept o reply beneath is ends = absurd (no_some ends)
 
 -- a set that ends makes no answer
 set_makes_none : (t : Terms) (f : OpenValue) (c : ChainedSet) (state : StateValue) (reply : Reply) → state.ended ≡ None
     → (set_ended t f c state).ended ≡ Some reply → ⊥
 set_makes_none t f c state reply none ends =
     let s = with_set f.so_far c (entry_of c.judged f.asked) f.cause in
-    no_reply reply (sym none ∙ sym (next_ends t s (first_left s.left) state) ∙ ends)
+    no_some (sym none ∙ sym (next_ends t s (first_left s.left) state) ∙ ends)
 
 -- nor does an ask
 ask_makes_none : (t : Terms) (f : OpenValue) (o : Option AskRef) (ask : Ask) (state : StateValue) (reply : Reply)
     → state.ended ≡ None
     → (asked_by t.judge o ask f state).ended ≡ Some reply → ⊥
-ask_makes_none t f o ask state reply none ends = no_reply reply (sym none ∙ sym (asked_ends t f o ask state) ∙ ends)
+ask_makes_none t f o ask state reply none ends = no_some (sym none ∙ sym (asked_ends t f o ask state) ∙ ends)
 
 module _ (t : Terms) (cached : List EntryValue) where
   last_need : (f : OpenValue) (outer : List OpenValue) (closed : List AskedValue) (n : ℕ) (sends : List Sent)
@@ -338,13 +333,15 @@ module _ (t : Terms) (cached : List EntryValue) where
         ended = ended;
       } in
       u ≡ tick t s) → u.ended ≡ Some reply → LeavesLast t reply u.kept
-  last_turn _ _ _ _ _ _ _ kept _ (Waits ask steps closed n sends made beneath few awaits each) on u reply by ends = cc
+  last_turn _ _ _ _ _ _ _ kept _ (Waits ask steps closed n sends made beneath few awaits each) on u reply by ends =
+      absurd (no_truth on)
   last_turn _ _ _ _ _ _ _ kept _
       (Seeks k outer below closed n m before after all first made beneath h is each) on u reply
-      by ends = cc
+      by ends = absurd (no_truth on)
   last_turn _ _ _ _ _ _ _ kept _ (Moves f outer closed n sends made beneath each) on u reply by ends =
       last_need t cached f outer closed n sends made kept (turn f.phase) u reply beneath refl by ends
-  last_turn _ _ _ _ _ _ _ kept _ (Done closed n sends made answer comes) on u reply by ends = cc
+  last_turn _ _ _ _ _ _ _ kept _ (Done closed n sends made answer comes) on u reply by ends =
+      absurd (no_truth on)
 
 -- ---- turns
 
@@ -358,7 +355,7 @@ turns_end : (t : Terms) (cached : List EntryValue) (sends : List Sent) (s u : St
     → s.ended ≡ None → u ≡ s
     → u.ended ≡ Some reply → LeavesLast t reply u.kept
 turns_end t cached sends s u reply none is ends =
-    absurd (no_reply reply (sym none ∙ sym (ap (λ (x : StateValue). x.ended) is) ∙ ends))
+    absurd (no_some (sym none ∙ sym (ap (λ (x : StateValue). x.ended) is) ∙ ends))
 
 -- by turns a validation that has no answer comes to one behind the last step
 pub turns_leave_last : (t : Terms) (cached : List EntryValue) (sends : List Sent) (s u : StateValue) (reply : Reply)

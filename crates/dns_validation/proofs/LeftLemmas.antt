@@ -1,5 +1,5 @@
 -- What a run gives out to be kept is what its steps found of the sets that they heard.
-use Rattle.std.proofs.Common.{ℕ, ◌≡◌, ◌⊎◌, Bool, true, false, not, ◌&&◌, ◌+◌, List, [], ◌∷◌, ◌++◌, drop, Option, None, Some, map, refl, sym, ap, subst, ◌∙◌, inl, inr}
+use Rattle.std.proofs.Common.{ℕ, ◌≡◌, Bool, true, false, not, ◌&&◌, ◌+◌, List, [], ◌∷◌, ◌++◌, drop, Option, None, Some, map, refl, sym, ap, subst, ◌∙◌, inl, inr}
 use Rattle.std.specs.List.{AllByRecursion, zip}
 use Rattle.std.specs.Option.{IfSome}
 use Rattle.dns_model.specs.declared.trail.AskRef.{AskRef}
@@ -25,7 +25,7 @@ use Rattle.dns_validation.specs.Left.{IsLeft}
 use Rattle.dns_validation.specs.Machine.{Terms, SoFar, OpenValue, SeekingValue, MadeValue, StateValue, asked_by, depth_below, entries_left, entry_by, first_kept, found_by_entry, found_in, heard_by, heard_in, heard_nested, heard_own, limit_of, next_in, no_more_waiting, none_open, opened, refusal, serving, step_ended, tick, turned}
 use Rattle.dns_validation.specs.Runs.{Sent, sent_now, Run, Begun, Ticked, Heard, Sought, Given, IsIn, is_none}
 use Rattle.dns_validation.proofs.CausedSets.{AreCaused, HasCause}
-use Rattle.dns_validation.proofs.FoundLemmas.{IsLeftOf, each_in, front_in, left_each, map_in, middle_in}
+use Rattle.dns_validation.proofs.FoundLemmas.{IsLeftOf, each_in, front_in, head_same, left_each, map_in, middle_in, tail_same}
 use Rattle.dns_validation.proofs.GotLemmas.{context_at}
 use Rattle.dns_validation.proofs.Judgings.{step_judging}
 use Rattle.dns_validation.proofs.RunLemmas.{run_stands}
@@ -60,12 +60,6 @@ placed_in [] es judged is = absurd is
 placed_in (p ∷ ps) [] judged is = absurd is
 placed_in (p ∷ ps) (e ∷ es) judged (inl same) = inl (ap placed_of same)
 placed_in (p ∷ ps) (e ∷ es) judged (inr is) = inr (placed_in ps es judged is)
-
-head_same : {x y : MarkedSet} {xs ys : List MarkedSet} → x ∷ xs ≡ y ∷ ys → x ≡ y
-head_same h = cc
-
-tail_same : {x y : MarkedSet} {xs ys : List MarkedSet} → x ∷ xs ≡ y ∷ ys → xs ≡ ys
-tail_same h = cc
 
 -- a set beside which a cause stands names the place of one of its signatures
 has_own : (g : StepContext) (told : Told) (ps : List PlacedSet) (es : List JudgedSetValue)

@@ -1,5 +1,5 @@
 -- What a step hears of a reply, by what is received.
-use Rattle.std.proofs.Common.{◌≡◌, Bool, true, false, Ok, Err, refl, ap, ◌∙◌}
+use Rattle.std.proofs.Common.{◌≡◌, Bool, Ok, Err, refl, ap, ◌∙◌}
 use Rattle.dns_model.specs.Records.{MessageValue}
 use Rattle.dns_model.specs.SoundAnswers.{told_by}
 use Rattle.dns_model.specs.Trails.{HeardValue, Records, Fault}

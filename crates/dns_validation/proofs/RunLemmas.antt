@@ -1,5 +1,5 @@
 -- Runs: where they stand, how they go on, and what they come to.
-use Rattle.std.proofs.Common.{ℕ, ◌≡◌, ◌<◌, Bool, true, false, not, ◌&&◌, List, [], ◌∷◌, ◌++◌, Option, None, Some, Result, refl, sym, ap, subst, ◌∙◌, arith, ◌⊎◌, inl, inr}
+use Rattle.std.proofs.Common.{ℕ, ◌≡◌, true, false, not, ◌&&◌, List, [], ◌∷◌, ◌++◌, Option, None, Some, Result, refl, sym, ap, subst, ◌∙◌, arith, ◌⊎◌, inl, inr}
 use Rattle.std.specs.Option.{IsSome, IfSome, option_map}
 use Rattle.dns_model.specs.declared.trail.MarkOrigin.TheVariants.{Cache}
 use Rattle.dns_model.specs.Records.{Question}
@@ -13,7 +13,7 @@ use Rattle.dns_handle.specs.Replies.{reply_of}
 use Rattle.dns_handle.specs.declared.error.NetError.{NetError}
 use Rattle.dns_flow.specs.declared.asks.Ask.{Ask}
 use Rattle.dns_flow.specs.Phases.{judged_ask}
-use Rattle.dns_validation.specs.Machine.{Terms, OpenValue, SeekingValue, MadeValue, StateValue, begin, none_open, heard, tick, found, origin_of, serving}
+use Rattle.dns_validation.specs.Machine.{Terms, OpenValue, SeekingValue, MadeValue, StateValue, begin, none_open, heard, found, origin_of, serving}
 use Rattle.dns_validation.specs.Runs.{Sent, sent_now, Run, Begun, Ticked, Heard, Sought, Given, IsIn, Turns, Here, Onward, IsOut, HasHeard, GoesOn, HasTaken, TakesOn, is_none, moves}
 use Rattle.dns_validation.specs.Comes.{Comes}
 use Rattle.dns_validation.proofs.FindLemmas.{stand_found}

@@ -1,14 +1,13 @@
 -- Where a validation stands: the open steps on top of one another over what has ended, each with the part of the trail
 -- that its asks
 -- added.
-use Rattle.std.proofs.Common.{ℕ, ◌+◌, ◌≡◌, ◌≤◌, ◌<◌, Bool, true, false, List, [], ◌∷◌, ◌++◌, Option, None, Some, append_assoc, append-nil, drop, refl, sym, ap, subst, ◌∙◌}
+use Rattle.std.proofs.Common.{ℕ, ◌+◌, ◌≡◌, ◌≤◌, ◌<◌, true, false, List, [], ◌∷◌, ◌++◌, Option, None, Some, append_assoc, append-nil, drop, refl, sym, ap, subst, ◌∙◌}
 use Rattle.dns_model.specs.declared.trail.AskRef.{AskRef}
 use Rattle.dns_model.specs.SoundAnswers.{PlacedSet}
 use Rattle.dns_model.specs.Trails.{AskedValue}
 use Rattle.dns_rules.specs.Asking.{most_sends}
 use Rattle.dns_rules.specs.CacheEntries.{EntryValue}
 use Rattle.dns_rules.specs.DerivationParts.{asks_of_sets}
-use Rattle.dns_rules.specs.Parts.{TrailPart}
 use Rattle.dns_handle.specs.Errors.{Reply}
 use Rattle.dns_flow.specs.declared.asks.Ask.{Ask}
 use Rattle.dns_flow.specs.Phases.{GotValue, Asks, judged_ask, turn}

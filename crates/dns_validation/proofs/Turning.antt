@@ -1,37 +1,36 @@
 -- Each turn keeps where a validation stands.
-use Rattle.std.proofs.Common.{ℕ, ◌+◌, ◌≡◌, ◌≤◌, ◌<◌, Bool, true, false, not, ◌&&◌, List, [], ◌∷◌, ◌++◌, length, Option, None, Some, map, reverse, append-nil, refl, sym, ap, subst, ◌∙◌}
+use Rattle.std.proofs.Common.{ℕ, ◌≡◌, ◌≤◌, Bool, true, not, ◌&&◌, List, [], ◌∷◌, ◌++◌, length, Option, None, Some, map, reverse, append-nil, refl, sym, ap, subst, ◌∙◌}
 use Rattle.std.specs.Option.{option_map}
 use Rattle.dns_model.specs.declared.trail.AskRef.{AskRef}
 use Rattle.dns_model.specs.declared.trail.AskRef.TheVariants.{Step}
 use Rattle.dns_model.specs.Records.{Question}
 use Rattle.dns_model.specs.Chains.{Judge}
 use Rattle.dns_model.specs.SoundAnswers.{told_by}
-use Rattle.dns_model.specs.Trails.{AskedValue, JudgedSetValue, EndingValue, HeardValue, Records}
+use Rattle.dns_model.specs.Trails.{AskedValue, Records}
 use Rattle.dns_rules.specs.Asking.{most_sends, judged_part}
 use Rattle.dns_rules.specs.CacheEntries.{EntryValue}
 use Rattle.dns_rules.specs.ChainedSets.{ChainedSet, bare}
-use Rattle.dns_rules.specs.Derivation.{if_answered, judged_sets, with_entries, ending_by, step_holds, asks_of}
+use Rattle.dns_rules.specs.Derivation.{if_answered, judged_sets, with_entries, ending_by}
 use Rattle.dns_rules.specs.DerivationParts.{asks_of_sets}
 use Rattle.dns_rules.specs.Outcome.{Outcome, Given, NeedsZone, Denied, foreign_record}
 use Rattle.dns_rules.proofs.ChainedLemmas.{AllStand, IsGoodAnswer}
 use Rattle.dns_handle.specs.Errors.{Reply}
 use Rattle.dns_flow.specs.declared.asks.Ask.{Ask}
 use Rattle.dns_flow.specs.Leads.{entry_of}
-use Rattle.dns_flow.specs.Phases.{NeedValue, GotValue, SetEnds, StepEnds, Asks, Answer, judged_ask, turn}
+use Rattle.dns_flow.specs.Phases.{NeedValue, SetEnds, StepEnds, Asks, Answer, judged_ask, turn}
 use Rattle.dns_flow.proofs.Led.{IsGot}
-use Rattle.dns_validation.specs.Received.{received_value, heard_from, Message}
 use Rattle.dns_validation.specs.Requests.{request_for}
 use Rattle.dns_validation.specs.Steps.{judged_step, given_sets, judged_answer}
-use Rattle.dns_validation.specs.Machine.{Terms, SoFar, OpenValue, SeekingValue, MadeValue, StateValue, limit_of, entries_left, made_by, with_set, set_ended, answered, step_of, none_open, step_ended, findings, asked_by, nothing_got, refusal, turned, turn_in, tick, limits_of}
-use Rattle.dns_validation.specs.Runs.{Sent, request_in, is_none, moves}
-use Rattle.dns_validation.specs.Comes.{IsFirst, IsStepOf, FoundBy, Comes, Judges, top_context}
+use Rattle.dns_validation.specs.Machine.{Terms, SoFar, OpenValue, SeekingValue, MadeValue, StateValue, limit_of, entries_left, made_by, with_set, set_ended, answered, step_of, none_open, step_ended, findings, asked_by, nothing_got, refusal, turned, tick, limits_of}
+use Rattle.dns_validation.specs.Runs.{Sent, is_none, moves}
+use Rattle.dns_validation.specs.Comes.{IsStepOf, FoundBy, Judges}
 use Rattle.dns_validation.proofs.Parts.{Part, step_more}
 use Rattle.dns_validation.proofs.StepLines.{judged_step_holds}
 use Rattle.dns_validation.proofs.GotLemmas.{context_at, step_answers, refused, allowed}
 use Rattle.dns_validation.proofs.Judgings.{Judging, Next, asks_so_far, set_next, asks_of_set, step_judging, StepDone}
 use Rattle.dns_validation.proofs.MadeLemmas.{AreMade, made_more}
 use Rattle.dns_validation.proofs.Replies.{heard_message}
-use Rattle.dns_validation.proofs.Stands.{Awaited, Awaits, IsHeard, IsOnTop, Open, Ground, Above, Stand, Waits, Seeks, Moves, Done, Stands, at_rest, on_top_with, stand_next, open_answered}
+use Rattle.dns_validation.proofs.Stands.{IsHeard, IsOnTop, Open, Ground, Above, Stand, Waits, Seeks, Moves, Done, Stands, at_rest, on_top_with, stand_next, open_answered}
 
 -- so many sends are allowed
 open_few : (t : Terms) (cached : List EntryValue) (f : OpenValue) (outer : List OpenValue) (closed : List AskedValue)

@@ -24,7 +24,7 @@ use Rattle.dns_flow.specs.declared.phases.Seeker.{Seeker}
 use Rattle.dns_flow.specs.declared.phases.Seeker.TheVariants.{Set, Ending}
 use Rattle.dns_flow.specs.Leads.{entry_of}
 use Rattle.dns_flow.specs.Phases.{PhaseValue, Marked, NeedsDs, Trying, AtName, AtZone, Concluded, NeedValue, SetEnds, StepEnds, Asks, GotValue, Answer, found, search_at, first_signatures, unasked, try_from, after_signature, signature_need, start_by, start_ending, turn, after}
-use Rattle.dns_validation.specs.Machine.{Terms, SoFar, OpenValue, SeekingValue, MadeValue, StateValue, limit_of, limits_of, first_left, next_in, with_set, answered, give, none_open, step_ended, nothing_got, refusal, asked_by, turned, tick}
+use Rattle.dns_validation.specs.Machine.{Terms, OpenValue, SeekingValue, MadeValue, StateValue, limit_of, limits_of, first_left, next_in, with_set, answered, give, none_open, step_ended, nothing_got, refusal, asked_by, turned, tick}
 use Rattle.dns_validation.specs.Steps.{given_sets}
 use Rattle.dns_validation.specs.Runs.{is_none, moves}
 

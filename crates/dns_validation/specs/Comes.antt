@@ -1,5 +1,5 @@
 -- What a run of a validation comes to: an answer by a trail of exactly its sends, or an error of the first reply (RFC 4035, 4.3 and 5).
-use Rattle.std.specs.Prelude.{ℕ, ◌≡◌, ◌≤◌, Bool, true, false, List, [], ◌∷◌, ◌++◌, Option, None, Some, Err}
+use Rattle.std.specs.Prelude.{ℕ, ◌≡◌, ◌≤◌, Bool, true, false, List, [], ◌∷◌, ◌++◌, None, Some, Err}
 use Rattle.std.specs.List.{AllByRecursion}
 use Rattle.dns_model.specs.Records.{Rr, MessageValue}
 use Rattle.dns_model.specs.SoundAnswers.{PlacedSet, told_by}

@@ -1,6 +1,6 @@
 -- What a validation gives out last to be kept: what its last step found of the last of its sets of which it found anything (RFC 4035,
 -- 4.5 and 4.7).
-use Rattle.std.specs.Prelude.{ℕ, ◌≡◌, Bool, true, not, ◌&&◌, ◌||◌, is_some, List, [], ◌∷◌, ◌++◌, Option, Some, slice_get, reverse}
+use Rattle.std.specs.Prelude.{◌≡◌, Bool, true, not, ◌&&◌, ◌||◌, is_some, List, [], ◌∷◌, ◌++◌, Option, Some, slice_get, reverse}
 use Rattle.std.specs.List.{list_any, filter, zip}
 use Rattle.dns_model.specs.Records.{Question}
 use Rattle.dns_model.specs.SoundAnswers.{PlacedSet, is_secure, told_by}

@@ -1,6 +1,6 @@
 -- The machine of a validation: the steps that are open, one on top of another, and those that have ended; one turn and one reply at
 -- a time (RFC 4035, 4.3 and 5).
-use Rattle.std.specs.Prelude.{ℕ, ◌+◌, Bool, true, false, not, ◌&&◌, nat_eq, nat_lt, nat_le, ◌==◌, List, [], ◌∷◌, ◌++◌, map, reverse, length, drop, Option, None, Some, Ok, Err, if◌then◌else◌}
+use Rattle.std.specs.Prelude.{ℕ, ◌+◌, Bool, true, false, not, ◌&&◌, nat_eq, nat_lt, nat_le, List, [], ◌∷◌, ◌++◌, map, reverse, length, drop, Option, None, Some, Ok, Err, if◌then◌else◌}
 use Rattle.std.specs.Option.{option_map, option_eq}
 use Rattle.std.specs.List.{filter_map, zip}
 use Rattle.dns_model.specs.declared.proof.Proof.{Proof}
@@ -34,7 +34,6 @@ use Rattle.dns_flow.specs.Causes.{cause_after, found_of, is_net, start_cause}
 use Rattle.dns_flow.specs.Leads.{entry_of}
 use Rattle.dns_flow.specs.Phases.{PhaseValue, NeedValue, SetEnds, StepEnds, Asks, GotValue, Answer, Probe, judged_ask, start_set, start_ending, turn, after}
 use Rattle.dns_validation.specs.Received.{ReceivedValue, Message, Failed as Unheard, received_value}
-use Rattle.dns_validation.specs.Requests.{request_for}
 use Rattle.dns_validation.specs.Steps.{judged_step, plain_step, foreign_ending, given_sets, Findings, judged_answer}
 
 -- ---- what a validation is

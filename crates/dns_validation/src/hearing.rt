@@ -1,11 +1,11 @@
 //! What a validation does with a reply.
 
-ghost use Rattle.std.specs.Prelude.{◌≡◌, ◌+◌, ◌∷◌, [], true, false, Some, None, List, IfOk, OnOk};
+ghost use Rattle.std.specs.Prelude.{◌≡◌, ◌+◌, ◌∷◌, [], true, false, Some, None, List, Err, IfOk, OnOk};
 ghost use Rattle.dns_model.specs.SoundAnswers.{told_by};
 ghost use Rattle.dns_model.specs.Trails.{Records, Seen};
 ghost use Rattle.dns_rules.specs.Derivation.{probe_of};
 ghost use Rattle.dns_rules.specs.Outcome.{foreign_record as foreign_in};
-ghost use Rattle.dns_handle.specs.Replies.{reply_of};
+ghost use Rattle.dns_handle.specs.Replies.{error_of, reply_of};
 ghost use Rattle.dns_evidence.specs.Trail.{heard_value, ending_value};
 ghost use Rattle.dns_flow.specs.Phases.{Answer, Probe};
 ghost use Rattle.dns_trust.specs.Judge.{judge_of};
@@ -28,6 +28,7 @@ use dns_name::NoMemory;
 use dns_outcome::foreign_record;
 use dns_record::Query;
 use dns_trust::NsProbe;
+use std::mem;
 
 /// Hears the reply to the ask that waits for it. One that waits for none lets it go.
 pub(crate) fn hear<V: Verifier>(
@@ -39,10 +40,17 @@ pub(crate) fn hear<V: Verifier>(
     ensures kept { OnOk result (is_out_of_memory (reply_of reply) ≡ false) }
 {
     let received = receive(context.alloc, reply)?;
-    let Some(ask) = take_ask(state)? else {
-        return Ok(());
-    };
-    hear_for(context, state, ask, received)
+    match take_ask(state) {
+        Ok(Some(ask)) => hear_for(context, state, ask, received),
+        Ok(None) => {
+            drop(received);
+            Ok(())
+        }
+        Err(NoMemory) => {
+            drop(received);
+            Err(NoMemory)
+        }
+    }
 }
 
 // Takes the ask that waits, and counts its send.
@@ -91,10 +99,33 @@ fn hear_for<V: Verifier>(
     let asker = depth_of(state);
     match (asker, judged) {
         (None, true) => hear_first(context, state, query, received),
-        (None, false) => Ok(()),
-        (Some(depth), true) => hear_judged(context, state, query, deeper(depth)?, received),
+        (None, false) => {
+            drop(query);
+            drop(received);
+            Ok(())
+        }
+        (Some(depth), true) => hear_below(context, state, query, depth, received),
         (Some(depth), false) => hear_plain(context, state, query, depth, received),
     }
+}
+
+// Hears the reply to a judged ask of a step of this depth.
+fn hear_below<V: Verifier>(
+    context: &Context<'_, V>,
+    state: &mut State,
+    query: Query,
+    depth: u16,
+    received: Received,
+) -> Result<(), NoMemory>
+    ensures { OnOk result (state.new ≡ heard_judged (terms_of V.answers context.now) state.old query (depth + 1)
+        (as_received received)) }
+{
+    let Ok(depth) = deeper(depth) else {
+        drop(query);
+        drop(received);
+        return Err(NoMemory);
+    };
+    hear_judged(context, state, query, depth, received)
 }
 
 // How deep the innermost open step is, if there is one.
@@ -118,7 +149,8 @@ fn hear_first<V: Verifier>(
 {
     match received {
         Received::Failed(error) => {
-            state.ended = Some(Err(error));
+            drop(query);
+            end_with(state, error);
             Ok(())
         }
         Received::Message(received) => hear_own(context, state, query, received),
@@ -135,12 +167,21 @@ fn hear_own<V: Verifier>(
     ensures { OnOk result (state.new ≡ heard_own (terms_of V.answers context.now) state.old query
         received.message received.empty (foreign_in query (told_by received.message))) }
 {
-    if let Some(record) = foreign_record(&query, &received.message) {
-        let error = foreign_error(record)?;
-        state.ended = Some(Err(error));
-        return Ok(());
-    }
-    open_step(context, state, query, 0, received)
+    let Some(record) = foreign_record(&query, &received.message) else {
+        return open_step(context, state, query, 0, received);
+    };
+    let failed = foreign_error(record);
+    drop(query);
+    drop(received);
+    end_with(state, failed?);
+    Ok(())
+}
+
+// The first ask ends it with an error.
+fn end_with(state: &mut State, error: NetError)
+    ensures { state.new ≡ record state.old { ended = Some (Err (error_of error)) } }
+{
+    drop(mem::replace(&mut state.ended, Some(Err(error))));
 }
 
 // Hears the reply to a judged ask of a step.

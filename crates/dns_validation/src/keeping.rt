@@ -1,8 +1,9 @@
 //! What was kept and serves a set, and what a step that has ended leaves to be kept (RFC 4035, 4.5, 4.7 and 5.3.3).
 
-ghost use Rattle.std.specs.Prelude.{◌≡◌, None, Some, IfOk, OnOk, length, map};
+ghost use Rattle.std.specs.Prelude.{◌≡◌, ◌∷◌, None, Some, IfOk, OnOk, length, map};
 ghost use Rattle.std.specs.Option.{option_map};
 ghost use Rattle.dns_model.specs.SoundAnswers.{is_secure as is_secure_mark};
+ghost use Rattle.dns_rules.specs.CacheKeys.{key_of as key_in};
 ghost use Rattle.dns_rules.specs.Serving.{links_of as links_in};
 ghost use Rattle.dns_cache.specs.Caches.{HasAccepted};
 ghost use Rattle.dns_cache.specs.declared.acceptance.Acceptance.TheVariants.{Kept};
@@ -10,7 +11,7 @@ ghost use Rattle.dns_evidence.specs.Link.{link_value};
 ghost use Rattle.dns_proof.specs.Kinds.{kind_value};
 ghost use Rattle.dns_trust.specs.Judge.{judge_of};
 ghost use Rattle.dns_flow.specs.Causes.{found_of as found_in, is_net as is_net_in};
-ghost use Rattle.dns_validation.specs.Machine.{chain_of as chain_in, entry_if, entry_if_kept, first_kept, found as found_by, given_out, giving, holds_given as holds_in, is_kept as is_kept_in, keeping, leaving, origin_of as origin_in, served_entry, served_set as served_set_of, serving as serving_of, went_on, with_set};
+ghost use Rattle.dns_validation.specs.Machine.{chain_of as chain_in, entry_if, entry_if_kept, first_kept, found as found_by, given_out, giving, holds_given as holds_in, is_kept as is_kept_in, keeping, leaving, made_by as made_in, origin_of as origin_in, served_entry, served_set as served_set_of, serving as serving_of, went_on, with_set};
 ghost use Rattle.dns_validation.specs.Terms.{terms_of};
 ghost use Rattle.dns_validation.specs.Validations.{AcceptedWhereKept};
 
@@ -39,14 +40,20 @@ pub(crate) fn find<V: Verifier>(
     ensures { OnOk result (state.new ≡ found_by (terms_of V.answers context.now) given state.old) }
 {
     let Some(seeking) = state.seeking.take() else {
+        drop(given);
         return Ok(());
     };
     let Seeking { so_far, placed } = seeking;
-    match serving(context, &placed, given)? {
-        Some(entry) => serve(context, state, so_far, placed, entry),
-        None => {
+    match serving(context, &placed, given) {
+        Ok(Some(entry)) => serve(context, state, so_far, placed, entry),
+        Ok(None) => {
             let step = set_item(context, so_far, placed)?;
             put(state, step)
+        }
+        Err(NoMemory) => {
+            drop(so_far);
+            drop(placed);
+            Err(NoMemory)
         }
     }
 }
@@ -63,10 +70,16 @@ fn serving<V: Verifier>(
     let Some((entry, acceptance)) = given else {
         return Ok(None);
     };
-    if holds_given(context, placed, &entry, acceptance)? {
-        Ok(Some(entry))
-    } else {
-        Ok(None)
+    match holds_given(context, placed, &entry, acceptance) {
+        Ok(true) => Ok(Some(entry)),
+        Ok(false) => {
+            drop(entry);
+            Ok(None)
+        }
+        Err(NoMemory) => {
+            drop(entry);
+            Err(NoMemory)
+        }
     }
 }
 
@@ -142,11 +155,13 @@ fn links_of(alloc: Global, entry: Entry) -> Vec<Link>
     ensures { map link_value result.items ≡ links_in entry.chain }
 {
     let Entry {
-        key: _,
+        key,
         expires: _,
-        result: _,
+        result,
         chain,
     } = entry;
+    drop(key);
+    drop(result);
     match chain {
         Some(chain) => links_in_chain(chain),
         None => Vec::new(alloc),
@@ -237,13 +252,29 @@ fn entry_of<V: Verifier>(
 {
     let found = found_of(context.judge.moment, &set.judged, cause);
     if !is_kept(&found) {
+        drop(found);
         return Ok(None);
     }
-    let key = CacheKey::of(query, &set.judged.set)?;
-    let chain = chain_of(set)?;
+    let Ok((key, chain)) = key_and_chain(query, set) else {
+        drop(found);
+        return Err(NoMemory);
+    };
     let ranges = &context.ranges;
     let expires = ranges.expires(context.judge.moment, &set.judged.set, &found, &chain);
     Ok(Some(Entry::new(key, expires, found, chain)))
+}
+
+// The key of a set in the answer to a query, and its chain.
+fn key_and_chain(query: &Query, set: &ChainedSet) -> Result<(CacheKey, Option<Chain>), NoMemory>
+    ensures key { IfOk result (λ r. r.0 ≡ key_in query.now set.now.judged.set) }
+    ensures chain { IfOk result (λ r. r.1 ≡ chain_in set.now) }
+{
+    let key = CacheKey::of(query, &set.judged.set)?;
+    let Ok(chain) = chain_of(set) else {
+        drop(key);
+        return Err(NoMemory);
+    };
+    Ok((key, chain))
 }
 
 // What is found is kept, but for an ask that failed.
@@ -284,9 +315,20 @@ fn chain_of(set: &ChainedSet) -> Result<Option<Chain>, NoMemory>
 fn give_out(state: &mut State, number: u32, entry: Entry) -> Result<(), NoMemory>
     ensures { OnOk result (state.new ≡ giving number (Some entry) state.old) }
 {
-    let made = made_by(number, &entry)?;
-    state.made.push(made)?;
+    if let Err(NoMemory) = add_made(state, number, &entry) {
+        drop(entry);
+        return Err(NoMemory);
+    }
     state.kept.push_back(entry)?;
+    Ok(())
+}
+
+// An entry is known as made by the step with a number.
+fn add_made(state: &mut State, number: u32, entry: &Entry) -> Result<(), NoMemory>
+    ensures { OnOk result (state.new ≡ record state.old { made = made_in number entry.now ∷ state.old.made }) }
+{
+    let made = made_by(number, entry)?;
+    state.made.push(made)?;
     Ok(())
 }
 

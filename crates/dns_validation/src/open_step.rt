@@ -1,6 +1,6 @@
 //! A step that is open: its sets are judged one after another, and then its ending is found.
 
-ghost use Rattle.std.specs.Prelude.{◌≡◌, IfOk, OnOk, drop};
+ghost use Rattle.std.specs.Prelude.{◌≡◌, ◌∷◌, ◌++◌, [], IfOk, OnOk, drop};
 ghost use Rattle.dns_model.specs.SoundAnswers.{told_by};
 ghost use Rattle.dns_flow.specs.Phases.{after as after_of};
 ghost use Rattle.dns_flow.specs.Values.{got_value, phase_value};
@@ -226,9 +226,23 @@ pub(crate) fn add_set(
 ) -> Result<(), NoMemory>
     ensures { OnOk result (so_far.new ≡ with_set so_far.old set entry (option_map kind_value cause)) }
 {
-    so_far.sets.push(set)?;
-    so_far.entries.push(entry)?;
+    if let Err(NoMemory) = add_last(&mut so_far.sets, set) {
+        drop(entry);
+        drop(cause);
+        return Err(NoMemory);
+    }
+    if let Err(NoMemory) = add_last(&mut so_far.entries, entry) {
+        drop(cause);
+        return Err(NoMemory);
+    }
     so_far.causes.push(cause)?;
+    Ok(())
+}
+
+fn add_last<T: Drop>(list: &mut Vec<T>, last: T) -> Result<(), NoMemory>
+    ensures { OnOk result (list.new.items ≡ list.old.items ++ last ∷ []) }
+{
+    list.push(last)?;
     Ok(())
 }
 
@@ -241,22 +255,51 @@ pub(crate) fn answered<V: Verifier>(
 ) -> Result<OpenStep, NoMemory>
     ensures { IfOk result (λ s. s ≡ answered_by (judge_of V.answers context.now.judge) ask (got_value got) step) }
 {
+    let mut step = step;
+    if let Err(NoMemory) = add_last(&mut step.asked, ask) {
+        drop(step);
+        drop(got);
+        return Err(NoMemory);
+    }
     let OpenStep {
         so_far,
         asked,
         phase,
         cause,
     } = step;
-    let mut asked = asked;
-    asked.push(ask)?;
-    let cause = next_cause(context, &phase, &got, cause)?;
-    let phase = after_answer(context, &so_far, phase, got)?;
+    let Ok((phase, cause)) = after_ask(context, &so_far, phase, cause, got) else {
+        drop(so_far);
+        drop(asked);
+        return Err(NoMemory);
+    };
     Ok(OpenStep {
         so_far,
         asked,
         phase,
         cause,
     })
+}
+
+// The phase and the cause to which an ask leads.
+fn after_ask<V: Verifier>(
+    context: &Context<'_, V>,
+    so_far: &StepSoFar,
+    phase: Phase,
+    cause: Option<ProofErrorKind>,
+    got: Got,
+) -> Result<(Phase, Option<ProofErrorKind>), NoMemory>
+    ensures cause { IfOk result (λ p. option_map kind_value p.1 ≡ option_map (cause_by (judge_of V.answers context.now.judge)
+        (phase_value phase) (got_value got)) (option_map kind_value cause)) }
+    ensures phase { IfOk result (λ p. phase_value p.0 ≡ after_of (judge_of V.answers context.now.judge)
+        so_far.now.query (told_by so_far.now.message) (phase_value phase) (got_value got)) }
+{
+    let Ok(cause) = next_cause(context, &phase, &got, cause) else {
+        drop(phase);
+        drop(got);
+        return Err(NoMemory);
+    };
+    let phase = after_answer(context, so_far, phase, got)?;
+    Ok((phase, cause))
 }
 
 // The cause of a set at work, after what its ask came to.
