@@ -1,12 +1,8 @@
 -- The sets that deny existence: what their records say, and the zone that made them.
-use Rattle.std.proofs.Common.{◌≡◌, ℕ, ◌+◌, ◌<◌, Bool, true, false, not, ◌&&◌, ◌||◌, cond, List, [], ◌∷◌, ◌++◌, length, take, get_or, Option, None, Some, if◌then◌else◌, refl, sym, ap, ◌∙◌}
+use Rattle.std.proofs.Common.{◌≡◌, ℕ, Bool, true, false, not, ◌&&◌, ◌||◌, cond, List, [], ◌∷◌, Option, None, Some, if◌then◌else◌, refl, sym, ap, ◌∙◌}
 use Rattle.std.specs.Option.{option_map, option_and_then}
-use Rattle.std.specs.List.{filter_map, flat_map, list_all, find}
-use Rattle.std.proofs.lemmas.List.{take_more}
-use Rattle.std.proofs.lemmas.List.Elements.{filter-append, filter_map-append}
-use Rattle.std.proofs.lemmas.List.Concat.{flat_map-append}
+use Rattle.std.specs.List.{list_all, find}
 use Rattle.dns_model.specs.Names.{Labels}
-use Rattle.dns_model.specs.Records.{Rr}
 use Rattle.dns_model.proofs.SetLemmas.{name_refl}
 use Rattle.dns_model.proofs.EachLemmas.{find-map}
 use Rattle.dns_rules.specs.MarkedSets.{MarkedSet}

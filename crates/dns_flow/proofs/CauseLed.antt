@@ -1,7 +1,7 @@
 -- For whoever makes the asks: the cause that goes beside a phase is the one to which the asks lead, and at the end
 -- that of the row.
-use Rattle.std.proofs.Common.{◌≡◌, ℕ, ◌+◌, Bool, true, List, [], ◌∷◌, ◌++◌, map, length, Option, None, Some, slice_get, if◌then◌else◌, refl, sym, ap, ◌∙◌}
-use Rattle.std.specs.Option.{option_map, option_and_then}
+use Rattle.std.proofs.Common.{◌≡◌, ℕ, List, [], ◌∷◌, ◌++◌, length, Option, None, Some, slice_get, refl, sym, ap, ◌∙◌}
+use Rattle.std.specs.Option.{option_and_then}
 use Rattle.std.proofs.lemmas.List.{length-map}
 use Rattle.dns_model.specs.declared.trail.AskRef.{AskRef}
 use Rattle.dns_model.specs.Records.{RrSet, Question}
@@ -10,17 +10,16 @@ use Rattle.dns_model.specs.SoundAnswers.{Told, PlacedSet}
 use Rattle.dns_model.specs.Trails.{AskedValue}
 use Rattle.dns_model.proofs.TestLemmas.{if_some}
 use Rattle.dns_rules.specs.Asking.{ask_of}
-use Rattle.dns_rules.specs.ChainedSets.{ChainedSet, bare}
+use Rattle.dns_rules.specs.ChainedSets.{ChainedSet}
 use Rattle.dns_rules.specs.Delegations.{zone_verdict}
 use Rattle.dns_rules.specs.Derivation.{StepContext}
-use Rattle.dns_rules.specs.MarkedSets.{MarkedSet}
 use Rattle.dns_rules.specs.ProofErrors.{ProofErrorKindValue}
 use Rattle.dns_rules.specs.Unsigned.{ns_question}
 use Rattle.dns_rules.proofs.StayLemmas.{later_step_context}
 use Rattle.dns_flow.specs.declared.asks.Ask.{Ask}
 use Rattle.dns_flow.specs.declared.phases.Seeker.TheVariants.{Set, Ending}
-use Rattle.dns_flow.specs.Phases.{GotValue, Answer, Probe, answer_in, probe_in, PhaseValue, Marked, NeedsDs, Trying, AtName, AtZone, Concluded, NeedValue, SetEnds, StepEnds, Asks, first_signatures, start_set, turn, after}
-use Rattle.dns_flow.specs.Leads.{bare_set, bare_verdict, bare_phase, bare_need, bare_got, is_made, got_of, led_on, leads, end_of}
+use Rattle.dns_flow.specs.Phases.{GotValue, Answer, Probe, answer_in, PhaseValue, Marked, NeedsDs, Trying, AtName, AtZone, Concluded, NeedValue, SetEnds, StepEnds, Asks, first_signatures, start_set, turn, after}
+use Rattle.dns_flow.specs.Leads.{bare_verdict, bare_phase, bare_need, bare_got, is_made, got_of, led_on, leads, end_of}
 use Rattle.dns_flow.specs.Causes.{start_cause, keys_cause, unsigned_cause, after_try, after_seen, cause_after}
 use Rattle.dns_flow.specs.CauseRows.{cause_row, caused_on, caused}
 use Rattle.dns_flow.proofs.Bare.{answer_bare, probe_bare, turn_bare}

@@ -17,21 +17,20 @@ use Rattle.dns_model.specs.Trails.{AskedValue, HeardValue, Records, Fault, Endin
 use Rattle.dns_model.proofs.TestLemmas.{if_some}
 use Rattle.dns_rules.specs.Asking.{ask_of}
 use Rattle.dns_rules.specs.ChainedSets.{ChainedSet, ChainedVerdict, bare, chained_verdict, chained_by, chained_keys}
-use Rattle.dns_rules.specs.Delegations.{ZoneVerdict, Signed, Insecure, Bogus, is_ds_set_of, is_supported_ds, is_readable_ds, verdict_by_ds, shows_no_ds, shows_no_ds_by_hash, is_insecure_above, verdict_without_ds, zone_verdict, ds_question}
+use Rattle.dns_rules.specs.Delegations.{Signed, Insecure, Bogus, is_ds_set_of, is_supported_ds, is_readable_ds, verdict_by_ds, shows_no_ds, shows_no_ds_by_hash, is_insecure_above, verdict_without_ds, zone_verdict, ds_question}
 use Rattle.dns_rules.specs.Derivation.{StepContext, finished_answer, if_answered, judged_sets, is_ask, is_plain_ask, probe_of, probe_by}
 use Rattle.dns_rules.specs.KeySets.{needs_ds}
 use Rattle.dns_rules.specs.MarkedSets.{MarkedSet}
 use Rattle.dns_rules.specs.Marks.{is_proved, is_skipped}
 use Rattle.dns_rules.specs.Probes.{NsProbe}
 use Rattle.dns_rules.specs.Probes as probes
-use Rattle.dns_rules.specs.ProofErrors.{ProofErrorKindValue, RrsigsNotPresent, Net, RrsigsUnverified, DnskeyNotFound, DsRecordShouldExist, DsResponseInsecure, UnknownKeyAlgorithm, DsRecordsButNoDnskey}
+use Rattle.dns_rules.specs.ProofErrors.{ProofErrorKindValue, RrsigsNotPresent, DnskeyNotFound, DsRecordShouldExist, DsResponseInsecure, UnknownKeyAlgorithm, DsRecordsButNoDnskey}
 use Rattle.dns_rules.specs.Unsigned.{ns_question, set_start, needs_zone, has_ns}
 use Rattle.dns_flow.specs.declared.asks.Ask.{Ask}
-use Rattle.dns_flow.specs.declared.phases.Seeker.{Seeker}
 use Rattle.dns_flow.specs.declared.phases.Seeker.TheVariants.{Set, Ending}
-use Rattle.dns_flow.specs.Phases.{judged_ask, plain_ask, GotValue, Answer, Probe, PhaseValue, Marked, NeedsDs, Trying, AtName, AtZone, Concluded, NeedValue, SetEnds, StepEnds, Asks, first_signatures, unasked, found, search_at, after_probe, try_from, after_verdict, after_signature, signature_need, start_keys, start_set, turn, after}
+use Rattle.dns_flow.specs.Phases.{judged_ask, plain_ask, PhaseValue, Marked, NeedsDs, Trying, AtName, AtZone, Concluded, NeedValue, SetEnds, StepEnds, Asks, first_signatures, unasked, found, search_at, after_probe, try_from, after_signature, signature_need, start_keys, start_set, turn, after}
 use Rattle.dns_flow.specs.Leads.{chainless, bare_phase, is_made, got_of, led_on, leads}
-use Rattle.dns_flow.specs.Causes.{start_cause, zone_cause, keys_cause, unsigned_cause, is_net, tried_cause, after_try, after_seen, cause_after}
+use Rattle.dns_flow.specs.Causes.{start_cause, zone_cause, is_net, tried_cause, after_try, after_seen, cause_after}
 use Rattle.dns_flow.specs.CauseRows.{is_answered, is_fault, step_failed, ask_failed, caused_on, caused}
 use Rattle.dns_flow.proofs.CauseLed.{CauseLed}
 use Rattle.dns_flow.proofs.Led.{Led}

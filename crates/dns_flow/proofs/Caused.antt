@@ -1,5 +1,5 @@
 -- The cause to which asks lead a set is that of the row of its mark.
-use Rattle.std.proofs.Common.{◌≡◌, ℕ, ◌+◌, ◌==◌, Bool, true, false, not, ◌&&◌, cond, List, [], ◌∷◌, ◌++◌, map, length, drop, Option, None, Some, is_some, slice_get, if◌then◌else◌, refl, sym, ap, ◌∙◌, subst}
+use Rattle.std.proofs.Common.{◌≡◌, ℕ, ◌+◌, ◌==◌, Bool, true, false, not, cond, List, [], ◌∷◌, ◌++◌, map, length, drop, Option, None, Some, is_some, slice_get, if◌then◌else◌, refl, sym, ap, ◌∙◌}
 use Rattle.std.specs.Option.{option_map, option_map_or, option_and_then}
 use Rattle.std.specs.List.{filter, find, zip}
 use Rattle.std.proofs.lemmas.List.{length-map}
@@ -11,9 +11,9 @@ use Rattle.dns_model.specs.Records.{Rr, RrSet, Question}
 use Rattle.dns_model.specs.SoundAnswers.{Told, PlacedSet}
 use Rattle.dns_model.proofs.TestLemmas.{if_some}
 use Rattle.dns_rules.specs.Asking.{ask_of}
-use Rattle.dns_rules.specs.ChainedSets.{ChainedSet, ChainedVerdict, bare, bare_verdicts, chained_verdict, chained_by, chained_keys}
-use Rattle.dns_rules.specs.Delegations.{ZoneVerdict, Bogus, ds_question, zone_verdict}
-use Rattle.dns_rules.specs.Derivation.{StepContext, finished_answer, is_ask, is_plain_ask, probe_by, zone_asked, search_after, search_by}
+use Rattle.dns_rules.specs.ChainedSets.{ChainedVerdict, bare, chained_verdict, chained_by, chained_keys}
+use Rattle.dns_rules.specs.Delegations.{ZoneVerdict, ds_question, zone_verdict}
+use Rattle.dns_rules.specs.Derivation.{StepContext, finished_answer, is_ask, probe_by, zone_asked, search_after, search_by}
 use Rattle.dns_rules.specs.KeySets.{needs_ds}
 use Rattle.dns_rules.specs.MarkedSets.{MarkedSet}
 use Rattle.dns_rules.specs.Marks.{is_proved, is_skipped}
@@ -24,13 +24,13 @@ use Rattle.dns_rules.specs.Unsigned.{ns_question, set_start, needs_zone, unsigne
 use Rattle.dns_trust.specs.Beside.{chained_beside}
 use Rattle.dns_flow.specs.declared.asks.Ask.{Ask}
 use Rattle.dns_flow.specs.declared.phases.Seeker.TheVariants.{Set}
-use Rattle.dns_flow.specs.Phases.{judged_ask, plain_ask, PhaseValue, Marked, NeedsDs, Trying, AtName, AtZone, NeedValue, SetEnds, StepEnds, Asks, first_signatures, unasked, unsigned_with, found, search_at, after_probe, try_from, after_signature, start_keys, start_set, turn, after}
+use Rattle.dns_flow.specs.Phases.{judged_ask, plain_ask, PhaseValue, Marked, NeedsDs, Trying, AtName, AtZone, NeedValue, SetEnds, Asks, first_signatures, unasked, unsigned_with, search_at, after_probe, try_from, after_signature, start_keys, start_set, turn, after}
 use Rattle.dns_flow.specs.Leads.{chainless, bare_phase, bare_set, bare_verdict, is_made, got_of}
 use Rattle.dns_flow.specs.Causes.{start_cause, keys_cause, unsigned_cause, is_net, tried_cause, after_try, after_seen, cause_after}
 use Rattle.dns_flow.specs.CauseRows.{keys_row, unsigned_row, asked_for, is_unanswered, first_failed, tried_row, cause_row, caused_on, caused}
 use Rattle.dns_flow.proofs.Bare.{trail_bare}
 use Rattle.dns_flow.proofs.Ends.{led, last_if, unasked_end, asked, marked}
-use Rattle.dns_flow.proofs.Tries.{is_next, next_drop, is_asking, next_need, tried_end, IsAsking}
+use Rattle.dns_flow.proofs.Tries.{is_next, next_drop, is_asking, next_need, IsAsking}
 
 -- ---- one step
 

@@ -10,7 +10,7 @@ use Rattle.dns_model.specs.Records.{Rr}
 use Rattle.dns_model.specs.Keys.{VerifierAnswers}
 use Rattle.dns_model.specs.SoundAnswers.{ChainValue, is_secure}
 use Rattle.dns_rules.specs.CacheEntries.{Found, mark_of, sig_of, is_backed}
-use Rattle.dns_rules.specs.Delegations.{ZoneVerdict, Signed, Insecure, Bogus, is_ds_set_of, is_supported_ds, is_readable_ds, verdict_by_ds, shows_no_ds, shows_no_ds_by_hash, is_insecure_above, verdict_without_ds, zone_verdict}
+use Rattle.dns_rules.specs.Delegations.{Signed, Insecure, Bogus, is_ds_set_of, is_supported_ds, is_readable_ds, verdict_by_ds, shows_no_ds, shows_no_ds_by_hash, is_insecure_above, verdict_without_ds, zone_verdict}
 use Rattle.dns_rules.specs.MarkedSets.{MarkedSet, decider}
 use Rattle.dns_rules.specs.ProofErrors.{ProofErrorKindValue, DsRecordShouldExist, DsResponseInsecure, UnknownKeyAlgorithm}
 use Rattle.dns_proof.specs.Kinds.{because}

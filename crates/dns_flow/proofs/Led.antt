@@ -15,7 +15,7 @@ use Rattle.dns_rules.specs.Derivation.{StepContext, is_ask, is_plain_ask, finish
 use Rattle.dns_rules.specs.DerivationParts.{with_entry}
 use Rattle.dns_rules.specs.KeySets.{needs_ds}
 use Rattle.dns_rules.specs.MarkedSets.{MarkedSet, placed_of}
-use Rattle.dns_rules.specs.Outcome.{Outcome, Given, NeedsZone, Denied, outcome_of, outcome_by_zone}
+use Rattle.dns_rules.specs.Outcome.{Outcome, Given, NeedsZone, Denied, outcome_of}
 use Rattle.dns_rules.specs.Probes.{NsProbe}
 use Rattle.dns_rules.specs.Unsigned.{set_start, question_start, needs_zone}
 use Rattle.dns_rules.proofs.ChainedLemmas.{IsGoodAnswer, placed_of-judged_keys, placed_of-judged_by}

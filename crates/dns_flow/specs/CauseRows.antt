@@ -1,5 +1,5 @@
 -- Why a set isn't Secure, by the asks that a trail names for it, as the rows of its mark say (RFC 4035, 4.3, 5.2 and 5.3).
-use Rattle.std.specs.Prelude.{Bool, true, false, not, ◌==◌, List, [], ◌∷◌, Option, None, Some, is_some, slice_get, if◌then◌else◌}
+use Rattle.std.specs.Prelude.{Bool, true, false, not, ◌==◌, List, [], ◌∷◌, Option, Some, is_some, slice_get, if◌then◌else◌}
 use Rattle.std.specs.Option.{option_map, option_map_or, option_and_then}
 use Rattle.std.specs.List.{filter, find, zip}
 use Rattle.dns_model.specs.declared.trail.AskRef.{AskRef}

@@ -1,5 +1,5 @@
 -- What carries messages to a server and back (RFC 1035, 4.2).
-use Rattle.std.specs.Prelude.{ℕ, Bool, true, false, not, List, codes}
+use Rattle.std.specs.Prelude.{ℕ, Bool, true, false, List, codes}
 use Rattle.dns_handle.specs.declared.protocol.Protocol.{Protocol}
 use Rattle.dns_handle.specs.declared.protocol.Protocol.TheVariants.{Udp, Tcp}
 

@@ -1,5 +1,5 @@
 -- What becomes of a response: records, that there are none, or a failure (RFC 1035, 4.1.1; RFC 2308, 2 and 5; RFC 6895, 2.3).
-use Rattle.std.specs.Prelude.{ℕ, Bool, true, false, not, ◌==◌, ◌&&◌, ◌||◌, nat_le, min, List, [], ◌∷◌, ◌++◌, map, Option, None, Some, is_some, unwrap_or, Result, Ok, Err, if◌then◌else◌}
+use Rattle.std.specs.Prelude.{ℕ, Bool, not, ◌==◌, ◌&&◌, ◌||◌, nat_le, min, List, [], ◌++◌, map, Option, is_some, unwrap_or, Result, Ok, Err, if◌then◌else◌}
 use Rattle.std.specs.List.{list_any, filter, find}
 use Rattle.std.specs.Option.{option_map, option_and_then, option_map_or}
 use Rattle.dns_model.specs.Names.{Labels, name_eq, at_or_above}

@@ -11,7 +11,7 @@ use Rattle.dns_model.specs.Owned.{OwnedNsec3}
 use Rattle.dns_model.proofs.NameLemmas.{name_eq-Decides}
 use Rattle.dns_rules.specs.ListedTypes.{ends_zone}
 use Rattle.dns_rules.specs.Nsec3Covering.{matches, covering}
-use Rattle.dns_rules.specs.Nsec3Verdict.{Parameters, parameters_of, hashed, or_further, nearest_match, unless_ended, provable_encloser, next_closer, covering_name, is_of_zone, is_covered_opt_out, may_be_unsigned, is_unsigned_at, is_unsigned_by, is_unsigned_in, shows_insecure_delegation}
+use Rattle.dns_rules.specs.Nsec3Verdict.{Parameters, parameters_of, hashed, or_further, nearest_match, unless_ended, provable_encloser, covering_name, is_of_zone, is_covered_opt_out, may_be_unsigned, is_unsigned_at, is_unsigned_by, is_unsigned_in, shows_insecure_delegation}
 
 -- ---- names whose lower-cased labels are the same
 

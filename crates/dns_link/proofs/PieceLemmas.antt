@@ -1,11 +1,11 @@
 -- Pieces in which bytes are read.
-use Rattle.std.proofs.Common.{◌≡◌, ◌≢◌, ℕ, zero, suc, ◌+◌, ◌-◌, ◌<◌, ◌==◌, true, false, List, [], ◌∷◌, ◌++◌, All, length, take, drop, map, get_or, refl, sym, ap, ◌∙◌, arith, append-nil}
+use Rattle.std.proofs.Common.{◌≡◌, ℕ, suc, ◌+◌, ◌-◌, ◌<◌, ◌==◌, true, false, List, [], ◌∷◌, ◌++◌, All, length, take, drop, map, refl, sym, ap, ◌∙◌, arith, append-nil}
 use Rattle.std.specs.List.{concat, sum}
 use Rattle.std.proofs.Math.Seq.{take-add}
 use Rattle.std.proofs.lemmas.List.{drop-drop, length-append}
 use Rattle.std.proofs.lemmas.List.Folds.{concat-append}
 use Rattle.std.proofs.lemmas.List.Sums.{sum_by-cons}
-use Rattle.dns_link.specs.Pairs.{PiecesValue, first_or_none, read_of_piece}
+use Rattle.dns_link.specs.Pairs.{first_or_none, read_of_piece}
 
 -- lists in a row, with one more behind them
 pub concat-push : (xs : List (List ℕ)) (x : List ℕ) → concat (xs ++ x ∷ []) ≡ concat xs ++ x

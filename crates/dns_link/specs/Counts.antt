@@ -1,5 +1,5 @@
 -- What is counted of links, sockets and dialers: by these counts a layer above says what an answer came from.
-use Rattle.std.specs.Prelude.{ℕ, zero, suc, ◌+◌, ◌-◌, ◌^◌, ◌==◌, min, nat_lt, if◌then◌else◌, Result, Ok, Err, Option, None, Some}
+use Rattle.std.specs.Prelude.{ℕ, ◌+◌, ◌-◌, ◌^◌, ◌==◌, min, nat_lt, if◌then◌else◌, Result, Ok, Err, Option, None, Some}
 use Rattle.dns_model.specs.Counts.{one_more}
 use Rattle.dns_handle.specs.declared.io_kind.IoKind.{IoKind}
 

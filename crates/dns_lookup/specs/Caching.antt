@@ -1,5 +1,5 @@
 -- What a lookup takes of a cache and leaves in it (RFC 4035, 4.5, 4.7 and 5.3.3).
-use Rattle.std.specs.Prelude.{ℕ, ◌≡◌, ◌≢◌, ◌⊎◌, Bool, true, false, List, [], ◌++◌, Option, None, Some, slice_get, if◌then◌else◌}
+use Rattle.std.specs.Prelude.{ℕ, ◌≡◌, ◌≢◌, ◌⊎◌, Bool, true, false, List, [], ◌++◌, Option, None, Some, slice_get}
 use Rattle.std.specs.List.{AllByRecursion, list_any, count_by, sum_by}
 use Rattle.std.specs.Option.{option_map_or}
 use Rattle.dns_model.specs.declared.trail.MarkOrigin.{MarkOrigin}

@@ -1,5 +1,5 @@
 -- Names that were spelled already: what is read at a place is read there behind other bytes too, where it has room.
-use Rattle.std.proofs.Common.{◌≡◌, ℕ, zero, suc, ◌+◌, ◌-◌, ◌≤◌, ◌<◌, Bool, true, ◌&&◌, List, [], ◌∷◌, ◌++◌, length, take, drop, Option, None, Some, Result, Ok, Err, refl, sym, ap, ◌∙◌, subst, arith, length-append, length-drop, append_assoc, get_or, replicate, inl, inr}
+use Rattle.std.proofs.Common.{◌≡◌, ℕ, zero, suc, ◌+◌, ◌-◌, ◌≤◌, ◌<◌, true, List, [], ◌∷◌, ◌++◌, length, take, drop, Option, None, Some, Result, Ok, Err, refl, sym, ap, ◌∙◌, subst, arith, length-append, length-drop, append_assoc, get_or, replicate, inl, inr}
 use Rattle.std.specs.Prelude.{nat_le, slice_index, slice_index_or, slice_range, slice_set}
 use Rattle.std.specs.List.{All, list_all}
 use Rattle.std.proofs.lemmas.Bool.Decides.{nat_tests}
@@ -9,7 +9,7 @@ use Rattle.std.proofs.lemmas.List.Folds.{list_all-append}
 use Rattle.std.proofs.Math.Seq.{drop-append_seam, take-length}
 use Rattle.std.proofs.lemmas.Grind.{get_or-set_at}
 use Rattle.std.proofs.lemmas.List.{drop-append-le, take-append-le, drop-drop, drop-take, get_or-replicate, get_or-set_other, length-set, length-replicate}
-use Rattle.dns_model.specs.Names.{Label, Labels, wire, is_label, is_name}
+use Rattle.dns_model.specs.Names.{Label, Labels, wire, is_label}
 use Rattle.dns_message.specs.declared.decode_error.DecodeError.{DecodeError}
 use Rattle.dns_message.specs.declared.known_names.Passed.{Passed}
 use Rattle.dns_message.specs.declared.step.Step.{Step}
@@ -18,7 +18,7 @@ use Rattle.dns_message.specs.NameAt.{step_of, after_step, labels_from, labels_at
 use Rattle.dns_message.specs.Readable.{ending_at, steps_left}
 use Rattle.dns_message.specs.KnownNames.{AreKept, HasPassed, IsKept, IsKnown, IsPassed, part_of}
 use Rattle.dns_message.specs.Fitting.{IsSpelled, ending_or}
-use Rattle.dns_message.proofs.NameReading.{Row, Walked, row_wire, with_label, with_labels, finish, label_step, label_at, enough, one_step, row_wire-append, wire-row}
+use Rattle.dns_message.proofs.NameReading.{Row, row_wire, with_label, with_labels, finish, label_step, label_at, enough, one_step, row_wire-append, wire-row}
 
 -- ---- behind other bytes
 

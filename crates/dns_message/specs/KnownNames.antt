@@ -1,5 +1,5 @@
 -- For private functions of this crate only: names of a message that were spelled already (RFC 1035, 4.1.4).
-use Rattle.std.specs.Prelude.{◌≡◌, ℕ, ◌+◌, ◌<◌, ◌≤◌, ◌⊎◌, ◌++◌, ◌∷◌, [], true, List, length, drop, slice_index, slice_range, Result, Ok}
+use Rattle.std.specs.Prelude.{◌≡◌, ℕ, ◌+◌, ◌<◌, ◌≤◌, ◌⊎◌, ◌++◌, ◌∷◌, [], true, List, length, drop, slice_index, slice_range, Ok}
 use Rattle.dns_model.specs.Names.{Labels, wire, is_name}
 use Rattle.dns_message.specs.NameAt.{name_at}
 use Rattle.dns_message.specs.declared.known_names.KnownNames.{KnownNames}

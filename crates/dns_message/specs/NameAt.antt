@@ -1,6 +1,6 @@
 -- Names in a message, where a compression pointer may end a row of labels (RFC 1035, 4.1.4).
 use Rattle.std.specs.Prelude.{ℕ, zero, suc, ◌+◌, ◌-◌, ◌%◌, ◌==◌, ◌&&◌, List, [], ◌∷◌, length, Result, Ok, Err, nat_le, nat_lt, if◌then◌else◌, slice_index, slice_range}
-use Rattle.dns_model.specs.Names.{Label, Labels, wire}
+use Rattle.dns_model.specs.Names.{Labels, wire}
 use Rattle.dns_model.specs.Bytes.{u16_at}
 use Rattle.dns_message.specs.declared.decode_error.DecodeKind.TheVariants.{Short, BadName}
 use Rattle.dns_message.specs.declared.decode_error.DecodeError.{DecodeError}

@@ -1,5 +1,5 @@
 -- For private functions of this crate only: fields of an rdata that stand as they are spelled.
-use Rattle.std.specs.Prelude.{◌≡◌, ℕ, ◌≤◌, List, Option, Some, slice_range}
+use Rattle.std.specs.Prelude.{◌≡◌, ℕ, ◌≤◌, List, Some, slice_range}
 use Rattle.dns_model.specs.Shapes.{Field}
 use Rattle.dns_message.specs.RdataAt.{field_at}
 

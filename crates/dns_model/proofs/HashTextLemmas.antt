@@ -1,20 +1,19 @@
 -- Hashes as text: they are read group by group, each way gives back what the other was given, and the order of the texts is
 -- the order of the hashes (RFC 4648, 6 and 7; RFC 5155, 1.3).
-use Rattle.std.proofs.Common.{◌≡◌, ℕ, suc, ◌+◌, ◌-◌, ◌*◌, ◌/◌, ◌%◌, ◌<◌, ◌≤◌, Bool, true, false, ◌&&◌, cond, List, [], ◌∷◌, ◌++◌, map, length, take, drop, Some, refl, sym, ap, ◌∙◌, arith, Ordering}
-use Rattle.std.specs.Prelude.{nat_lt, nat_le}
+use Rattle.std.proofs.Common.{◌≡◌, ℕ, suc, ◌+◌, ◌*◌, ◌/◌, ◌%◌, ◌<◌, ◌≤◌, true, List, [], ◌∷◌, ◌++◌, map, length, take, drop, refl, sym, ap, ◌∙◌, arith}
+use Rattle.std.specs.Prelude.{nat_lt}
 use Rattle.std.specs.Char.{to_ascii_lowercase}
 use Rattle.std.specs.Cmp.Lexicographic.{slice_cmp}
 use Rattle.std.specs.Int.Digits.{number_from_digits, number_from_digits_after, AllBelowBase}
-use Rattle.std.specs.List.{list_all, AllByRecursion}
+use Rattle.std.specs.List.{list_all}
 use Rattle.std.specs.Ordering.{nat_cmp, ordering_then}
-use Rattle.std.specs.declared.cmp.Ordering.TheVariants.{Less, Equal, Greater}
 use Rattle.std.proofs.lemmas.Bool.{and_parts}
 use Rattle.std.proofs.lemmas.List.{map-append}
 use Rattle.std.proofs.lemmas.List.Folds.{list_all-append}
 use Rattle.std.proofs.lemmas.Bool.Decides.{nat_tests}
 use Rattle.sha1.specs.Sha1.{sha1}
 use Rattle.dns_model.specs.Bytes.{is_bytes}
-use Rattle.dns_model.specs.Nsec3Hash.{iterated_hash, symbol, is_symbol, symbol_bits, groups_of_five, five_bytes, base32hex, base32hex_bytes, is_hash_text}
+use Rattle.dns_model.specs.Nsec3Hash.{iterated_hash, symbol, is_symbol, symbol_bits, groups_of_five, five_bytes, base32hex, base32hex_bytes}
 use Rattle.std.proofs.lemmas.Int.Digits.{number_lt}
 use Rattle.dns_model.proofs.OrderLemmas.{cmp-append, then_assoc, then_Equal}
 

@@ -5,7 +5,7 @@ use Rattle.std.proofs.lemmas.List.{length-drop}
 use Rattle.dns_model.specs.Names.{Labels}
 use Rattle.dns_model.specs.NameForm.{name_in, whole_name}
 use Rattle.dns_model.specs.Shapes.{Octets, DomainName, CharacterString, TypeBitmap, Remainder, Part, Plain, Named, parts_in, shape_of, has_shape, is_bitmap, counted_in}
-use Rattle.dns_model.specs.Views.{rrsig_in, dnskey_in, ds_in, nsec_in, nsec_from, nsec3_in, nsec3_from, nsec3_after_salt, soa_in, soa_numbers, ns_in, SoaValue, RrsigValue, rrsig_of}
+use Rattle.dns_model.specs.Views.{rrsig_in, dnskey_in, ds_in, nsec_in, nsec_from, nsec3_in, nsec3_from, nsec3_after_salt, soa_in, soa_numbers, ns_in, SoaValue, rrsig_of}
 use Rattle.dns_model.proofs.ShapeSteps.{named_front, after_part, with_part, counted_front}
 use Rattle.dns_model.specs.OptionSteps.{◌>>=◌}
 

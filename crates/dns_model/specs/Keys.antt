@@ -1,5 +1,5 @@
 -- Verifiers, trust anchors, and which keys may sign (RFC 4034, 2.1; RFC 4035, 5.2 and 5.3.1; RFC 5011, 2.1).
-use Rattle.std.specs.Prelude.{ℕ, Bool, false, not, ◌==◌, ◌&&◌, List, Option, None, Some}
+use Rattle.std.specs.Prelude.{ℕ, Bool, false, not, ◌==◌, ◌&&◌, List, Option, Some}
 use Rattle.std.specs.List.{list_any}
 use Rattle.std.specs.Cmp.Lexicographic.{pointwise}
 use Rattle.std.specs.Prelude.{nat_eq}

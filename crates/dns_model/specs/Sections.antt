@@ -1,9 +1,9 @@
 -- The RRsets of a section and their signatures (RFC 2181, 5; RFC 4035, 5.3.1).
-use Rattle.std.specs.Prelude.{ℕ, Bool, true, false, not, ◌==◌, ◌&&◌, List, [], ◌∷◌, map, Option, None, Some}
+use Rattle.std.specs.Prelude.{Bool, true, false, not, ◌==◌, ◌&&◌, List, [], ◌∷◌, map}
 use Rattle.std.specs.List.{filter}
 use Rattle.dns_model.specs.Names.{name_eq}
 use Rattle.dns_model.specs.Types.{type_rrsig}
-use Rattle.dns_model.specs.Views.{RrsigValue, rrsig_in}
+use Rattle.dns_model.specs.Views.{rrsig_in}
 use Rattle.dns_model.specs.Records.{Rr, RrSet}
 use Rattle.dns_model.specs.Keys.{bytes_eq}
 use Rattle.std.specs.Option.{option_map_or}

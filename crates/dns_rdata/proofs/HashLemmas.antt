@@ -1,7 +1,6 @@
 -- Hashes and their texts made group by group (RFC 4648, 6).
-use Rattle.std.proofs.Common.{◌≡◌, ℕ, ◌+◌, ◌*◌, ◌<◌, ◌≤◌, List, [], ◌++◌, map, length, take, drop, Result, Ok, Err, sym, ap, ◌∙◌, arith, length-append, true≢false}
-use Rattle.std.specs.Prelude.{IfOk, IsOk, OnOk, ◌&&◌, Bool, true, false, ◌∷◌}
-use Rattle.std.specs.List.{list_all}
+use Rattle.std.proofs.Common.{◌≡◌, ℕ, ◌+◌, ◌*◌, ◌<◌, ◌≤◌, List, ◌++◌, map, length, take, drop, Result, Ok, Err, sym, ap, ◌∙◌, arith, length-append, true≢false}
+use Rattle.std.specs.Prelude.{IfOk, IsOk, OnOk}
 use Rattle.std.specs.Result.{result_unwrap_or}
 use Rattle.std.specs.Int.Digits.{number_from_digits}
 use Rattle.std.proofs.lemmas.List.{append_assoc, append-nil}

@@ -1,9 +1,8 @@
 -- Equal queries: names that differ in case alone, one type and one class.
-use Rattle.std.proofs.Common.{◌≡◌, Bool, true, ◌&&◌, ◌++◌, ◌∷◌, refl, sym, ap, ◌∙◌, IsTrue}
-use Rattle.std.specs.Prelude.{nat_eq, ◌==◌, ◌↔◌}
-use Rattle.std.specs.Cmp.{Equal-is, tied_then}
+use Rattle.std.proofs.Common.{◌≡◌, Bool, ◌&&◌, refl, ap, ◌∙◌, IsTrue}
+use Rattle.std.specs.Prelude.{◌==◌, ◌↔◌}
+use Rattle.std.specs.Cmp.{tied_then}
 use Rattle.std.specs.Ordering.{nat_cmp, is_eq, ordering_then}
-use Rattle.std.specs.declared.cmp.Ordering.TheVariants.{Equal}
 use Rattle.std.proofs.lemmas.Bool.{and_parts}
 use Rattle.std.proofs.lemmas.Bool.Decides.{Decides-eqb}
 use Rattle.dns_model.specs.Names.{folded, name_eq, name_cmp}

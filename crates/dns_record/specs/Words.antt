@@ -3,7 +3,6 @@ use Rattle.std.specs.Prelude.{ℕ, ◌==◌, List, [], ◌∷◌, ◌++◌, code
 use Rattle.std.specs.Fmt.{decimal}
 use Rattle.std.specs.List.{find}
 use Rattle.dns_model.specs.Keys.{bytes_eq}
-use Rattle.dns_model.specs.Names.{Labels}
 use Rattle.dns_model.specs.NameText.{printed}
 use Rattle.dns_model.specs.Records.{Question}
 

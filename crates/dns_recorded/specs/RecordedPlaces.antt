@@ -1,13 +1,10 @@
 -- For private functions of this crate and the invariant of `ReplyList` only: the places at which recorded replies are found.
 use Rattle.std.specs.Prelude.{ℕ, ◌+◌, ◌≡◌, Bool, true, false, not, List, [], ◌∷◌, ◌++◌, drop, Option, None, Some, Err, slice_get, if◌then◌else◌}
 use Rattle.std.specs.List.{filter_map}
-use Rattle.std.specs.declared.cmp.Ordering.{Ordering}
-use Rattle.std.specs.Ordering.{is_eq, nat_cmp, ordering_then}
-use Rattle.std.specs.Cmp.Lexicographic.{slice_cmp}
+use Rattle.std.specs.Ordering.{is_eq}
 use Rattle.std.specs.BTreeMap as tree
 use Rattle.std.specs.BTreeMap.{BTreeMap}
 use Rattle.std.specs.declared.collections.VecDeque.{VecDeque}
-use Rattle.dns_model.specs.Names.{folded, wire}
 use Rattle.dns_model.specs.Records.{Question, question_eq}
 use Rattle.dns_handle.specs.declared.query_key.QueryKey.{QueryKey}
 use Rattle.dns_handle.specs.QueryKeys.{key_of, key_cmp}

@@ -1,12 +1,11 @@
 -- The handle that answers from recorded replies.
-use Rattle.std.specs.Prelude.{ℕ, ◌≡◌, ◌⊎◌, Bool, List, Option, None, Some, Ok, Err, if◌then◌else◌}
+use Rattle.std.specs.Prelude.{ℕ, ◌≡◌, ◌⊎◌, Bool, List, Option, None, Some, Err}
 use Rattle.std.specs.Option.{option_map_or}
 use Rattle.dns_model.specs.Counts.{one_more}
 use Rattle.dns_model.specs.Records.{Question}
 use Rattle.dns_handle.specs.Causes.{faults_after}
 use Rattle.dns_handle.specs.Errors as seen
 use Rattle.dns_handle.specs.Errors.{Reply}
-use Rattle.dns_handle.specs.ErrorKinds.{is_fault}
 use Rattle.dns_handle.specs.Handles.{Replies, reply_to, left_after}
 
 -- the counts, the replies that are left in the order in which they were put in, and whether they are served by turn

@@ -1,13 +1,11 @@
 -- The line of a record tells the record, and the lines of a section its records.
-use Rattle.std.proofs.Common.{◌≡◌, ℕ, true, false, ◌&&◌, List, [], get_or, refl, ap}
+use Rattle.std.proofs.Common.{◌≡◌, true, false, ◌&&◌, List, [], get_or, refl, ap}
 use Rattle.std.specs.Fmt.{decimal}
 use Rattle.std.specs.List.{list_all}
 use Rattle.std.proofs.lemmas.Bool.{and_parts}
 use Rattle.dns_model.specs.Bytes.{is_bytes}
-use Rattle.dns_model.specs.Names.{Labels}
 use Rattle.dns_model.specs.NameText.{printed}
 use Rattle.dns_model.specs.Records.{Rr}
-use Rattle.dns_model.specs.declared.proof.Proof.{Proof}
 use Rattle.dns_model.specs.declared.section.Section.{Section}
 use Rattle.dns_model.proofs.ChainLemmas.{bytes_refl}
 use Rattle.dns_record.specs.Words.{type_word, class_word}

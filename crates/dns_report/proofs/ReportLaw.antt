@@ -1,12 +1,10 @@
 -- The text of a report tells its view.
-use Rattle.std.proofs.Common.{◌≡◌, ℕ, true, false, ◌&&◌, List, [], ◌∷◌, codes, get_or, Option, None, Some, refl, sym, ap, ◌∙◌}
+use Rattle.std.proofs.Common.{◌≡◌, true, false, ◌&&◌, List, [], ◌∷◌, codes, get_or, Option, None, Some, refl, sym, ap, ◌∙◌}
 use Rattle.std.specs.Fmt.{decimal}
 use Rattle.std.specs.List.{list_all}
 use Rattle.std.proofs.lemmas.Bool.{and_parts}
 use Rattle.dns_model.specs.declared.section.Section.{Section}
 use Rattle.dns_model.specs.declared.section.Section.TheVariants.{Answer, Authority, Additional}
-use Rattle.dns_model.specs.declared.denial.Denial.{Denial}
-use Rattle.dns_model.specs.Records.{Rr}
 use Rattle.dns_report.specs.LineWords.{section_word, denial_words}
 use Rattle.dns_report.specs.Fields.{is_u16}
 use Rattle.dns_report.specs.TrailView.{StepView, fitting_trail}

@@ -6,14 +6,11 @@ use Rattle.std.proofs.lemmas.Bool.{and_parts, ltb-true}
 use Rattle.std.proofs.lemmas.Fmt.{decimal_injective}
 use Rattle.std.proofs.lemmas.List.Folds.{list_all-append}
 use Rattle.dns_model.specs.Bytes.{is_bytes}
-use Rattle.dns_model.specs.Names.{Labels}
 use Rattle.dns_model.specs.NameText.{printed}
 use Rattle.dns_model.specs.Keys.{bytes_eq}
-use Rattle.dns_model.specs.declared.proof.Proof.{Proof}
 use Rattle.dns_model.specs.declared.section.Section.{Section}
 use Rattle.dns_model.specs.declared.section.Section.TheVariants.{Answer, Authority, Additional}
 use Rattle.dns_model.specs.declared.trail.AskRef.{AskRef}
-use Rattle.dns_model.specs.declared.trail.MarkOrigin.{MarkOrigin}
 use Rattle.dns_model.specs.Trails.{JudgedSetValue, EndingValue}
 use Rattle.dns_model.proofs.ChainLemmas.{bytes_refl}
 use Rattle.dns_record.specs.Words.{type_word, class_word}

@@ -6,9 +6,9 @@ use Rattle.dns_model.specs.Bytes.{is_bytes}
 use Rattle.dns_model.specs.Names.{Labels}
 use Rattle.dns_model.specs.Records.{Rr}
 use Rattle.dns_model.specs.declared.trail.AskRef.{AskRef}
-use Rattle.dns_model.specs.declared.trail.AskRef.TheVariants.{Step, TooDeep, TooMany}
+use Rattle.dns_model.specs.declared.trail.AskRef.TheVariants.{Step}
 use Rattle.dns_model.specs.declared.trail.MarkOrigin.{MarkOrigin}
-use Rattle.dns_model.specs.declared.trail.MarkOrigin.TheVariants.{Table, Repeat, Cache}
+use Rattle.dns_model.specs.declared.trail.MarkOrigin.TheVariants.{Repeat}
 use Rattle.dns_model.specs.Trails as trails
 use Rattle.dns_model.specs.Trails.{HeardValue, JudgedSetValue, EndingValue, Answered, Denied, Foreign, Failed, Seen, AskedValue}
 use Rattle.dns_report.specs.Fields.{fitting_name, is_u16, is_u32}

@@ -1,6 +1,6 @@
 -- Sends of one call put together: none yet, one more, and the end.
-use Rattle.std.proofs.Common.{ℕ, ◌≡◌, ◌≢◌, ◌∙◌, ◌+◌, ◌-◌, ◌⊎◌, inl, inr, Bool, true, false, List, [], ◌∷◌, refl, sym, ap, arith, if◌then◌else◌, cond}
-use Rattle.std.specs.Prelude.{not, nat_lt, ◌&&◌, Err}
+use Rattle.std.proofs.Common.{ℕ, ◌≡◌, ◌∙◌, ◌+◌, ◌-◌, inl, inr, Bool, true, false, List, [], ◌∷◌, refl, sym, ap, arith, if◌then◌else◌, cond}
+use Rattle.std.specs.Prelude.{not, nat_lt, Err}
 use Rattle.std.proofs.Math.Bool.{and-false}
 use Rattle.std.proofs.lemmas.List.Sums.{sum_by-cons}
 use Rattle.dns_handle.specs.Errors as seen

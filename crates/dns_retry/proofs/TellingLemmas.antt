@@ -1,8 +1,8 @@
 -- What a handle inside tells is told still, unless it serves by turn.
-use Rattle.std.proofs.Common.{◌≡◌, ◌∙◌, ◌⊎◌, inl, inr, Bool, true, false, Option, None, Some, refl, sym, ap, subst, if◌then◌else◌, List}
+use Rattle.std.proofs.Common.{◌≡◌, ◌∙◌, inl, inr, Bool, true, false, Option, None, Some, refl, sym, ap, subst, if◌then◌else◌}
 use Rattle.dns_model.specs.Records.{Question}
 use Rattle.dns_handle.specs.Errors.{Reply}
-use Rattle.dns_handle.specs.Handles.{Replies, left_after, after_turn, IsLeft, ReplyIsTold}
+use Rattle.dns_handle.specs.Handles.{Replies, after_turn, IsLeft, ReplyIsTold}
 use Rattle.dns_retry.specs.Telling.{still_told}
 
 -- the replies that are told still, by whether they are served by turn

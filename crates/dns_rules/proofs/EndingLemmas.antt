@@ -1,7 +1,7 @@
 -- The ending of a judged step: without an excuse where its sets and their signatures decide, and else by the search that it names.
 use Rattle.std.proofs.Common.{◌≡◌, true, Some, refl, ap, ◌∙◌}
 use Rattle.std.proofs.lemmas.Bool.{and_from}
-use Rattle.dns_model.specs.Trails.{AskedValue, Answered, Denied, Failed}
+use Rattle.dns_model.specs.Trails.{AskedValue, Answered, Denied}
 use Rattle.dns_model.specs.SoundAnswers.{Told}
 use Rattle.dns_rules.specs.Delegations.{ZoneVerdict}
 use Rattle.dns_rules.specs.Unsigned.{question_start, is_empty}

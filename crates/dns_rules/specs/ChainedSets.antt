@@ -18,7 +18,7 @@ pub use Rattle.dns_rules.specs.Serving.{names_decider, proves_set}
 use Rattle.dns_rules.specs.Marks.{Verdict, Proved, Insecure, Failed, counted_keys, is_key_set_of, verdict_of, judged_by}
 use Rattle.dns_rules.specs.Delegations.{ZoneVerdict, is_ds_set_of, matching_ds, zone_verdict}
 use Rattle.dns_rules.specs.Unsigned.{unsigned_by}
-use Rattle.dns_rules.specs.KeySets.{SignedKeys, KeysOutcome, SignedByAnchored, WhollyAnchored, NeedsDs, SignedByMatched, WhollyTrusted, Refused, is_anchored_key, keys_outcome, keys_judged}
+use Rattle.dns_rules.specs.KeySets.{SignedKeys, KeysOutcome, SignedByAnchored, WhollyAnchored, SignedByMatched, WhollyTrusted, is_anchored_key, keys_outcome, keys_judged}
 use Rattle.dns_rules.specs.Marking.{marked_message}
 
 -- a judged set, and its chain where it is Secure

@@ -1,14 +1,13 @@
 -- The DS sets of zones, and the keys that they match (RFC 4034, 5; RFC 4035, 5.2; RFC 5155, 8.9).
-use Rattle.std.specs.Prelude.{ℕ, Bool, true, false, not, ◌==◌, ◌&&◌, ◌||◌, List, take, Option, None, Some, is_some, if◌then◌else◌}
+use Rattle.std.specs.Prelude.{ℕ, Bool, true, false, ◌==◌, ◌&&◌, ◌||◌, List, take, Option, None, Some, is_some, if◌then◌else◌}
 use Rattle.std.specs.Option.{option_map_or}
 use Rattle.std.specs.List.{filter, find, list_any}
 use Rattle.dns_model.specs.declared.proof.Proof.{Proof}
 use Rattle.dns_model.specs.declared.proof.Proof.TheVariants as proof
 use Rattle.dns_model.specs.declared.section.Section.TheVariants.{Answer, Authority}
 use Rattle.dns_model.specs.Names.{Labels, name_eq, at_or_above}
-use Rattle.dns_model.specs.Types.{type_ns, type_soa, type_ds, type_nsec}
-use Rattle.dns_model.specs.Shapes.{bitmap_has}
-use Rattle.dns_model.specs.Views.{DsValue, ds_in, NsecValue, nsec_in}
+use Rattle.dns_model.specs.Types.{type_ds, type_nsec}
+use Rattle.dns_model.specs.Views.{DsValue, ds_in, nsec_in}
 use Rattle.dns_model.specs.Records.{Rr, Question}
 use Rattle.dns_model.specs.RecordViews.{dnskey_of}
 use Rattle.dns_model.specs.Signing.{key_tag_of}

@@ -1,11 +1,11 @@
 -- Which NSEC3 records count, and which of them matches or covers a hash (RFC 5155, 1.3, 3.1 and 8.1 to 8.3).
-use Rattle.std.specs.Prelude.{ℕ, Bool, not, ◌==◌, ◌&&◌, ◌||◌, nat_eq, nat_le, List, [], ◌∷◌, length, Option, None, Some, if◌then◌else◌, bit_and}
+use Rattle.std.specs.Prelude.{ℕ, Bool, not, ◌==◌, ◌&&◌, ◌||◌, nat_eq, nat_le, List, [], ◌∷◌, length, Option, if◌then◌else◌}
 use Rattle.std.specs.Cmp.Lexicographic.{pointwise, slice_cmp}
 use Rattle.std.specs.List.{list_all, find, position}
 use Rattle.std.specs.Ordering.{nat_cmp, is_lt}
 use Rattle.dns_model.specs.Bytes.{has_flag}
 use Rattle.dns_model.specs.Names.{Label, Labels}
-use Rattle.dns_model.specs.Nsec3Hash.{nsec3_hash, is_hash_text, base32hex_bytes}
+use Rattle.dns_model.specs.Nsec3Hash.{is_hash_text, base32hex_bytes}
 use Rattle.dns_model.specs.Owned.{OwnedNsec3}
 
 -- ---- a record that counts

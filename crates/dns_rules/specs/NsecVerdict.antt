@@ -1,6 +1,6 @@
 -- What NSEC records prove of a query that a response denies or answers from a wildcard (RFC 4035, 5.3.4 and 5.4; RFC 4592;
 -- RFC 6840, 4).
-use Rattle.std.specs.Prelude.{ℕ, Bool, true, false, not, ◌==◌, ◌&&◌, ◌||◌, List, length, Option, None, Some, if◌then◌else◌}
+use Rattle.std.specs.Prelude.{ℕ, Bool, true, false, not, ◌==◌, ◌&&◌, List, length, Option, None, Some, if◌then◌else◌}
 use Rattle.std.specs.Option.{is_some}
 use Rattle.std.specs.List.{list_any, find}
 use Rattle.dns_model.specs.Names.{Labels, name_eq, at_or_above, strictly_above, common_ancestor, longer, star}

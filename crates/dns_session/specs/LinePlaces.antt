@@ -1,5 +1,5 @@
 -- Texts as lines that end with LF, read from a place on, with the number of the first line that can't stand there.
-use Rattle.std.specs.Prelude.{ℕ, ◌+◌, ◌==◌, Bool, true, false, List, [], ◌∷◌, Option, None, Some, Result, Ok, Err, option_map}
+use Rattle.std.specs.Prelude.{ℕ, ◌+◌, ◌==◌, Bool, true, false, List, [], ◌∷◌, Option, None, Some, Result, option_map}
 use Rattle.std.specs.List.{slice_split}
 use Rattle.dns_model.specs.OptionSteps.{◌>>=◌}
 use Rattle.std.specs.Option.{option_map_or}

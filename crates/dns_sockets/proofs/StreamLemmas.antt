@@ -1,5 +1,5 @@
 -- What a stream sends and receives.
-use Rattle.std.proofs.Common.{◌≡◌, ℕ, List, [], ◌∷◌, drop, take, Option, None, Some, Result, Ok, Err, refl, sym, ap, ◌∙◌, subst, append-nil, slice_get}
+use Rattle.std.proofs.Common.{◌≡◌, ℕ, List, [], ◌∷◌, drop, take, Option, None, Some, Ok, Err, refl, sym, ap, ◌∙◌, subst, append-nil, slice_get}
 use Rattle.std.specs.declared.net.socket_addr.SocketAddr.{SocketAddr}
 use Rattle.dns_handle.specs.declared.io_kind.IoKind.{IoKind}
 use Rattle.dns_handle.specs.Conversions.{outside_failed}

@@ -6,7 +6,7 @@ use Rattle.std.proofs.lemmas.Bool.{and_parts, eqb-true}
 use Rattle.std.proofs.lemmas.List.{map-append, length-map}
 use Rattle.std.proofs.lemmas.Slice.Eq.{bytes_eq-Decides}
 use Rattle.dns_model.specs.Names.{Labels, folded, name_eq, wire}
-use Rattle.dns_model.specs.Keys.{AnchorValue, bytes_eq, is_anchor, AcceptedSignatureValue}
+use Rattle.dns_model.specs.Keys.{AnchorValue, bytes_eq, is_anchor}
 use Rattle.dns_model.proofs.NameLemmas.{name_eq-Decides}
 use Rattle.dns_evidence.specs.Finding.{mixed}
 use Rattle.dns_trust.specs.Anchoring.{anchor_number, number_of_anchor}

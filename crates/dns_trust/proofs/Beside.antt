@@ -1,5 +1,5 @@
 -- A key set that no anchor decides is judged by the DS set of its owner as if anchors were tried once more.
-use Rattle.std.proofs.Common.{◌≡◌, true, List, Option, None, Some, refl, sym, ap, ◌∙◌}
+use Rattle.std.proofs.Common.{◌≡◌, true, List, Option, Some, refl, sym, ap, ◌∙◌}
 use Rattle.std.specs.Prelude.{if◌then◌else◌}
 use Rattle.std.specs.Option.{option_map, option_map_or}
 use Rattle.std.specs.List.{filter, list_all}

@@ -16,7 +16,7 @@ use Rattle.dns_rules.specs.ProofErrors.{DsRecordShouldExist, DsResponseInsecure,
 use Rattle.dns_rules.specs.Delegations.{ZoneVerdict, Signed, Insecure, Bogus, is_ds_set_of, is_supported_ds, is_readable_ds, verdict_by_ds, shows_no_ds, shows_no_ds_by_hash, is_insecure_above, verdict_without_ds, zone_verdict}
 use Rattle.dns_rules.specs.Unsigned.{unsigned_mark}
 use Rattle.dns_rules.specs.KeySets.{keys_outcome}
-use Rattle.dns_rules.specs.ChainedSets.{ChainedSet, bare, ds_chain, keys_chained, chained_keys}
+use Rattle.dns_rules.specs.ChainedSets.{ChainedSet, bare, chained_keys}
 use Rattle.dns_rules.proofs.DsLemmas.{filter-filter}
 use Rattle.dns_trust.specs.Beside.{outcome_beside_ds, outcome_beside, chained_beside}
 use Rattle.dns_trust.specs.Unsigned.{unsupported_mark}

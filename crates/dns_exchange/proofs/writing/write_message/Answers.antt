@@ -3,7 +3,7 @@ use Rattle.dns_mux.specs.Messages.{SerialMessageValue}
 use Rattle.dns_transport.specs.Links.{link_view}
 use Rattle.dns_transport.specs.StreamViews.{link_of, state_of}
 use Rattle.dns_exchange.specs.Reads.{sight}
-use Rattle.dns_exchange.specs.Writes.{HasWritten, message_to}
+use Rattle.dns_exchange.specs.Writes.{HasWritten}
 use Rattle.dns_exchange.proofs.WriteLemmas.{message_on, no_message, put_written, written_none}
 use Rattle.dns_exchange.proofs.writing.write_message.Goals as goal
 

@@ -1,4 +1,4 @@
-use Rattle.std.proofs.Common.{◌≤◌, arith}
+use Rattle.std.proofs.Common.{arith}
 use Rattle.std.specs.Prelude.{slice_range}
 use Rattle.dns_message.proofs.RdataReading.{next_field, fields_more, fields_done}
 use Rattle.dns_message.proofs.RdataStanding.{field_more, all_stand}

@@ -1,4 +1,4 @@
-use Rattle.std.proofs.Common.{◌≡◌, ◌+◌, ◌≤◌, ◌++◌, map, length, sym, ap, ◌∙◌, arith}
+use Rattle.std.proofs.Common.{◌≡◌, ◌+◌, ◌≤◌, ◌++◌, map, length, ap, ◌∙◌, arith}
 use Rattle.std.specs.Int.Digits.{number_from_digits}
 use Rattle.dns_model.specs.Nsec3Hash.{symbol_bits, five_bytes}
 use Rattle.dns_rdata.proofs.HashLemmas.{more_bytes, whole_bytes, unwrapped, held}

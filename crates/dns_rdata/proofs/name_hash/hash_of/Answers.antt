@@ -1,6 +1,5 @@
-use Rattle.std.proofs.Common.{◌≡◌, ℕ, zero, suc, ◌+◌, ◌++◌, List, refl, sym, ap, ◌∙◌}
+use Rattle.std.proofs.Common.{ℕ, ◌++◌, List, sym, ap, ◌∙◌}
 use Rattle.sha1.specs.Sha1.{sha1}
-use Rattle.dns_model.specs.Nsec3Hash.{iterated_hash}
 use Rattle.dns_model.proofs.HashTextLemmas.{hash_first, hash_more}
 use Rattle.dns_rdata.proofs.name_hash.hash_of.Goals as goal
 

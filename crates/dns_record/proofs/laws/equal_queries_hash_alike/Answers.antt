@@ -1,4 +1,4 @@
-use Rattle.std.proofs.Common.{◌≡◌, refl}
+use Rattle.std.proofs.Common.{refl}
 use Rattle.dns_model.proofs.NameLemmas.{name_alike, name_eq-Decides}
 use Rattle.dns_record.proofs.QueryLemmas.{question_eq-parts}
 use Rattle.dns_record.proofs.laws.equal_queries_hash_alike.Goals as goal

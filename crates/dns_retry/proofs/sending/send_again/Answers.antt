@@ -1,4 +1,4 @@
-use Rattle.std.proofs.Common.{◌≡◌, ◌∙◌, refl}
+use Rattle.std.proofs.Common.{◌∙◌, refl}
 use Rattle.dns_retry.proofs.RetryLemmas.{no_try, try_more}
 use Rattle.dns_retry.proofs.sending.send_again.Goals as goal
 

@@ -1,4 +1,4 @@
-use Rattle.std.proofs.Common.{◌≡◌, IfOk, true, false, subst, sym, ◌∙◌}
+use Rattle.std.proofs.Common.{◌≡◌, IfOk, subst, sym, ◌∙◌}
 use Rattle.dns_trust.proofs.ByZone.{mark_shown, mark_hashed}
 use Rattle.dns_trust.proofs.unsigned.mark_without_ds.Goals as goal
 

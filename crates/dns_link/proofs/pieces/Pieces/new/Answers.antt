@@ -1,4 +1,4 @@
-use Rattle.std.proofs.Common.{◌≡◌, ◌+◌, length, map, arith}
+use Rattle.std.proofs.Common.{◌≡◌, length, map, arith}
 use Rattle.std.specs.List.{concat, sum}
 use Rattle.dns_link.proofs.PieceLemmas.{sum_lengths}
 use Rattle.dns_link.proofs.pieces.Pieces.new.Goals as goal

@@ -1,6 +1,5 @@
-use Rattle.std.proofs.Common.{◌≡◌, ◌∙◌, sym}
+use Rattle.std.proofs.Common.{◌∙◌, sym}
 use Rattle.dns_handle.specs.Replies.{reply_of}
-use Rattle.dns_retry.specs.RetryHandles.{inner_of}
 use Rattle.dns_retry.specs.RetrySends.{state_of}
 use Rattle.dns_retry.proofs.PollLemmas.{may_more, may_now}
 use Rattle.dns_retry.proofs.retry_send.RetrySendFuture.poll.Goals as goal
