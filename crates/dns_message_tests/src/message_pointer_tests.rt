@@ -1,37 +1,30 @@
 //! Names with compression pointers: rows of pointers, and each pointer at a place, with what exactly is read (RFC 1035, 4.1.4).
-use crate::message_tests::{Seen, is_seen};
+use crate::message_tests::{Seen, is_seen, push};
 use crate::rows::check_row;
 use dns_message::DecodeKind;
-use std::alloc::{AllocError, Global};
-
-/// 1,000 pointers, each to the one before, the first to the name, and one to the last.
-fn push_pointers(bytes: &mut Vec<u8>) -> Result<(), AllocError> {
-    for i in 0..=1000u16 {
-        let target = if i == 0 { 23 } else { 24 + 2 * i };
-        bytes.extend_from_slice(&(49152 + target % 16384).to_be_bytes())?;
-    }
-    Ok(())
-}
+use std::alloc::Global;
+use std::process::Abort;
 
 /// An opaque rdata with the name `a.` and 1,000 pointers, each to the one before, the first to that name; then a record whose
 /// owner is a pointer to the last.
-fn push_row(bytes: &mut Vec<u8>) -> Result<(), AllocError> {
-    bytes.extend_from_slice(
-        b"\0\0\x80\0\0\0\0\x02\0\0\0\0\0\xff\0\0\x03\0\0\0\0\x07\xd3\x01\x61\0",
-    )?;
-    push_pointers(bytes)?;
-    bytes.extend_from_slice(&[255, 0, 0, 3, 0, 0, 0, 0, 0, 0])
-}
-
-fn row_is_read(alloc: Global) -> bool {
+fn row_is_read(rt: &impl Abort, alloc: Global) -> bool {
     let mut bytes = Vec::new(alloc);
-    let made = push_row(&mut bytes);
-    made.is_ok() && is_seen(alloc, &bytes, &Seen::Owner(b"\x01a\0"))
+    push(
+        rt,
+        &mut bytes,
+        b"\0\0\x80\0\0\0\0\x02\0\0\0\0\0\xff\0\0\x03\0\0\0\0\x07\xd3\x01\x61\0",
+    );
+    for i in 0..=1000u16 {
+        let target = if i == 0 { 23 } else { 24 + 2 * i };
+        push(rt, &mut bytes, &(49152 + target % 16384).to_be_bytes());
+    }
+    push(rt, &mut bytes, &[255, 0, 0, 3, 0, 0, 0, 0, 0, 0]);
+    is_seen(rt, alloc, &bytes, &Seen::Owner(b"\x01a\0"))
 }
 
 #[test]
 fn a_row_of_pointers(rt: HostRuntime) {
-    check_row(&rt, "1,000 pointers", row_is_read(rt.alloc()));
+    check_row(&rt, "1,000 pointers", row_is_read(&rt, rt.alloc()));
 }
 
 /// A message with a pointer at a place, and what it comes to: for each of the first targets a letter, which is a for the first
@@ -105,24 +98,19 @@ fn seen_at(row: &Pointed, target: u16) -> &Seen {
     }
 }
 
-// Writes the row's message with this pointer.
-fn push_pointed(bytes: &mut Vec<u8>, row: &Pointed, target: u16) -> Result<(), AllocError> {
-    bytes.extend_from_slice(row.before)?;
-    bytes.extend_from_slice(&(49_152 | target).to_be_bytes())?;
-    bytes.extend_from_slice(row.after)
-}
-
 // The row's message with this pointer is what the row says.
-fn is_read(alloc: Global, row: &Pointed, target: u16) -> bool {
+fn is_read(rt: &impl Abort, alloc: Global, row: &Pointed, target: u16) -> bool {
     let mut bytes = Vec::new(alloc);
-    let made = push_pointed(&mut bytes, row, target);
-    made.is_ok() && is_seen(alloc, &bytes, seen_at(row, target))
+    push(rt, &mut bytes, row.before);
+    push(rt, &mut bytes, &(49_152 | target).to_be_bytes());
+    push(rt, &mut bytes, row.after);
+    is_seen(rt, alloc, &bytes, seen_at(row, target))
 }
 
 // The first target that comes to something else than the row says.
-fn first_other(alloc: Global, row: &Pointed) -> Option<u16> {
+fn first_other(rt: &impl Abort, alloc: Global, row: &Pointed) -> Option<u16> {
     for target in 0..16_384u16 {
-        if !is_read(alloc, row, target) {
+        if !is_read(rt, alloc, row, target) {
             return Some(target);
         }
     }
@@ -136,7 +124,7 @@ fn all_pointed() -> &'static [Pointed] {
 #[test]
 fn every_pointer_at_a_place_is_read_so(rt: HostRuntime) {
     for row in all_pointed() {
-        let other = first_other(rt.alloc(), row);
+        let other = first_other(&rt, rt.alloc(), row);
         assert!(rt; other.is_none(), "{} to {other:?}", row.name);
     }
 }

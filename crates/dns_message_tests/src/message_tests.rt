@@ -1,9 +1,11 @@
 //! What bytes come to as a message, and the tables of whole messages.
+use crate::parts::is_named;
 use crate::rows::{Row, check_row, check_rows};
 use dns_message::{DecodeError, DecodeKind, EncodeError, Message};
 use dns_model::Proof;
-use dns_record::{DNSClass, Record, RecordType};
+use dns_record::{DNSClass, Rdata, Record, RecordType};
 use std::alloc::Global;
+use std::process::Abort;
 
 /// What a message comes to.
 #[derive(Drop)]
@@ -26,6 +28,11 @@ pub(crate) enum Seen {
     Bits,
 }
 
+/// Writes these bytes too.
+pub(crate) fn push(rt: &impl Abort, all: &mut Vec<u8>, bytes: &[u8]) {
+    all.extend_from_slice(bytes).expect(rt, "memory");
+}
+
 fn is_fault(error: DecodeError, seen: &Seen) -> bool {
     match seen {
         Seen::Fault(kind, offset) => error.kind == *kind && error.offset == *offset,
@@ -33,22 +40,26 @@ fn is_fault(error: DecodeError, seen: &Seen) -> bool {
     }
 }
 
+fn is_rdata(rdata: &Rdata, bytes: &[u8]) -> bool {
+    rdata.as_slice() == bytes
+}
+
 fn last_owner_is(records: &[Record], wire: &[u8]) -> bool {
     match records.last() {
-        Some(record) => record.name.wire() == wire,
+        Some(record) => is_named(&record.name, wire),
         None => false,
     }
 }
 
 fn last_rdata_is(records: &[Record], bytes: &[u8]) -> bool {
     match records.last() {
-        Some(record) => record.rdata.as_slice() == bytes && record.proof == Proof::Indeterminate,
+        Some(record) => is_rdata(&record.rdata, bytes) && record.proof == Proof::Indeterminate,
         None => false,
     }
 }
 
 /// Whether a message is written as these bytes, or isn't written by this error.
-fn is_written_as(message: &Message, bytes: &[u8], error: Option<EncodeError>) -> bool {
+pub(crate) fn is_written_as(message: &Message, bytes: &[u8], error: Option<EncodeError>) -> bool {
     match message.to_vec() {
         Ok(written) => error.is_none() && written.as_slice() == bytes,
         Err(other) => error == Some(other),
@@ -56,21 +67,26 @@ fn is_written_as(message: &Message, bytes: &[u8], error: Option<EncodeError>) ->
 }
 
 /// The same of a message and its copy.
-fn both_are_written_as(message: &Message, bytes: &[u8], error: Option<EncodeError>) -> bool {
-    match message.try_clone() {
-        Ok(copy) => { is_written_as(message, bytes, error) && is_written_as(&copy, bytes, error) }
-        Err(_) => false,
-    }
+fn both_are_written_as(
+    rt: &impl Abort,
+    message: &Message,
+    bytes: &[u8],
+    error: Option<EncodeError>,
+) -> bool {
+    let copy = message.try_clone().expect(rt, "memory");
+    let held = is_written_as(message, bytes, error) && is_written_as(&copy, bytes, error);
+    drop(copy);
+    held
 }
 
 /// An A record of `a.` and an NS record of `a.` whose rdata is `b.a.`.
 fn has_pointers(message: &Message) -> bool {
     match message.answers.as_slice() {
         [a, ns] => {
-            a.name.wire() == [1, 97, 0].as_slice()
-                && ns.name.wire() == [1, 97, 0].as_slice()
-                && a.rdata.as_slice() == [192, 0, 2, 1].as_slice()
-                && ns.rdata.as_slice() == [1, 98, 1, 97, 0].as_slice()
+            is_named(&a.name, b"\x01a\0")
+                && is_named(&ns.name, b"\x01a\0")
+                && is_rdata(&a.rdata, b"\xc0\0\x02\x01")
+                && is_rdata(&ns.rdata, b"\x01b\x01a\0")
                 && a.ttl == 3600
                 && a.dns_class == DNSClass::IN
         }
@@ -105,27 +121,27 @@ fn has_edns(message: &Message) -> bool {
     }
 }
 
-fn shows(message: &Message, bytes: &[u8], seen: &Seen) -> bool {
+fn shows(rt: &impl Abort, message: &Message, bytes: &[u8], seen: &Seen) -> bool {
     match seen {
         Seen::Owner(wire) => last_owner_is(&message.answers, wire),
         Seen::Rdata(bytes) => last_rdata_is(&message.answers, bytes),
         Seen::Fault(_, _) => false,
-        Seen::Written(written) => both_are_written_as(message, written, None),
-        Seen::Same => both_are_written_as(message, bytes, None),
-        Seen::TooLong => both_are_written_as(message, bytes, Some(EncodeError::TooLong)),
+        Seen::Written(written) => both_are_written_as(rt, message, written, None),
+        Seen::Same => both_are_written_as(rt, message, bytes, None),
+        Seen::TooLong => both_are_written_as(rt, message, bytes, Some(EncodeError::TooLong)),
         Seen::Pointers => has_pointers(message),
         Seen::Bits => has_flags(message) && has_edns(message),
     }
 }
 
 /// Whether bytes come to this.
-pub(crate) fn is_seen(alloc: Global, bytes: &[u8], seen: &Seen) -> bool {
+pub(crate) fn is_seen(rt: &impl Abort, alloc: Global, bytes: &[u8], seen: &Seen) -> bool {
     if bytes.len() >= 1_000_000 {
         return false;
     }
     match Message::from_vec(alloc, bytes) {
         Ok(message) => {
-            let held = shows(&message, bytes, seen);
+            let held = shows(rt, &message, bytes, seen);
             drop(message);
             held
         }
@@ -137,8 +153,8 @@ pub(crate) fn is_seen(alloc: Global, bytes: &[u8], seen: &Seen) -> bool {
 struct Read(&'static [u8], Seen);
 
 impl Row for Read {
-    fn holds(&self, alloc: Global) -> bool {
-        is_seen(alloc, self.0, &self.1)
+    fn holds(&self, rt: &impl Abort, alloc: Global) -> bool {
+        is_seen(rt, alloc, self.0, &self.1)
     }
 }
 
@@ -166,18 +182,14 @@ const Z_WRITTEN: &[u8] =
     b"\xab\xcd\xff\xbf\0\0\0\0\0\0\0\x02\0\xff\0\0\x03\0\0\0\0\0\x01\x01\0\0\x29\x04\xd0\x12\x05\x80\x03\0\x02\xaa\xbb";
 
 /// Messages as they are read and written.
+#[rattlefmt::skip]
 const WHOLE: &[(&str, Read)] = &[
     ("names are spelled out", Read(POINTERS, Seen::Pointers)),
     ("bits stand apart", Read(WITH_OPT, Seen::Bits)),
     ("pointers", Read(POINTERS, Seen::Written(POINTERS_WRITTEN))),
     ("no pointers", Read(POINTERS_WRITTEN, Seen::Same)),
-    (
-        "the bit Z",
-        Read(
-            b"\xab\xcd\xff\xff\0\0\0\0\0\0\0\x02\0\0\x29\x04\xd0\x12\x05\x80\x03\0\x02\xaa\xbb\0\xff\0\0\x03\0\0\0\0\0\x01\x01",
-            Seen::Written(Z_WRITTEN),
-        ),
-    ),
+    ("the bit Z",
+        Read(b"\xab\xcd\xff\xff\0\0\0\0\0\0\0\x02\0\0\x29\x04\xd0\x12\x05\x80\x03\0\x02\xaa\xbb\0\xff\0\0\x03\0\0\0\0\0\x01\x01", Seen::Written(Z_WRITTEN))),
     ("no bit Z", Read(Z_WRITTEN, Seen::Same)),
     ("an OPT", Read(WITH_OPT, Seen::Same)),
     ("the longest name", Read(LONGEST_NAME, Seen::Same)),
@@ -203,159 +215,40 @@ fn messages_are_read_and_written(rt: HostRuntime) {
 }
 
 /// Bytes that are no message, the first fault from the left, and its place.
+#[rattlefmt::skip]
 const FAULTS: &[(&str, Read)] = &[
     ("no byte", Read(b"", Seen::Fault(DecodeKind::Short, 0))),
-    (
-        "three bytes",
-        Read(b"\0\0\0", Seen::Fault(DecodeKind::Short, 2)),
-    ),
-    (
-        "eleven bytes",
-        Read(
-            b"\0\0\0\0\0\0\0\0\0\0\0",
-            Seen::Fault(DecodeKind::Short, 10),
-        ),
-    ),
-    (
-        "a byte behind the message",
-        Read(
-            b"\0\0\0\0\0\0\0\0\0\0\0\0\xff",
-            Seen::Fault(DecodeKind::Trailing, 12),
-        ),
-    ),
-    (
-        "an A of three bytes",
-        Read(
-            b"\0\0\x80\0\0\0\0\x01\0\0\0\0\0\0\x01\0\x01\0\0\0\0\0\x03\x01\x02\x03",
-            Seen::Fault(DecodeKind::BadRdata, 23),
-        ),
-    ),
-    (
-        "an A that reaches past the end",
-        Read(
-            b"\0\0\x80\0\0\0\0\x01\0\0\0\0\0\0\x01\0\x01\0\0\0\0\0\x04\x01\x02\x03",
-            Seen::Fault(DecodeKind::Short, 23),
-        ),
-    ),
-    (
-        "a ttl that is cut",
-        Read(
-            b"\0\0\x80\0\0\0\0\x01\0\0\0\0\0\0\x01\0\x01\0\0\0",
-            Seen::Fault(DecodeKind::Short, 17),
-        ),
-    ),
-    (
-        "an OPT among the answers",
-        Read(
-            b"\0\0\x80\0\0\0\0\x01\0\0\0\0\0\0\x29\x04\xd0\0\0\0\0\0\0",
-            Seen::Fault(DecodeKind::BadOpt, 12),
-        ),
-    ),
-    (
-        "an OPT among the answers, cut behind its type",
-        Read(
-            b"\0\0\x80\0\0\0\0\x01\0\0\0\0\0\0\x29",
-            Seen::Fault(DecodeKind::BadOpt, 12),
-        ),
-    ),
-    (
-        "a type that is cut",
-        Read(
-            b"\0\0\x80\0\0\0\0\x01\0\0\0\0\0\0",
-            Seen::Fault(DecodeKind::Short, 13),
-        ),
-    ),
-    (
-        "a second OPT",
-        Read(
-            b"\0\0\0\0\0\0\0\0\0\0\0\x02\0\0\x29\x02\0\0\0\0\0\0\0\0\0\x29\x02\0\0\0\0\0\0\0",
-            Seen::Fault(DecodeKind::BadOpt, 23),
-        ),
-    ),
-    (
-        "an OPT that isn't at the root",
-        Read(
-            b"\0\0\0\0\0\0\0\0\0\0\0\x01\x01\x61\0\0\x29\x02\0\0\0\0\0\0\0",
-            Seen::Fault(DecodeKind::BadOpt, 12),
-        ),
-    ),
-    (
-        "an OPT that is cut",
-        Read(
-            b"\0\0\0\0\0\0\0\0\0\0\0\x01\0\0\x29\x02",
-            Seen::Fault(DecodeKind::Short, 15),
-        ),
-    ),
-    (
-        "a pointer to its own row",
-        Read(
-            b"\0\0\x84\0\0\x01\0\0\0\0\0\0\xc0\x0c\0\x01\0\x01",
-            Seen::Fault(DecodeKind::BadName, 12),
-        ),
-    ),
-    (
-        "a pointer forward",
-        Read(
-            b"\0\0\x84\0\0\x01\0\0\0\0\0\0\xc0\x0d\0\x01\0\x01",
-            Seen::Fault(DecodeKind::BadName, 12),
-        ),
-    ),
-    (
-        "a pointer to the front of the row that it ends",
-        Read(
-            b"\0\0\x84\0\0\x01\0\0\0\0\0\0\x01\x61\xc0\x0c\0\x01\0\x01",
-            Seen::Fault(DecodeKind::BadName, 14),
-        ),
-    ),
-    (
-        "a pointer that is cut",
-        Read(
-            b"\0\0\x84\0\0\x01\0\0\0\0\0\0\x01\x61\xc0",
-            Seen::Fault(DecodeKind::Short, 14),
-        ),
-    ),
-    (
-        "the top bits 01",
-        Read(
-            b"\0\0\x84\0\0\x01\0\0\0\0\0\0\x40\0\0\x01\0\x01",
-            Seen::Fault(DecodeKind::BadName, 12),
-        ),
-    ),
-    (
-        "the top bits 10",
-        Read(
-            b"\0\0\x84\0\0\x01\0\0\0\0\0\0\x01\x61\xbf\0\0\x01\0\x01",
-            Seen::Fault(DecodeKind::BadName, 14),
-        ),
-    ),
-    (
-        "a label that is cut",
-        Read(
-            b"\0\0\x84\0\0\x01\0\0\0\0\0\0\x03\x61\x62",
-            Seen::Fault(DecodeKind::Short, 12),
-        ),
-    ),
-    (
-        "no length byte",
-        Read(
-            b"\0\0\x84\0\0\x01\0\0\0\0\0\0\x01\x61",
-            Seen::Fault(DecodeKind::Short, 14),
-        ),
-    ),
-    (
-        "a pointer to its own row in an rdata",
-        Read(
-            b"\0\0\x80\0\0\0\0\x01\0\0\0\0\0\0\x02\0\x01\0\0\0\0\0\x02\xc0\x17",
-            Seen::Fault(DecodeKind::BadRdata, 23),
-        ),
-    ),
-    (
-        "a name that goes on past the rdata",
-        Read(
-            b"\0\0\x80\0\0\0\0\x02\0\0\0\0\0\0\x02\0\x01\0\0\0\0\0\x01\x01\0",
-            Seen::Fault(DecodeKind::BadRdata, 23),
-        ),
-    ),
+    ("three bytes", Read(b"\0\0\0", Seen::Fault(DecodeKind::Short, 2))),
+    ("eleven bytes", Read(b"\0\0\0\0\0\0\0\0\0\0\0", Seen::Fault(DecodeKind::Short, 10))),
+    ("a byte behind the message", Read(b"\0\0\0\0\0\0\0\0\0\0\0\0\xff", Seen::Fault(DecodeKind::Trailing, 12))),
+    ("an A of three bytes", Read(b"\0\0\x80\0\0\0\0\x01\0\0\0\0\0\0\x01\0\x01\0\0\0\0\0\x03\x01\x02\x03",
+        Seen::Fault(DecodeKind::BadRdata, 23))),
+    ("an A that reaches past the end", Read(b"\0\0\x80\0\0\0\0\x01\0\0\0\0\0\0\x01\0\x01\0\0\0\0\0\x04\x01\x02\x03",
+        Seen::Fault(DecodeKind::Short, 23))),
+    ("a ttl that is cut", Read(b"\0\0\x80\0\0\0\0\x01\0\0\0\0\0\0\x01\0\x01\0\0\0", Seen::Fault(DecodeKind::Short, 17))),
+    ("an OPT among the answers", Read(b"\0\0\x80\0\0\0\0\x01\0\0\0\0\0\0\x29\x04\xd0\0\0\0\0\0\0", Seen::Fault(DecodeKind::BadOpt,
+        12))),
+    ("an OPT among the answers, cut behind its type", Read(b"\0\0\x80\0\0\0\0\x01\0\0\0\0\0\0\x29", Seen::Fault(DecodeKind::BadOpt,
+        12))),
+    ("a type that is cut", Read(b"\0\0\x80\0\0\0\0\x01\0\0\0\0\0\0", Seen::Fault(DecodeKind::Short, 13))),
+    ("a second OPT", Read(b"\0\0\0\0\0\0\0\0\0\0\0\x02\0\0\x29\x02\0\0\0\0\0\0\0\0\0\x29\x02\0\0\0\0\0\0\0",
+        Seen::Fault(DecodeKind::BadOpt, 23))),
+    ("an OPT that isn't at the root", Read(b"\0\0\0\0\0\0\0\0\0\0\0\x01\x01\x61\0\0\x29\x02\0\0\0\0\0\0\0",
+        Seen::Fault(DecodeKind::BadOpt, 12))),
+    ("an OPT that is cut", Read(b"\0\0\0\0\0\0\0\0\0\0\0\x01\0\0\x29\x02", Seen::Fault(DecodeKind::Short, 15))),
+    ("a pointer to its own row", Read(b"\0\0\x84\0\0\x01\0\0\0\0\0\0\xc0\x0c\0\x01\0\x01", Seen::Fault(DecodeKind::BadName, 12))),
+    ("a pointer forward", Read(b"\0\0\x84\0\0\x01\0\0\0\0\0\0\xc0\x0d\0\x01\0\x01", Seen::Fault(DecodeKind::BadName, 12))),
+    ("a pointer to the front of the row that it ends", Read(b"\0\0\x84\0\0\x01\0\0\0\0\0\0\x01\x61\xc0\x0c\0\x01\0\x01",
+        Seen::Fault(DecodeKind::BadName, 14))),
+    ("a pointer that is cut", Read(b"\0\0\x84\0\0\x01\0\0\0\0\0\0\x01\x61\xc0", Seen::Fault(DecodeKind::Short, 14))),
+    ("the top bits 01", Read(b"\0\0\x84\0\0\x01\0\0\0\0\0\0\x40\0\0\x01\0\x01", Seen::Fault(DecodeKind::BadName, 12))),
+    ("the top bits 10", Read(b"\0\0\x84\0\0\x01\0\0\0\0\0\0\x01\x61\xbf\0\0\x01\0\x01", Seen::Fault(DecodeKind::BadName, 14))),
+    ("a label that is cut", Read(b"\0\0\x84\0\0\x01\0\0\0\0\0\0\x03\x61\x62", Seen::Fault(DecodeKind::Short, 12))),
+    ("no length byte", Read(b"\0\0\x84\0\0\x01\0\0\0\0\0\0\x01\x61", Seen::Fault(DecodeKind::Short, 14))),
+    ("a pointer to its own row in an rdata", Read(b"\0\0\x80\0\0\0\0\x01\0\0\0\0\0\0\x02\0\x01\0\0\0\0\0\x02\xc0\x17",
+        Seen::Fault(DecodeKind::BadRdata, 23))),
+    ("a name that goes on past the rdata", Read(b"\0\0\x80\0\0\0\0\x02\0\0\0\0\0\0\x02\0\x01\0\0\0\0\0\x01\x01\0",
+        Seen::Fault(DecodeKind::BadRdata, 23))),
     (
         "a name of 256 bytes",
         Read(

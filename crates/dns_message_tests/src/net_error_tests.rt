@@ -1,12 +1,13 @@
 use crate::net_missing_tests::{denied_by_referral, has_soa};
-use crate::parts::{query, response};
+use crate::parts::{name, query, response, shows};
 use crate::rows::{Row, check_numbered};
-use dns_handle::{DnsError, DnsResponse, IoKind, NetError, NoRecords, Notice, ProtoError};
+use dns_handle::{DnsError, IoKind, NetError, NoRecords, Notice, ProtoError};
 use dns_message::{DecodeError, DecodeKind, Message};
-use dns_model::{NameError, Proof};
-use dns_name::{Name, NoMemory, Text};
+use dns_model::Proof;
+use dns_name::{NoMemory, Text};
 use dns_record::{DNSClass, RecordType, ResponseCode};
 use std::alloc::Global;
+use std::process::Abort;
 
 /// An error of each kind.
 #[derive(Clone, Copy, Drop)]
@@ -66,109 +67,38 @@ enum Tells {
 /// An error, what it tells, and its text.
 struct Shown(Sample, Tells, &'static str);
 
+#[rattlefmt::skip]
 const SHOWN: &[Shown] = &[
     Shown(Sample::Busy, Tells::Nothing, "resource too busy"),
-    Shown(
-        Sample::Refused,
-        Tells::Nothing,
-        "DNS error: error response: 5",
-    ),
-    Shown(
-        Sample::NameErrorCode,
-        Tells::Nothing,
-        "DNS error: error response: 3",
-    ),
-    Shown(
-        Sample::MissingOdd,
-        Tells::NameMissing,
-        "DNS error: no records found for o\\.g.\\128-. IN DNSKEY",
-    ),
-    Shown(
-        Sample::MissingName,
-        Tells::NameMissing,
-        "DNS error: no records found for a.b. IN TXT",
-    ),
-    Shown(
-        Sample::MissingType,
-        Tells::TypeMissing,
-        "DNS error: no records found for a.b. IN TXT",
-    ),
-    Shown(
-        Sample::Referred,
-        Tells::Referral,
-        "DNS error: no records found for a.b. IN TXT",
-    ),
-    Shown(
-        Sample::Denied,
-        Tells::Nothing,
-        "DNS error: DNSSEC Negative Record Response for o\\.g.\\128-. IN DNSKEY, Bogus",
-    ),
-    Shown(
-        Sample::Bogus,
-        Tells::Nothing,
-        "DNS error: DNSSEC validation failed",
-    ),
+    Shown(Sample::Refused, Tells::Nothing, "DNS error: error response: 5"),
+    Shown(Sample::NameErrorCode, Tells::Nothing, "DNS error: error response: 3"),
+    Shown(Sample::MissingOdd, Tells::NameMissing, "DNS error: no records found for o\\.g.\\128-. IN DNSKEY"),
+    Shown(Sample::MissingName, Tells::NameMissing, "DNS error: no records found for a.b. IN TXT"),
+    Shown(Sample::MissingType, Tells::TypeMissing, "DNS error: no records found for a.b. IN TXT"),
+    Shown(Sample::Referred, Tells::Referral, "DNS error: no records found for a.b. IN TXT"),
+    Shown(Sample::Denied, Tells::Nothing, "DNS error: DNSSEC Negative Record Response for o\\.g.\\128-. IN DNSKEY, Bogus"),
+    Shown(Sample::Bogus, Tells::Nothing, "DNS error: DNSSEC validation failed"),
     Shown(Sample::ExpiredRrsig, Tells::Nothing, "ExpiredRrsig"),
     Shown(Sample::WrongDnskey, Tells::Nothing, "WrongDnskey"),
     Shown(Sample::WrongRrsig, Tells::Nothing, "WrongRrsig"),
-    Shown(
-        Sample::NoQueryInRequest,
-        Tells::Nothing,
-        "no query in request",
-    ),
-    Shown(
-        Sample::TooDeep,
-        Tells::Nothing,
-        "exceeded max validation depth",
-    ),
-    Shown(
-        Sample::TooMany,
-        Tells::Nothing,
-        "exceeded max nested queries",
-    ),
-    Shown(
-        Sample::NoId,
-        Tells::Nothing,
-        "id space exhausted, consider filing an issue",
-    ),
+    Shown(Sample::NoQueryInRequest, Tells::Nothing, "no query in request"),
+    Shown(Sample::TooDeep, Tells::Nothing, "exceeded max validation depth"),
+    Shown(Sample::TooMany, Tells::Nothing, "exceeded max nested queries"),
+    Shown(Sample::NoId, Tells::Nothing, "id space exhausted, consider filing an issue"),
     Shown(Sample::FullQueue, Tells::Nothing, "send queue full"),
-    Shown(
-        Sample::PolledAgain,
-        Tells::Nothing,
-        "polled after completion",
-    ),
-    Shown(
-        Sample::CutDatagram,
-        Tells::Nothing,
-        "not all bytes of message sent",
-    ),
+    Shown(Sample::PolledAgain, Tells::Nothing, "polled after completion"),
+    Shown(Sample::CutDatagram, Tells::Nothing, "not all bytes of message sent"),
     Shown(Sample::OwnText, Tells::Nothing, "the pool is closed"),
-    Shown(
-        Sample::NoConnections,
-        Tells::Nothing,
-        "no connections available",
-    ),
+    Shown(Sample::NoConnections, Tells::Nothing, "no connections available"),
     Shown(Sample::Short, Tells::Nothing, "protocol error: Short 12"),
     Shown(Sample::DecodedNoMemory, Tells::NoMemory, "out of memory"),
     Shown(Sample::TooLong, Tells::Nothing, "protocol error: TooLong"),
     Shown(Sample::BrokenPipe, Tells::Closed, "io error: BrokenPipe"),
     Shown(Sample::TimedOut, Tells::Nothing, "request timed out"),
     Shown(Sample::Timeout, Tells::Nothing, "request timed out"),
-    Shown(
-        Sample::Case,
-        Tells::Nothing,
-        "case of query name in response did not match",
-    ),
-    Shown(
-        Sample::Foreign,
-        Tells::Nothing,
-        "foreign class record in response: . CH TYPE65534",
-    ),
-    Shown(
-        Sample::Truncated,
-        Tells::Nothing,
-        "response was truncated; TCP already tried or no other transport available",
-    ),
+    Shown(Sample::Case, Tells::Nothing, "case of query name in response did not match"),
+    Shown(Sample::Foreign, Tells::Nothing, "foreign class record in response: . CH TYPE65534"),
+    Shown(Sample::Truncated, Tells::Nothing, "response was truncated; TCP already tried or no other transport available"),
     Shown(Sample::NoMemory, Tells::NoMemory, "out of memory"),
 ];
 
@@ -214,65 +144,40 @@ fn plain(sample: Sample) -> NetError {
     }
 }
 
-fn missing(alloc: Global, name: &str, record_type: u16, code: u16) -> Result<NetError, NameError> {
-    let query = query(alloc, name, record_type)?;
-    Ok(NetError::from(NoRecords::new(alloc, query, ResponseCode(code))))
+fn missing(rt: &impl Abort, alloc: Global, text: &str, record_type: u16, code: u16) -> NetError {
+    let query = query(rt, alloc, text, record_type);
+    NetError::from(NoRecords::new(alloc, query, ResponseCode(code)))
 }
 
-fn boxed(alloc: Global) -> Result<Box<DnsResponse>, NameError> {
-    Ok(Box::new(alloc, response(alloc, Message::query(alloc)))?)
-}
-
-fn denied(alloc: Global) -> Result<NetError, NameError> {
-    let query = query(alloc, "o\\.g.\\128-.", 48)?;
-    let response = boxed(alloc)?;
-    Ok(NetError::from(DnsError::Nsec {
-        query,
-        response,
+fn denied(rt: &impl Abort, alloc: Global) -> NetError {
+    let response = response(alloc, Message::query(alloc));
+    NetError::from(DnsError::Nsec {
+        query: query(rt, alloc, "o\\.g.\\128-.", 48),
+        response: Box::new(alloc, response).expect(rt, "memory"),
         proof: Proof::Bogus,
-    }))
-}
-
-fn own_text(alloc: Global) -> Result<NetError, NameError> {
-    Ok(NetError::from(Text::from_str(alloc, "the pool is closed")?))
-}
-
-fn foreign(alloc: Global) -> Result<NetError, NameError> {
-    Ok(NetError::ForeignClassRecord {
-        record_name: Name::root(alloc)?,
-        record_class: DNSClass::CH,
-        record_type: RecordType(65534),
     })
 }
 
-fn error_of(alloc: Global, sample: Sample) -> Result<NetError, NameError> {
+fn foreign(rt: &impl Abort, alloc: Global) -> NetError {
+    NetError::ForeignClassRecord {
+        record_name: name(rt, alloc, "."),
+        record_class: DNSClass::CH,
+        record_type: RecordType(65534),
+    }
+}
+
+fn error_of(rt: &impl Abort, alloc: Global, sample: Sample) -> NetError {
     match sample {
-        Sample::MissingOdd => missing(alloc, "o\\.g.\\128-.", 48, 3),
-        Sample::MissingName => missing(alloc, "a.b.", 16, 3),
-        Sample::MissingType => missing(alloc, "a.b.", 16, 0),
-        Sample::Referred => Ok(denied_by_referral(alloc)),
-        Sample::Denied => denied(alloc),
-        Sample::OwnText => own_text(alloc),
-        Sample::Foreign => foreign(alloc),
-        _ => Ok(plain(sample)),
-    }
-}
-
-fn shows(alloc: Global, error: &NetError, want: &str) -> bool {
-    match format!(in alloc; "{error}") {
-        Ok(text) => text.as_str() == want,
-        Err(_) => false,
-    }
-}
-
-fn copy_shows(alloc: Global, error: &NetError, want: &str) -> bool {
-    match error.try_clone() {
-        Ok(copy) => {
-            let held = shows(alloc, &copy, want);
-            drop(copy);
-            held
+        Sample::MissingOdd => missing(rt, alloc, "o\\.g.\\128-.", 48, 3),
+        Sample::MissingName => missing(rt, alloc, "a.b.", 16, 3),
+        Sample::MissingType => missing(rt, alloc, "a.b.", 16, 0),
+        Sample::Referred => denied_by_referral(rt, alloc),
+        Sample::Denied => denied(rt, alloc),
+        Sample::OwnText => {
+            NetError::from(Text::from_str(alloc, "the pool is closed").expect(rt, "memory"))
         }
-        Err(_) => false,
+        Sample::Foreign => foreign(rt, alloc),
+        _ => plain(sample),
     }
 }
 
@@ -299,16 +204,14 @@ fn soa_is(error: NetError, want: Tells) -> bool {
 
 /// The error tells this and has no other SOA than it says, and both it and its copy show the text.
 impl Row for Shown {
-    fn holds(&self, alloc: Global) -> bool {
-        match error_of(alloc, self.0) {
-            Ok(error) => {
-                let held = is_told(&error, self.1)
-                    && shows(alloc, &error, self.2)
-                    && copy_shows(alloc, &error, self.2);
-                soa_is(error, self.1) && held
-            }
-            Err(_) => false,
-        }
+    fn holds(&self, rt: &impl Abort, alloc: Global) -> bool {
+        let error = error_of(rt, alloc, self.0);
+        let copy = error.try_clone().expect(rt, "memory");
+        let held = is_told(&error, self.1)
+            && shows(rt, alloc, &error, self.2)
+            && shows(rt, alloc, &copy, self.2);
+        drop(copy);
+        soa_is(error, self.1) && held
     }
 }
 
@@ -339,7 +242,7 @@ const OUTSIDE: &[Outside] = &[
 ];
 
 impl Row for Outside {
-    fn holds(&self, _alloc: Global) -> bool {
+    fn holds(&self, _rt: &impl Abort, _alloc: Global) -> bool {
         let error = NetError::from(self.0);
         let held = is_told(&error, self.1);
         drop(error);

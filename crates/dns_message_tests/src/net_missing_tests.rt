@@ -4,9 +4,9 @@ use crate::rows::{Row, check_numbered};
 use dns_handle::{DnsError, ForwardNSData, NetError, NoRecords};
 use dns_message::Message;
 use dns_model::Section;
-use dns_name::NoMemory;
 use dns_record::{DNSClass, Record, ResponseCode};
 use std::alloc::Global;
+use std::process::Abort;
 
 /// An SOA of the root, with a minimum of 30 seconds.
 const SOA_RDATA: &[u8] = b"\0\0\0\0\0\x01\0\0\0\x02\0\0\0\x03\0\0\0\x04\0\0\0\x1e";
@@ -16,6 +16,7 @@ const SERVER: &[u8] = b"\x02ns\0";
 
 /// A referral that also denies: NS records, one of whose servers has addresses and one that can't be read; an SOA that can't be
 /// read, and two that can; addresses of `ns.` in either case, and records that are none.
+#[rattlefmt::skip]
 const REFERRAL: &[Held] = &[
     Held(Section::Authority, "b.", 2, Some(60), SERVER),
     Held(Section::Authority, "c.", 6, Some(5), b""),
@@ -23,13 +24,7 @@ const REFERRAL: &[Held] = &[
     Held(Section::Authority, "b.", 2, Some(60), b"\x02nt\0"),
     Held(Section::Authority, "d.", 2, Some(60), b""),
     Held(Section::Authority, "e.", 6, Some(1), SOA_RDATA),
-    Held(
-        Section::Additional,
-        "ns.",
-        28,
-        Some(60),
-        b"0123456789abcdef",
-    ),
+    Held(Section::Additional, "ns.", 28, Some(60), b"0123456789abcdef"),
     Held(Section::Additional, "a.", 1, Some(60), b"addr"),
     Held(Section::Additional, "ns.", 16, Some(60), b"\0"),
     Held(Section::Additional, "NS.", 1, Some(60), b"addr"),
@@ -152,28 +147,23 @@ fn is_missing(missing: &NoRecords, row: &Missing) -> bool {
 }
 
 /// What becomes of the row's response.
-fn became_of(alloc: Global, row: &Missing) -> Became {
+fn became_of(rt: &impl Abort, alloc: Global, row: &Missing) -> Became {
     let mut message = Message::query(alloc);
     message.response_code = ResponseCode(row.code);
-    match fill(alloc, &mut message, row.asked, row.records, row.ttl) {
-        Ok(()) => from_message(alloc, message),
-        Err(_) => {
-            drop(message);
-            Err(NoMemory)
-        }
-    }
+    fill(rt, alloc, &mut message, row.asked, row.records, row.ttl);
+    from_message(rt, alloc, message)
 }
 
 fn holds_missing(became: &Became, row: &Missing) -> bool {
     match became {
-        Ok(Err(DnsError::NoRecordsFound(missing))) => is_missing(missing, row),
+        Err(DnsError::NoRecordsFound(missing)) => is_missing(missing, row),
         _ => false,
     }
 }
 
 impl Row for Missing {
-    fn holds(&self, alloc: Global) -> bool {
-        let became = became_of(alloc, self);
+    fn holds(&self, rt: &impl Abort, alloc: Global) -> bool {
+        let became = became_of(rt, alloc, self);
         let held = holds_missing(&became, self);
         drop(became);
         held
@@ -186,12 +176,7 @@ fn no_records_keep_what_the_server_said(rt: HostRuntime) {
 }
 
 /// The error that a referral becomes.
-pub(crate) fn denied_by_referral(alloc: Global) -> NetError {
-    match became_of(alloc, &REFERRED) {
-        Ok(Err(error)) => NetError::from(error),
-        other => {
-            drop(other);
-            NetError::Busy
-        }
-    }
+pub(crate) fn denied_by_referral(rt: &impl Abort, alloc: Global) -> NetError {
+    let denied = became_of(rt, alloc, &REFERRED).err();
+    NetError::from(denied.expect(rt, "a denial"))
 }

@@ -3,16 +3,16 @@ use crate::parts::{ask_also, record, response};
 use crate::rows::{Row, check_numbered};
 use dns_handle::{DnsError, DnsResponse};
 use dns_message::Message;
-use dns_model::{NameError, Section};
-use dns_name::NoMemory;
+use dns_model::Section;
 use dns_record::{Record, ResponseCode};
 use std::alloc::Global;
+use std::process::Abort;
 
-/// What becomes of a response, unless memory lacks for it.
-pub(crate) type Became = Result<Result<DnsResponse, DnsError>, NoMemory>;
+/// What becomes of a response.
+pub(crate) type Became = Result<DnsResponse, DnsError>;
 
-pub(crate) fn from_message(alloc: Global, message: Message) -> Became {
-    DnsError::from_response(alloc, response(alloc, message))
+pub(crate) fn from_message(rt: &impl Abort, alloc: Global, message: Message) -> Became {
+    DnsError::from_response(alloc, response(alloc, message)).expect(rt, "memory")
 }
 
 /// A question, by its name and its type.
@@ -36,27 +36,26 @@ fn section_of(message: &mut Message, section: Section) -> &mut Vec<Record> {
     }
 }
 
-fn add(alloc: Global, message: &mut Message, held: &Held, ttl: u32) -> Result<(), NameError> {
-    let next = record(alloc, held.1, held.2, held.3.unwrap_or(ttl), held.4)?;
-    section_of(message, held.0).push(next)?;
-    Ok(())
+fn add(rt: &impl Abort, alloc: Global, message: &mut Message, held: &Held, ttl: u32) {
+    let next = record(rt, alloc, held.1, held.2, held.3.unwrap_or(ttl), held.4);
+    section_of(message, held.0).push(next).expect(rt, "memory");
 }
 
 /// Puts questions and records into a message.
 pub(crate) fn fill(
+    rt: &impl Abort,
     alloc: Global,
     message: &mut Message,
     asked: &[Asked],
     records: &[Held],
     ttl: u32,
-) -> Result<(), NameError> {
+) {
     for question in asked {
-        ask_also(alloc, &mut message.queries, question.0, question.1)?;
+        ask_also(rt, alloc, &mut message.queries, question.0, question.1);
     }
     for held in records {
-        add(alloc, message, held, ttl)?;
+        add(rt, alloc, message, held, ttl);
     }
-    Ok(())
 }
 
 /// What becomes of a response.
@@ -70,15 +69,15 @@ enum Outcome {
 
 fn outcome_of(became: &Became) -> Outcome {
     match became {
-        Ok(Ok(_)) => Outcome::Response,
-        Ok(Err(DnsError::ResponseCode(code))) => Outcome::Failure(code.0),
-        Ok(Err(DnsError::NoRecordsFound(_))) => Outcome::Missing,
-        _ => Outcome::OtherError,
+        Ok(_) => Outcome::Response,
+        Err(DnsError::ResponseCode(code)) => Outcome::Failure(code.0),
+        Err(DnsError::NoRecordsFound(_)) => Outcome::Missing,
+        Err(_) => Outcome::OtherError,
     }
 }
 
-fn becomes(alloc: Global, message: Message, want: Outcome) -> bool {
-    let became = from_message(alloc, message);
+fn becomes(rt: &impl Abort, alloc: Global, message: Message, want: Outcome) -> bool {
+    let became = from_message(rt, alloc, message);
     let held = outcome_of(&became) == want;
     drop(became);
     held
@@ -97,6 +96,7 @@ const SOA: u16 = 6;
 
 const ANY: u16 = 255;
 
+#[rattlefmt::skip]
 const ROWS: &[One] = &[
     // whatever stands in the answer section answers
     One("a.", A, Section::Answer, "a.", A, Outcome::Response),
@@ -117,50 +117,26 @@ const ROWS: &[One] = &[
     One("b.", ANY, Section::Answer, "a.b.", ANY, Outcome::Missing),
     // one of type SOA takes the SOA of a zone that the name is in
     One("a.b.", SOA, Section::Answer, "a.b.", SOA, Outcome::Response),
-    One(
-        "a.b.",
-        SOA,
-        Section::Authority,
-        "B.",
-        SOA,
-        Outcome::Response,
-    ),
-    One(
-        "a.b.",
-        SOA,
-        Section::Additional,
-        ".",
-        SOA,
-        Outcome::Response,
-    ),
+    One("a.b.", SOA, Section::Authority, "B.", SOA, Outcome::Response),
+    One("a.b.", SOA, Section::Additional, ".", SOA, Outcome::Response),
     One(".", SOA, Section::Authority, ".", SOA, Outcome::Response),
     One("b.", SOA, Section::Authority, "a.b.", SOA, Outcome::Missing),
     One("a.b.", SOA, Section::Authority, "a.", SOA, Outcome::Missing),
     One("a.b.", SOA, Section::Answer, "a.b.", NS, Outcome::Missing),
-    One(
-        "a.ab.",
-        SOA,
-        Section::Authority,
-        "b.",
-        SOA,
-        Outcome::Missing,
-    ),
+    One("a.ab.", SOA, Section::Authority, "b.", SOA, Outcome::Missing),
 ];
 
 fn rows() -> &'static [One] {
     ROWS
 }
 
-fn fill_one(alloc: Global, message: &mut Message, row: &One) -> Result<(), NameError> {
-    ask_also(alloc, &mut message.queries, row.0, row.1)?;
-    add(alloc, message, &Held(row.2, row.3, row.4, None, b""), 60)
-}
-
 impl Row for One {
-    fn holds(&self, alloc: Global) -> bool {
+    fn holds(&self, rt: &impl Abort, alloc: Global) -> bool {
         let mut message = Message::query(alloc);
-        let made = fill_one(alloc, &mut message, self);
-        becomes(alloc, message, self.5) && made.is_ok()
+        ask_also(rt, alloc, &mut message.queries, self.0, self.1);
+        let held = Held(self.2, self.3, self.4, None, b"");
+        add(rt, alloc, &mut message, &held, 60);
+        becomes(rt, alloc, message, self.5)
     }
 }
 
@@ -182,6 +158,7 @@ const ANSWERED_DENIAL: &[Held] = &[
     Held(Section::Answer, "a.b.", A, None, b""),
 ];
 
+#[rattlefmt::skip]
 const CASES: &[Case] = &[
     // the codes by which a server says that it failed (RFC 6895, 2.3): FORMERR, SERVFAIL, NOTIMP to NOTZONE, BADVERS to BADCOOKIE
     Case(QUESTION, &[], false, 1, Outcome::Failure(1)),
@@ -221,20 +198,8 @@ const CASES: &[Case] = &[
     // a failure stays one
     Case(QUESTION, DENIAL, true, 2, Outcome::Failure(2)),
     // a second question that the authority section answers, and one without an answer
-    Case(
-        &[("a.b.", A), ("b.", SOA)],
-        DENIAL,
-        false,
-        3,
-        Outcome::Response,
-    ),
-    Case(
-        &[("a.b.", A), ("c.", SOA)],
-        DENIAL,
-        false,
-        3,
-        Outcome::Missing,
-    ),
+    Case(&[("a.b.", A), ("b.", SOA)], DENIAL, false, 3, Outcome::Response),
+    Case(&[("a.b.", A), ("c.", SOA)], DENIAL, false, 3, Outcome::Missing),
     Case(&[], DENIAL, false, 0, Outcome::Missing),
     Case(&[], DENIAL, false, 2, Outcome::Failure(2)),
     // no question has an answer then
@@ -246,12 +211,12 @@ fn cases() -> &'static [Case] {
 }
 
 impl Row for Case {
-    fn holds(&self, alloc: Global) -> bool {
+    fn holds(&self, rt: &impl Abort, alloc: Global) -> bool {
         let mut message = Message::query(alloc);
         message.truncated = self.2;
         message.response_code = ResponseCode(self.3);
-        let made = fill(alloc, &mut message, self.0, self.1, 60);
-        becomes(alloc, message, self.4) && made.is_ok()
+        fill(rt, alloc, &mut message, self.0, self.1, 60);
+        becomes(rt, alloc, message, self.4)
     }
 }
 

@@ -1,56 +1,28 @@
-use crate::parts::{ask_also, is_named, nothing, query, request};
+use crate::message_tests::is_written_as;
+use crate::parts::{ask_also, is_named, query};
 use crate::rows::{Row, check_numbered, check_row};
 use dns_handle::{DnsRequest, DnsRequestOptions};
 use dns_message::Message;
-use dns_model::NameError;
 use dns_record::Query;
 use std::alloc::Global;
+use std::process::Abort;
 
 /// A name as a text and in wire form, bits, and the name in wire form with the case of the letters changed whose bit is set.
 struct Cased(&'static str, &'static [u8], &'static [u8], &'static [u8]);
 
+#[rattlefmt::skip]
 const CASED: &[Cased] = &[
-    Cased(
-        "aB-c.De.",
-        b"\x04aB-c\x02De\0",
-        &[0b0_0001],
-        b"\x04AB-c\x02De\0",
-    ),
-    Cased(
-        "aB-c.De.",
-        b"\x04aB-c\x02De\0",
-        &[0b1_1010],
-        b"\x04ab-c\x02dE\0",
-    ),
-    Cased(
-        "aB-c.De.",
-        b"\x04aB-c\x02De\0",
-        &[0xff, 0xff],
-        b"\x04Ab-C\x02dE\0",
-    ),
+    Cased("aB-c.De.", b"\x04aB-c\x02De\0", &[0b0_0001], b"\x04AB-c\x02De\0"),
+    Cased("aB-c.De.", b"\x04aB-c\x02De\0", &[0b1_1010], b"\x04ab-c\x02dE\0"),
+    Cased("aB-c.De.", b"\x04aB-c\x02De\0", &[0xff, 0xff], b"\x04Ab-C\x02dE\0"),
     // missing bits are clear
     Cased("aB-c.De.", b"\x04aB-c\x02De\0", &[], b"\x04aB-c\x02De\0"),
-    Cased(
-        "abcdefgh.ij.",
-        b"\x08abcdefgh\x02ij\0",
-        &[0xff],
-        b"\x08ABCDEFGH\x02ij\0",
-    ),
+    Cased("abcdefgh.ij.", b"\x08abcdefgh\x02ij\0", &[0xff], b"\x08ABCDEFGH\x02ij\0"),
     // bit 8 is the lowest of the second byte
-    Cased(
-        "abcdefgh.ij.",
-        b"\x08abcdefgh\x02ij\0",
-        &[0x80, 0x01],
-        b"\x08abcdefgH\x02Ij\0",
-    ),
+    Cased("abcdefgh.ij.", b"\x08abcdefgh\x02ij\0", &[0x80, 0x01], b"\x08abcdefgH\x02Ij\0"),
     // what stands beside the letters isn't one
     Cased("@[`{a1Z.", b"\x07@[`{a1Z\0", &[0b01], b"\x07@[`{A1Z\0"),
-    Cased(
-        "\\193\\225z.",
-        b"\x03\xc1\xe1z\0",
-        &[0xff],
-        b"\x03\xc1\xe1Z\0",
-    ),
+    Cased("\\193\\225z.", b"\x03\xc1\xe1z\0", &[0xff], b"\x03\xc1\xe1Z\0"),
     Cased(".", b"\0", &[0xff], b"\0"),
     Cased(LONGEST, LONGEST_SMALL, ALL_BITS, LONGEST_LARGE),
 ];
@@ -86,24 +58,22 @@ fn cased_rows() -> &'static [Cased] {
     CASED
 }
 
+/// A request for this question.
+fn request(rt: &impl Abort, alloc: Global, query: Query, options: DnsRequestOptions) -> DnsRequest {
+    DnsRequest::from_query(alloc, query, options).expect(rt, "memory")
+}
+
+/// The request with the letters changed whose bit is set.
+fn changed(rt: &impl Abort, request: DnsRequest, bits: &[u8]) -> DnsRequest {
+    request.with_case(bits).expect(rt, "memory")
+}
+
 /// A request for this name that also asks for `b. NS`.
-fn two_questions(alloc: Global, name: &str) -> Result<DnsRequest, NameError> {
-    let mut request = request(alloc, name, 48)?;
-    match ask_also(alloc, &mut request.message.queries, "b.", 2) {
-        Ok(()) => Ok(request),
-        Err(error) => {
-            drop(request);
-            Err(error)
-        }
-    }
-}
-
-fn changed_once(alloc: Global, row: &Cased) -> Result<DnsRequest, NameError> {
-    Ok(two_questions(alloc, row.0)?.with_case(row.2)?)
-}
-
-fn changed_twice(alloc: Global, row: &Cased) -> Result<DnsRequest, NameError> {
-    Ok(changed_once(alloc, row)?.with_case(row.2)?)
+fn two_questions(rt: &impl Abort, alloc: Global, name: &str) -> DnsRequest {
+    let query = query(rt, alloc, name, 48);
+    let mut request = request(rt, alloc, query, BY_DEFAULT);
+    ask_also(rt, alloc, &mut request.message.queries, "b.", 2);
+    request
 }
 
 /// The questions are for this name, in this case, and for `b. NS`.
@@ -131,55 +101,53 @@ fn is_changed(request: &DnsRequest, changed: &[u8], original: &[u8]) -> bool {
     ask(&request.message.queries, changed) && is_original(&request.original, original)
 }
 
-fn copy_is_changed(request: &DnsRequest, changed: &[u8], original: &[u8]) -> bool {
-    match request.try_clone() {
-        Ok(copy) => {
-            let held = is_changed(&copy, changed, original);
-            drop(copy);
-            held
-        }
-        Err(_) => false,
-    }
-}
-
 /// The request and its copy ask so, and say what was asked before.
-fn both_are_changed(made: Result<DnsRequest, NameError>, changed: &[u8], original: &[u8]) -> bool {
-    match made {
-        Ok(request) => {
-            let held = is_changed(&request, changed, original)
-                && copy_is_changed(&request, changed, original);
-            drop(request);
-            held
-        }
-        Err(_) => false,
-    }
+fn both_are_changed(
+    rt: &impl Abort,
+    request: &DnsRequest,
+    changed: &[u8],
+    original: &[u8],
+) -> bool {
+    let copy = request.try_clone().expect(rt, "memory");
+    let held = is_changed(request, changed, original) && is_changed(&copy, changed, original);
+    drop(copy);
+    held
 }
 
 /// The first question alone is changed. A second change keeps the question as the first has left it.
 impl Row for Cased {
-    fn holds(&self, alloc: Global) -> bool {
-        both_are_changed(changed_once(alloc, self), self.3, self.1)
-            && both_are_changed(changed_twice(alloc, self), self.1, self.3)
+    fn holds(&self, rt: &impl Abort, alloc: Global) -> bool {
+        let once = changed(rt, two_questions(rt, alloc, self.0), self.2);
+        let held = both_are_changed(rt, &once, self.3, self.1);
+        let twice = changed(rt, once, self.2);
+        let still = both_are_changed(rt, &twice, self.1, self.3);
+        drop(twice);
+        held && still
     }
 }
 
 /// A request without a question stays without one, and has no original.
-fn stays_without_a_question(alloc: Global) -> bool {
-    match nothing(alloc).with_case(ALL_BITS) {
-        Ok(request) => {
-            let held = request.message.queries.is_empty() && request.original.is_none();
-            drop(request);
-            held
-        }
-        Err(_) => false,
-    }
+fn stays_without_a_question(rt: &impl Abort, alloc: Global) -> bool {
+    let nothing = DnsRequest {
+        message: Message::query(alloc),
+        options: BY_DEFAULT,
+        original: None,
+    };
+    let request = changed(rt, nothing, ALL_BITS);
+    let held = request.message.queries.is_empty() && request.original.is_none();
+    drop(request);
+    held
 }
 
 #[test]
 fn letters_change_where_their_bit_is_set(rt: HostRuntime) {
     let alloc = rt.alloc();
     check_numbered(&rt, alloc, cased_rows());
-    check_row(&rt, "without a question", stays_without_a_question(alloc));
+    check_row(
+        &rt,
+        "without a question",
+        stays_without_a_question(&rt, alloc),
+    );
 }
 
 const BY_DEFAULT: DnsRequestOptions = DnsRequestOptions {
@@ -197,35 +165,12 @@ const BY_DEFAULT: DnsRequestOptions = DnsRequestOptions {
 struct Written(bool, u16, bool, bool, &'static [u8]);
 
 /// RD is 01 in the third byte; an OPT has type 41, the payload for its class and DO as the highest bit of its flags.
+#[rattlefmt::skip]
 const WRITTEN: &[Written] = &[
-    Written(
-        false,
-        1232,
-        true,
-        true,
-        b"\0\0\x01\0\0\x01\0\0\0\0\0\0\0\0\x02\0\x01",
-    ),
-    Written(
-        false,
-        1232,
-        false,
-        false,
-        b"\0\0\0\0\0\x01\0\0\0\0\0\0\0\0\x02\0\x01",
-    ),
-    Written(
-        true,
-        1232,
-        true,
-        true,
-        b"\0\0\x01\0\0\x01\0\0\0\0\0\x01\0\0\x02\0\x01\0\0\x29\x04\xd0\0\0\x80\0\0\0",
-    ),
-    Written(
-        true,
-        512,
-        false,
-        true,
-        b"\0\0\x01\0\0\x01\0\0\0\0\0\x01\0\0\x02\0\x01\0\0\x29\x02\0\0\0\0\0\0\0",
-    ),
+    Written(false, 1232, true, true, b"\0\0\x01\0\0\x01\0\0\0\0\0\0\0\0\x02\0\x01"),
+    Written(false, 1232, false, false, b"\0\0\0\0\0\x01\0\0\0\0\0\0\0\0\x02\0\x01"),
+    Written(true, 1232, true, true, b"\0\0\x01\0\0\x01\0\0\0\0\0\x01\0\0\x02\0\x01\0\0\x29\x04\xd0\0\0\x80\0\0\0"),
+    Written(true, 512, false, true, b"\0\0\x01\0\0\x01\0\0\0\0\0\x01\0\0\x02\0\x01\0\0\x29\x02\0\0\0\0\0\0\0"),
 ];
 
 fn written_rows() -> &'static [Written] {
@@ -242,27 +187,12 @@ fn options_of(row: &Written) -> DnsRequestOptions {
     }
 }
 
-fn request_of(alloc: Global, row: &Written) -> Result<DnsRequest, NameError> {
-    Ok(DnsRequest::from_query(alloc, query(alloc, ".", 2)?, options_of(row))?)
-}
-
-fn has_bytes(message: &Message, bytes: &[u8]) -> bool {
-    match message.to_vec() {
-        Ok(written) => written.as_slice() == bytes,
-        Err(_) => false,
-    }
-}
-
 impl Row for Written {
-    fn holds(&self, alloc: Global) -> bool {
-        match request_of(alloc, self) {
-            Ok(request) => {
-                let held = request.original.is_none() && has_bytes(&request.message, self.4);
-                drop(request);
-                held
-            }
-            Err(_) => false,
-        }
+    fn holds(&self, rt: &impl Abort, alloc: Global) -> bool {
+        let request = request(rt, alloc, query(rt, alloc, ".", 2), options_of(self));
+        let held = request.original.is_none() && is_written_as(&request.message, self.4, None);
+        drop(request);
+        held
     }
 }
 

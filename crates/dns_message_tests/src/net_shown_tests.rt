@@ -1,79 +1,64 @@
-use crate::parts::rdata;
+use crate::parts::{name, rdata};
 use crate::rows::check_row;
 use dns_evidence::{Chain, Link, all_shown, shows_ds, shows_key, shows_member};
-use dns_model::{NameError, Section};
-use dns_name::{Name, NameRef};
+use dns_model::Section;
+use dns_name::NameRef;
 use dns_record::{DNSClass, Rdata, RecordType};
 use std::alloc::Global;
+use std::process::Abort;
 
-fn key(alloc: Global) -> Result<Rdata, NameError> {
-    rdata(alloc, b"key")
+fn key(rt: &impl Abort, alloc: Global) -> Rdata {
+    rdata(rt, alloc, b"key")
 }
 
-fn one_key(alloc: Global) -> Result<Vec<Rdata>, NameError> {
+fn one_key(rt: &impl Abort, alloc: Global) -> Vec<Rdata> {
     let mut keys = Vec::new(alloc);
-    keys.push(key(alloc)?)?;
-    Ok(keys)
+    keys.push(key(rt, alloc)).expect(rt, "memory");
+    keys
 }
 
-fn owner(alloc: Global) -> Result<Name, NameError> {
-    Name::from_ascii(alloc, "ORG.")
-}
-
-fn anchored(alloc: Global) -> Result<Link, NameError> {
-    let owner = owner(alloc)?;
-    let key = key(alloc)?;
-    Ok(Link::Anchored {
-        owner,
+fn anchored(rt: &impl Abort, alloc: Global) -> Link {
+    Link::Anchored {
+        owner: name(rt, alloc, "ORG."),
         class: DNSClass::IN,
-        key,
-    })
+        key: key(rt, alloc),
+    }
 }
 
-fn first_number(alloc: Global) -> Result<Vec<u32>, NameError> {
-    let mut numbers = Vec::new(alloc);
-    numbers.push(0)?;
-    Ok(numbers)
-}
-
-fn key_set(alloc: Global) -> Result<Link, NameError> {
-    let keys = one_key(alloc)?;
-    let links = first_number(alloc)?;
-    let owner = owner(alloc)?;
-    Ok(Link::KeySet {
-        owner,
+fn key_set(rt: &impl Abort, alloc: Global) -> Link {
+    let mut links = Vec::new(alloc);
+    links.push(0).expect(rt, "memory");
+    Link::KeySet {
+        owner: name(rt, alloc, "ORG."),
         class: DNSClass::IN,
-        keys,
+        keys: one_key(rt, alloc),
         links,
-    })
+    }
 }
 
-fn delegation(alloc: Global) -> Result<Link, NameError> {
-    let rdatas = one_key(alloc)?;
-    let sig = key(alloc)?;
-    let key = key(alloc)?;
-    let owner = owner(alloc)?;
-    Ok(Link::Signed {
-        owner,
+fn delegation(rt: &impl Abort, alloc: Global) -> Link {
+    Link::Signed {
+        owner: name(rt, alloc, "ORG."),
         class: DNSClass::IN,
         record_type: RecordType::DS,
-        rdatas,
-        sig,
+        rdatas: one_key(rt, alloc),
+        sig: key(rt, alloc),
         key_link: 1,
-        key,
-    })
+        key: key(rt, alloc),
+    }
 }
 
-fn push(links: &mut Vec<Link>, link: Result<Link, NameError>) -> Result<(), NameError> {
-    links.push(link?)?;
-    Ok(())
+fn push(rt: &impl Abort, links: &mut Vec<Link>, link: Link) {
+    links.push(link).expect(rt, "memory");
 }
 
 /// An anchored key, its key set and a signed set of DS records, whose rdatas are alike.
-fn add_links(alloc: Global, links: &mut Vec<Link>) -> Result<(), NameError> {
-    push(links, anchored(alloc))?;
-    push(links, key_set(alloc))?;
-    push(links, delegation(alloc))
+fn links(rt: &impl Abort, alloc: Global) -> Vec<Link> {
+    let mut links = Vec::new(alloc);
+    push(rt, &mut links, anchored(rt, alloc));
+    push(rt, &mut links, key_set(rt, alloc));
+    push(rt, &mut links, delegation(rt, alloc));
+    links
 }
 
 /// The number of a link, a class and an rdata, and what that link shows of them for `org.`.
@@ -84,43 +69,14 @@ struct Row {
     want: u8,
 }
 
+#[rattlefmt::skip]
 const ROWS: &[Row] = &[
-    Row {
-        number: 0,
-        class: DNSClass::IN,
-        rdata: b"key",
-        want: 1,
-    },
-    Row {
-        number: 1,
-        class: DNSClass::IN,
-        rdata: b"key",
-        want: 2,
-    },
-    Row {
-        number: 2,
-        class: DNSClass::IN,
-        rdata: b"key",
-        want: 4,
-    },
-    Row {
-        number: 3,
-        class: DNSClass::IN,
-        rdata: b"key",
-        want: 0,
-    },
-    Row {
-        number: 1,
-        class: DNSClass::IN,
-        rdata: b"kez",
-        want: 0,
-    },
-    Row {
-        number: 0,
-        class: DNSClass::CH,
-        rdata: b"key",
-        want: 0,
-    },
+    Row { number: 0, class: DNSClass::IN, rdata: b"key", want: 1 },
+    Row { number: 1, class: DNSClass::IN, rdata: b"key", want: 2 },
+    Row { number: 2, class: DNSClass::IN, rdata: b"key", want: 4 },
+    Row { number: 3, class: DNSClass::IN, rdata: b"key", want: 0 },
+    Row { number: 1, class: DNSClass::IN, rdata: b"kez", want: 0 },
+    Row { number: 0, class: DNSClass::CH, rdata: b"key", want: 0 },
 ];
 
 fn rows() -> &'static [Row] {
@@ -167,37 +123,30 @@ fn numbered_rows_hold(links: &[Link], owner: &NameRef, keys: &[Rdata]) -> bool {
 }
 
 /// Whether links show to an owner what the tables say.
-fn all_hold(alloc: Global, links: &[Link]) -> Result<bool, NameError> {
-    let owner = Name::from_ascii(alloc, "oRg.")?;
-    let keys = one_key(alloc)?;
-    let owner = owner.borrowed();
-    Ok(rows_hold(links, &owner) && numbered_rows_hold(links, &owner, &keys))
+fn all_hold(rt: &impl Abort, alloc: Global, links: &[Link]) -> bool {
+    let owner = name(rt, alloc, "oRg.");
+    let keys = one_key(rt, alloc);
+    let held = rows_hold(links, &owner.borrowed())
+        && numbered_rows_hold(links, &owner.borrowed(), &keys);
+    drop(keys);
+    drop(owner);
+    held
 }
 
-/// The same of a copy of the chain.
-fn copy_holds(alloc: Global, chain: &Chain) -> bool {
-    match chain.try_clone() {
-        Ok(copy) => {
-            let held = all_hold(alloc, &copy.links);
-            drop(copy);
-            matches!(held, Ok(true))
-        }
-        Err(_) => false,
-    }
-}
-
-fn is_shown(alloc: Global) -> bool {
-    let mut chain = Chain {
+/// Whether the links of a copied chain show it.
+fn is_shown(rt: &impl Abort, alloc: Global) -> bool {
+    let chain = Chain {
         section: Section::Answer,
-        links: Vec::new(alloc),
+        links: links(rt, alloc),
     };
-    let made = add_links(alloc, &mut chain.links);
-    let held = copy_holds(alloc, &chain);
+    let copy = chain.try_clone().expect(rt, "memory");
     drop(chain);
-    made.is_ok() && held
+    let held = all_hold(rt, alloc, &copy.links);
+    drop(copy);
+    held
 }
 
 #[test]
 fn links_show_keys_members_and_delegations(rt: HostRuntime) {
-    check_row(&rt, "what links show", is_shown(rt.alloc()));
+    check_row(&rt, "what links show", is_shown(&rt, rt.alloc()));
 }

@@ -1,52 +1,40 @@
 //! What tests of requests, responses, errors and links share.
 use dns_evidence::Trail;
-use dns_handle::{DnsRequest, DnsRequestOptions, DnsResponse};
+use dns_handle::DnsResponse;
 use dns_message::Message;
-use dns_model::{Denial, NameError, Proof};
+use dns_model::{Denial, Proof};
 use dns_name::Name;
 use dns_record::{DNSClass, Query, Rdata, Record, RecordType};
 use std::alloc::Global;
+use std::fmt::Display;
+use std::process::Abort;
 
-pub(crate) fn query(alloc: Global, name: &str, record_type: u16) -> Result<Query, NameError> {
-    let name = Name::from_ascii(alloc, name)?;
-    Ok(Query {
-        name,
-        query_type: RecordType(record_type),
-        query_class: DNSClass::IN,
-    })
+pub(crate) fn name(rt: &impl Abort, alloc: Global, text: &str) -> Name {
+    Name::from_ascii(alloc, text).expect(rt, "a name")
 }
 
 pub(crate) fn is_named(name: &Name, wire: &[u8]) -> bool {
     name.wire() == wire
 }
 
+pub(crate) fn query(rt: &impl Abort, alloc: Global, text: &str, record_type: u16) -> Query {
+    Query {
+        name: name(rt, alloc, text),
+        query_type: RecordType(record_type),
+        query_class: DNSClass::IN,
+    }
+}
+
 /// Asks for this too.
 pub(crate) fn ask_also(
+    rt: &impl Abort,
     alloc: Global,
     queries: &mut Vec<Query>,
-    name: &str,
+    text: &str,
     record_type: u16,
-) -> Result<(), NameError> {
-    queries.push(query(alloc, name, record_type)?)?;
-    Ok(())
-}
-
-pub(crate) fn request(
-    alloc: Global,
-    name: &str,
-    record_type: u16,
-) -> Result<DnsRequest, NameError> {
-    let query = query(alloc, name, record_type)?;
-    Ok(DnsRequest::from_query(alloc, query, DnsRequestOptions::default())?)
-}
-
-/// A request without a question.
-pub(crate) fn nothing(alloc: Global) -> DnsRequest {
-    DnsRequest {
-        message: Message::query(alloc),
-        options: DnsRequestOptions::default(),
-        original: None,
-    }
+) {
+    let query = query(rt, alloc, text, record_type);
+    queries.push(query).expect(rt, "memory");
 }
 
 /// A response that is this message.
@@ -60,26 +48,38 @@ pub(crate) fn response(alloc: Global, message: Message) -> DnsResponse {
 }
 
 /// An rdata of these bytes, which are fewer than 65,536.
-pub(crate) fn rdata(alloc: Global, bytes: &[u8]) -> Result<Rdata, NameError> {
+pub(crate) fn rdata(rt: &impl Abort, alloc: Global, bytes: &[u8]) -> Rdata {
     let few = if bytes.len() < 65_536 { bytes } else { b"" };
-    Ok(Rdata::from_slice(alloc, few)?)
+    Rdata::from_slice(alloc, few).expect(rt, "memory")
 }
 
 pub(crate) fn record(
+    rt: &impl Abort,
     alloc: Global,
-    name: &str,
+    text: &str,
     record_type: u16,
     ttl: u32,
     bytes: &[u8],
-) -> Result<Record, NameError> {
-    let name = Name::from_ascii(alloc, name)?;
-    let rdata = rdata(alloc, bytes)?;
-    Ok(Record {
-        name,
+) -> Record {
+    Record {
+        name: name(rt, alloc, text),
         record_type: RecordType(record_type),
         dns_class: DNSClass::IN,
         ttl,
-        rdata,
+        rdata: rdata(rt, alloc, bytes),
         proof: Proof::Indeterminate,
-    })
+    }
+}
+
+/// Whether a value is shown as this text.
+pub(crate) fn shows<D: Display + Drop>(
+    rt: &impl Abort,
+    alloc: Global,
+    shown: &D,
+    want: &str,
+) -> bool {
+    let text = format!(in alloc; "{shown}").expect(rt, "memory");
+    let held = text.as_str() == want;
+    drop(text);
+    held
 }

@@ -1,6 +1,8 @@
+use crate::parts::shows;
 use crate::rows::{Row, check_numbered};
 use dns_handle::Protocol;
 use std::alloc::Global;
+use std::process::Abort;
 
 /// A protocol, its name, and whether it carries datagrams.
 struct Kind(Protocol, &'static str, bool);
@@ -10,16 +12,10 @@ const KINDS: &[Kind] = &[
     Kind(Protocol::Tcp, "tcp", false),
 ];
 
-fn is_shown(alloc: Global, protocol: Protocol, name: &str) -> bool {
-    match format!(in alloc; "{protocol}") {
-        Ok(text) => text.as_str() == name && protocol.as_str() == name,
-        Err(_) => false,
-    }
-}
-
 impl Row for Kind {
-    fn holds(&self, alloc: Global) -> bool {
-        is_shown(alloc, self.0, self.1)
+    fn holds(&self, rt: &impl Abort, alloc: Global) -> bool {
+        shows(rt, alloc, &self.0, self.1)
+            && self.0.as_str() == self.1
             && self.0.is_datagram() == self.2
             && self.0.is_stream() != self.2
             && !self.0.is_encrypted()

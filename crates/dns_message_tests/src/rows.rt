@@ -4,8 +4,8 @@ use std::process::Abort;
 
 /// What a table says in a row.
 pub(crate) trait Row {
-    /// Whether it holds.
-    fn holds(&self, alloc: Global) -> bool;
+    /// Whether it holds. Where memory runs out, the test ends.
+    fn holds(&self, rt: &impl Abort, alloc: Global) -> bool;
 }
 
 /// What was tried on a row held; the message names the row.
@@ -16,7 +16,7 @@ pub(crate) fn check_row(rt: &impl Abort, row: &str, held: bool) {
 /// Each row of a table holds.
 pub(crate) fn check_rows<R: Row>(rt: &impl Abort, alloc: Global, rows: &[(&str, R)]) {
     for row in rows {
-        check_row(rt, row.0, row.1.holds(alloc));
+        check_row(rt, row.0, row.1.holds(rt, alloc));
     }
 }
 
@@ -24,7 +24,7 @@ pub(crate) fn check_rows<R: Row>(rt: &impl Abort, alloc: Global, rows: &[(&str, 
 pub(crate) fn check_numbered<R: Row>(rt: &impl Abort, alloc: Global, rows: &[R]) {
     let mut number = 0usize;
     for row in rows {
-        assert!(rt; row.holds(alloc), "row {number}");
+        assert!(rt; row.holds(rt, alloc), "row {number}");
         number = number.wrapping_add(1);
     }
 }
