@@ -1,5 +1,4 @@
-//! Tests of messages, of requests, errors and responses that deny, and of links: by what `dns_message`, `dns_handle` and
-//! `dns_evidence` give.
+//! Tests of messages, of requests, of errors and of responses that deny, by what `dns_message` and `dns_handle` give.
 //!
 //! They stand apart, since a crate with tests of its own is proved twice.
 #![tactic(auto)]
@@ -18,8 +17,6 @@ mod net_missing_tests;
 mod net_negative_tests;
 #[cfg(test)]
 mod net_request_tests;
-#[cfg(test)]
-mod net_shown_tests;
 #[cfg(test)]
 mod parts;
 #[cfg(test)]

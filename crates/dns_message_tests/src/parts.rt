@@ -1,4 +1,4 @@
-//! What tests of requests, responses, errors and links share.
+//! What tests of requests, responses and errors share.
 use dns_evidence::Trail;
 use dns_handle::DnsResponse;
 use dns_message::Message;

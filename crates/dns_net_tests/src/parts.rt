@@ -1,103 +1,19 @@
-//! What tests of steps, of replies and of requests that wait share.
-use dns_evidence::Trail;
-use dns_handle::{DnsError, DnsRequest, DnsRequestOptions, DnsResponse, IoKind, NetError, Notice};
+//! What the tests share: the server, requests, and responses.
+use dns_handle::{DnsRequest, DnsRequestOptions};
 use dns_message::Message;
-use dns_model::{Denial, NameError};
-use dns_name::Name;
-use dns_record::{DNSClass, Query, RecordType};
 use std::alloc::Global;
+use std::process::Abort;
 
-pub(crate) fn query(alloc: Global, name: &str, record_type: u16) -> Result<Query, NameError> {
-    let name = Name::from_ascii(alloc, name)?;
-    Ok(Query {
-        name,
-        query_type: RecordType(record_type),
-        query_class: DNSClass::IN,
-    })
+/// What was tried held; the message names it.
+pub(crate) fn check(rt: &impl Abort, what: &str, held: bool) {
+    assert!(rt; held, "{what}");
 }
 
-pub(crate) fn is_named(name: &Name, wire: &[u8]) -> bool {
-    name.wire() == wire
-}
-
-pub(crate) fn request(
-    alloc: Global,
-    name: &str,
-    record_type: u16,
-) -> Result<DnsRequest, NameError> {
-    let query = query(alloc, name, record_type)?;
-    Ok(DnsRequest::from_query(alloc, query, DnsRequestOptions::default())?)
-}
-
-/// A request without a question.
-pub(crate) fn nothing(alloc: Global) -> DnsRequest {
+/// A query without a question.
+pub(crate) fn query(alloc: Global) -> DnsRequest {
     DnsRequest {
         message: Message::query(alloc),
         options: DnsRequestOptions::default(),
         original: None,
-    }
-}
-
-/// A response that is this message.
-fn response(alloc: Global, message: Message) -> DnsResponse {
-    DnsResponse {
-        message,
-        chains: Vec::new(alloc),
-        denial: Denial::None,
-        trail: Trail::new(alloc),
-    }
-}
-
-/// A reply, as far as tests tell one from another.
-#[derive(Clone, Copy, PartialEq, Eq)]
-pub(crate) enum Said {
-    /// A response with the id.
-    Response(u16),
-    TimedOut,
-    Busy,
-    NoConnections,
-    Bogus,
-    Reset,
-    PolledAgain,
-    Other,
-}
-
-fn error(said: Said) -> NetError {
-    match said {
-        Said::Busy => NetError::Busy,
-        Said::NoConnections => NetError::NoConnections,
-        Said::Bogus => NetError::Dns(DnsError::DnssecBogus),
-        Said::Reset => NetError::Io(IoKind::ConnectionReset),
-        Said::PolledAgain => NetError::Message(Notice::PolledAfterCompletion),
-        _ => NetError::Timeout,
-    }
-}
-
-/// A response with an id and nothing else.
-fn with_id(alloc: Global, id: u16) -> DnsResponse {
-    let mut message = Message::query(alloc);
-    message.id = id;
-    response(alloc, message)
-}
-
-/// A reply that says this.
-pub(crate) fn reply(alloc: Global, said: Said) -> Result<DnsResponse, NetError> {
-    match said {
-        Said::Response(id) => Ok(with_id(alloc, id)),
-        _ => Err(error(said)),
-    }
-}
-
-/// What a reply says.
-pub(crate) fn said_by(reply: &Result<DnsResponse, NetError>) -> Said {
-    match reply {
-        Ok(response) => Said::Response(response.message.id),
-        Err(NetError::Timeout) => Said::TimedOut,
-        Err(NetError::Busy) => Said::Busy,
-        Err(NetError::NoConnections) => Said::NoConnections,
-        Err(NetError::Dns(DnsError::DnssecBogus)) => Said::Bogus,
-        Err(NetError::Io(IoKind::ConnectionReset)) => Said::Reset,
-        Err(NetError::Message(Notice::PolledAfterCompletion)) => Said::PolledAgain,
-        Err(_) => Said::Other,
     }
 }

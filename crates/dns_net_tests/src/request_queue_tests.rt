@@ -1,4 +1,4 @@
-use crate::parts::nothing;
+use crate::parts::{check, query};
 use dns_handle::NetError;
 use dns_requests::{BufDnsRequestStreamHandle, DnsResponseReceiver, OneshotDnsRequest};
 use std::alloc::Global;
@@ -21,7 +21,7 @@ fn told_by(sent: &Result<DnsResponseReceiver, NetError>) -> Told {
 
 /// What the queue tells of one request more.
 fn send(alloc: Global, queue: &mut BufDnsRequestStreamHandle) -> Told {
-    let sent = queue.send(nothing(alloc));
+    let sent = queue.send(query(alloc));
     let told = told_by(&sent);
     drop(sent);
     told
@@ -69,5 +69,5 @@ fn takes_33(alloc: Global) -> bool {
 
 #[test]
 fn a_queue_takes_33_requests(rt: HostRuntime) {
-    assert!(rt; takes_33(rt.alloc()));
+    check(&rt, "33 requests", takes_33(rt.alloc()));
 }

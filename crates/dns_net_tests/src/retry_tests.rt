@@ -1,11 +1,11 @@
-use crate::parts::{Said, query, reply, request, said_by};
-use crate::request_parts::{Waiting, check_waiting, said_in};
-use dns_handle::DnsHandle;
-use dns_model::NameError;
+use crate::replies::{Said, question, reply, said_by};
+use crate::waiting::{Waiting, check_waiting, said_in};
+use dns_handle::{DnsHandle, DnsRequest, DnsRequestOptions};
 use dns_recorded::Recorded;
 use dns_retry::{RetryDnsHandle, RetrySend};
 use futures::test::MockTask;
 use std::alloc::Global;
+use std::process::Abort;
 
 /// So many attempts of a client that is busy so often, and then gives these replies: each of them is asked for, and the last
 /// one answered.
@@ -80,55 +80,50 @@ fn rows() -> &'static [Row] {
 /// What the client gives behind all replies of a row.
 const NEXT: Said = Said::Response(9);
 
-fn record(alloc: Global, client: &mut Recorded, said: Said) -> Result<(), NameError> {
-    Ok(client.push(query(alloc, ".", 1)?, reply(alloc, said))?)
+fn record(rt: &impl Abort, alloc: Global, client: &mut Recorded, said: Said) {
+    let question = question(rt, alloc, ".", 1);
+    client
+        .push(question, reply(alloc, said))
+        .expect(rt, "memory");
 }
 
-fn fill(alloc: Global, client: &mut Recorded, row: &Row) -> Result<(), NameError> {
+fn fill(rt: &impl Abort, alloc: Global, client: &mut Recorded, row: &Row) {
     for _ in 0..row.busy {
-        record(alloc, client, Said::Busy)?;
+        record(rt, alloc, client, Said::Busy);
     }
     for said in row.replies {
-        record(alloc, client, *said)?;
+        record(rt, alloc, client, *said);
     }
-    record(alloc, client, NEXT)
+    record(rt, alloc, client, NEXT);
 }
 
-fn retrying(alloc: Global, row: &Row) -> Result<RetryDnsHandle<Recorded>, NameError> {
+fn retrying(rt: &impl Abort, alloc: Global, row: &Row) -> RetryDnsHandle<Recorded> {
     let mut client = Recorded::in_turn(alloc);
-    fill(alloc, &mut client, row)?;
-    Ok(RetryDnsHandle::new(client, row.attempts))
+    fill(rt, alloc, &mut client, row);
+    RetryDnsHandle::new(client, row.attempts)
 }
 
-/// What a send answers, unless memory lacks for its request.
-fn send(alloc: Global, retry: &mut RetryDnsHandle<Recorded>) -> Option<Said> {
-    match request(alloc, ".", 1) {
-        Ok(request) => {
-            let reply = retry.send(alloc, request, 0);
-            let said = said_by(&reply);
-            drop(reply);
-            Some(said)
-        }
-        Err(_) => None,
-    }
+/// A request for the question of each reply.
+fn request(rt: &impl Abort, alloc: Global) -> DnsRequest {
+    let question = question(rt, alloc, ".", 1);
+    DnsRequest::from_query(alloc, question, DnsRequestOptions::default()).expect(rt, "memory")
+}
+
+/// What a send answers.
+fn send(rt: &impl Abort, alloc: Global, retry: &mut RetryDnsHandle<Recorded>) -> Said {
+    let reply = retry.send(alloc, request(rt, alloc), 0);
+    let said = said_by(&reply);
+    drop(reply);
+    said
 }
 
 /// Whether a send answers the row's last reply, and the next one what the client gives behind it.
-fn is_sent(alloc: Global, row: &Row) -> bool {
-    match retrying(alloc, row) {
-        Ok(mut retry) => {
-            let last = send(alloc, &mut retry);
-            let next = send(alloc, &mut retry);
-            drop(retry);
-            last == row.replies.last().copied() && next == Some(NEXT)
-        }
-        Err(_) => false,
-    }
-}
-
-fn sending(alloc: Global, row: &Row) -> Result<RetrySend<Recorded>, NameError> {
-    let request = request(alloc, ".", 1)?;
-    Ok(retrying(alloc, row)?.send_polled(alloc, request, 0))
+fn is_sent(rt: &impl Abort, alloc: Global, row: &Row) -> bool {
+    let mut retry = retrying(rt, alloc, row);
+    let last = send(rt, alloc, &mut retry);
+    let next = send(rt, alloc, &mut retry);
+    drop(retry);
+    Some(last) == row.replies.last().copied() && next == NEXT
 }
 
 /// What a poll answers, if it does.
@@ -157,15 +152,12 @@ fn is_polled(sending: &mut RetrySend<Recorded>, row: &Row, task: &MockTask) -> b
         && poll_once(sending, task) == Some(Said::PolledAgain)
 }
 
-fn polls(alloc: Global, row: &Row, task: &MockTask) -> bool {
-    match sending(alloc, row) {
-        Ok(mut sending) => {
-            let held = is_polled(&mut sending, row, task);
-            drop(sending);
-            held
-        }
-        Err(_) => false,
-    }
+fn polls(rt: &impl Abort, alloc: Global, row: &Row, task: &MockTask) -> bool {
+    let request = request(rt, alloc);
+    let mut sending = retrying(rt, alloc, row).send_polled(alloc, request, 0);
+    let held = is_polled(&mut sending, row, task);
+    drop(sending);
+    held
 }
 
 impl Waiting for Row {
@@ -173,8 +165,8 @@ impl Waiting for Row {
         self.message
     }
 
-    fn holds(&self, alloc: Global, task: &MockTask) -> bool {
-        is_sent(alloc, self) && polls(alloc, self, task)
+    fn holds(&self, rt: &impl Abort, alloc: Global, task: &MockTask) -> bool {
+        is_sent(rt, alloc, self) && polls(rt, alloc, self, task)
     }
 }
 

@@ -1,12 +1,12 @@
-use crate::parts::{Said, reply, said_by};
-use crate::request_parts::{Waiting, check_waiting, said_in};
+use crate::replies::{Said, reply, said_by};
+use crate::waiting::{Waiting, check_waiting, said_in};
 use dns_handle::{DnsResponse, NetError};
-use dns_name::NoMemory;
 use dns_requests::{DnsResponseReceiver, DnsResponseStream, FirstAnswer};
 use futures::task::Poll;
 use futures::test::MockTask;
 use futures::{Future, Stream};
 use std::alloc::Global;
+use std::process::Abort;
 
 /// What a poll of a stream gives.
 #[derive(Clone, Copy, PartialEq, Eq)]
@@ -101,23 +101,21 @@ fn rows() -> &'static [Row] {
     ROWS
 }
 
-fn stream(alloc: Global, items: &[Said]) -> Result<DnsResponseStream, NoMemory> {
+fn stream(rt: &impl Abort, alloc: Global, items: &[Said]) -> DnsResponseStream {
     let mut all = Vec::new(alloc);
     for said in items {
-        all.push(reply(alloc, *said))?;
+        all.push(reply(alloc, *said)).expect(rt, "memory");
     }
-    Ok(DnsResponseStream::from_items(all))
+    DnsResponseStream::from_items(all)
 }
 
-fn settle(alloc: Global, receiver: &mut DnsResponseReceiver, made: &Made) -> Result<(), NoMemory> {
+/// What the receiver is settled with, if not with a refusal.
+fn settled(rt: &impl Abort, alloc: Global, made: &Made) -> Result<DnsResponseStream, NetError> {
     match made {
-        Made::Items(items) => receiver.settle(Ok(stream(alloc, items)?)),
-        Made::Single(item) => {
-            receiver.settle(Ok(DnsResponseStream::from_result(alloc, reply(alloc, *item))));
-        }
-        Made::Refusal => receiver.settle(Err(NetError::Busy)),
+        Made::Items(items) => Ok(stream(rt, alloc, items)),
+        Made::Single(item) => Ok(DnsResponseStream::from_result(alloc, reply(alloc, *item))),
+        Made::Refusal => Err(NetError::Busy),
     }
-    Ok(())
 }
 
 fn poll_once(receiver: &mut DnsResponseReceiver, task: &MockTask) -> Given {
@@ -146,13 +144,13 @@ fn stays_settled(receiver: &mut DnsResponseReceiver, polls: &[Given], task: &Moc
 }
 
 /// Whether a receiver waits, and gives what the row says once it is settled.
-fn is_streamed(alloc: Global, row: &Row, task: &MockTask) -> bool {
+fn is_streamed(rt: &impl Abort, alloc: Global, row: &Row, task: &MockTask) -> bool {
     let mut receiver = DnsResponseReceiver::Receiver(0);
     let waits = gives(&mut receiver, &[Given::Pending, Given::Pending], task);
-    let made = settle(alloc, &mut receiver, &row.made);
+    receiver.settle(settled(rt, alloc, &row.made));
     let held = stays_settled(&mut receiver, row.polls, task);
     drop(receiver);
-    made.is_ok() && waits && held
+    waits && held
 }
 
 /// What the first answer of a receiver says, and what a poll after it says.
@@ -173,11 +171,10 @@ fn first_twice(receiver: DnsResponseReceiver, task: &MockTask) -> [Option<Said>;
     said
 }
 
-fn is_answered(alloc: Global, row: &Row, task: &MockTask) -> bool {
+fn is_answered(rt: &impl Abort, alloc: Global, row: &Row, task: &MockTask) -> bool {
     let mut receiver = DnsResponseReceiver::Receiver(1);
-    let made = settle(alloc, &mut receiver, &row.made);
-    let said = first_twice(receiver, task);
-    made.is_ok() && said == [Some(row.first), Some(Said::PolledAgain)]
+    receiver.settle(settled(rt, alloc, &row.made));
+    first_twice(receiver, task) == [Some(row.first), Some(Said::PolledAgain)]
 }
 
 impl Waiting for Row {
@@ -185,8 +182,8 @@ impl Waiting for Row {
         self.message
     }
 
-    fn holds(&self, alloc: Global, task: &MockTask) -> bool {
-        is_streamed(alloc, self, task) && is_answered(alloc, self, task)
+    fn holds(&self, rt: &impl Abort, alloc: Global, task: &MockTask) -> bool {
+        is_streamed(rt, alloc, self, task) && is_answered(rt, alloc, self, task)
     }
 }
 

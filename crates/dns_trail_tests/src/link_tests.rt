@@ -1,5 +1,4 @@
-use crate::parts::{name, rdata};
-use crate::rows::check_row;
+use crate::rows::{check_row, name};
 use dns_evidence::{Chain, Link, all_shown, shows_ds, shows_key, shows_member};
 use dns_model::Section;
 use dns_name::NameRef;
@@ -8,7 +7,7 @@ use std::alloc::Global;
 use std::process::Abort;
 
 fn key(rt: &impl Abort, alloc: Global) -> Rdata {
-    rdata(rt, alloc, b"key")
+    Rdata::from_slice(alloc, b"key").expect(rt, "memory")
 }
 
 fn one_key(rt: &impl Abort, alloc: Global) -> Vec<Rdata> {

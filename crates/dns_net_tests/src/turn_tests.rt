@@ -1,10 +1,11 @@
 //! Replies that were recorded, served by turn and without turns.
-use crate::parts::{Said, nothing, query, reply, said_by};
-use crate::rows::{Row, check_rows};
+use crate::parts::{check, query};
+use crate::replies::{Said, question, reply, said_by};
 use dns_handle::{DnsHandle, DnsRequestOptions, DnsResponse, NetError, faults_after};
-use dns_model::NameError;
+use dns_record::Query;
 use dns_recorded::Recorded;
 use std::alloc::Global;
+use std::process::Abort;
 
 /// What is done with a handle. A name and a type are those of a query.
 #[derive(Clone, Copy, Drop)]
@@ -115,14 +116,10 @@ fn scripts() -> &'static [(&'static str, Script)] {
     SCRIPTS
 }
 
-fn put(
-    alloc: Global,
-    handle: &mut Recorded,
-    name: &str,
-    record_type: u16,
-    said: Said,
-) -> Result<(), NameError> {
-    Ok(handle.push(query(alloc, name, record_type)?, reply(alloc, said))?)
+fn put(rt: &impl Abort, alloc: Global, handle: &mut Recorded, question: Query, said: Said) {
+    handle
+        .push(question, reply(alloc, said))
+        .expect(rt, "memory");
 }
 
 /// What a count of 7 faults is after such a reply.
@@ -140,29 +137,36 @@ fn is_reply(reply: Result<DnsResponse, NetError>, said: Said) -> bool {
     held
 }
 
-fn sends(alloc: Global, handle: &mut Recorded, name: &str, record_type: u16, said: Said) -> bool {
-    match query(alloc, name, record_type) {
-        Ok(query) => is_reply(
-            handle.lookup(alloc, query, DnsRequestOptions::default(), 1000),
-            said,
-        ),
-        Err(_) => false,
-    }
+/// Whether the question, when it is sent, is answered so.
+fn sends(alloc: Global, handle: &mut Recorded, question: Query, said: Said) -> bool {
+    let options = DnsRequestOptions::default();
+    is_reply(handle.lookup(alloc, question, options, 1000), said)
 }
 
 /// The step goes as it says.
-fn goes(alloc: Global, handle: &mut Recorded, step: Step) -> bool {
+fn goes(rt: &impl Abort, alloc: Global, handle: &mut Recorded, step: Step) -> bool {
     match step {
-        Step::Put(name, record_type, said) => put(alloc, handle, name, record_type, said).is_ok(),
-        Step::Send(name, record_type, said) => sends(alloc, handle, name, record_type, said),
-        Step::SendNothing => is_reply(handle.send(alloc, nothing(alloc), 1000), Said::TimedOut),
+        Step::Put(name, record_type, said) => {
+            put(
+                rt,
+                alloc,
+                handle,
+                question(rt, alloc, name, record_type),
+                said,
+            );
+            true
+        }
+        Step::Send(name, record_type, said) => {
+            sends(alloc, handle, question(rt, alloc, name, record_type), said)
+        }
+        Step::SendNothing => is_reply(handle.send(alloc, query(alloc), 1000), Said::TimedOut),
     }
 }
 
 /// Each step goes as it says, and the handle takes what a server says and verifies nothing.
-fn all_go(alloc: Global, handle: &mut Recorded, steps: &[Step]) -> bool {
+fn all_go(rt: &impl Abort, alloc: Global, handle: &mut Recorded, steps: &[Step]) -> bool {
     for step in steps {
-        if !goes(alloc, handle, *step) {
+        if !goes(rt, alloc, handle, *step) {
             return false;
         }
     }
@@ -177,16 +181,16 @@ fn handle(alloc: Global, by_turn: bool) -> Recorded {
     }
 }
 
-impl Row for Script {
-    fn holds(&self, alloc: Global) -> bool {
-        let mut handle = handle(alloc, self.0);
-        let held = all_go(alloc, &mut handle, self.1);
-        drop(handle);
-        held
-    }
+fn holds(rt: &impl Abort, alloc: Global, script: &Script) -> bool {
+    let mut handle = handle(alloc, script.0);
+    let held = all_go(rt, alloc, &mut handle, script.1);
+    drop(handle);
+    held
 }
 
 #[test]
 fn recorded_replies_are_served(rt: HostRuntime) {
-    check_rows(&rt, rt.alloc(), scripts());
+    for script in scripts() {
+        check(&rt, script.0, holds(&rt, rt.alloc(), &script.1));
+    }
 }

@@ -1,6 +1,6 @@
 //! Requests that wait: a task in which polls are made by hand, and what a poll says.
-use crate::parts::{Said, said_by};
-use crate::rows::check_row;
+use crate::parts::check;
+use crate::replies::{Said, said_by};
 use dns_handle::{DnsResponse, NetError};
 use futures::task::Poll;
 use futures::test::MockTask;
@@ -22,7 +22,7 @@ pub(crate) trait Waiting {
     fn message(&self) -> &str;
 
     /// Whether it holds where the task polls.
-    fn holds(&self, alloc: Global, task: &MockTask) -> bool;
+    fn holds(&self, rt: &impl Abort, alloc: Global, task: &MockTask) -> bool;
 }
 
 /// Each row of a table holds in a task in which polls are made by hand.
@@ -30,12 +30,9 @@ pub(crate) fn check_waiting<W: Waiting>(
     rt: &(impl Abort + RandomSource + AllocGlobal),
     rows: &[W],
 ) {
-    let made = MockTask::new(rt).ok();
-    assert!(rt; made.is_some());
-    if let Some(task) = made {
-        for row in rows {
-            check_row(rt, row.message(), row.holds(rt.alloc(), &task));
-        }
-        drop(task);
+    let task = MockTask::new(rt).ok().expect(rt, "a task");
+    for row in rows {
+        check(rt, row.message(), row.holds(rt, rt.alloc(), &task));
     }
+    drop(task);
 }
