@@ -1,13 +1,11 @@
 //! What calls answered, as plain words: each reply with its error is looked at in one place.
-use dns_handle::{DnsResponse, IoKind, NetError, Notice, ProtoError};
+use dns_handle::{DnsResponse, IoKind, NetError};
 
 /// What a call answered.
 #[derive(Clone, Copy, PartialEq, Eq)]
 pub(crate) enum Heard {
     /// A response with the id.
     Id(u16),
-    /// A response that asks for the original question, letter for letter.
-    Original,
     /// What was to be made.
     Made,
     /// A message of a stream, whose bytes are put elsewhere.
@@ -16,28 +14,11 @@ pub(crate) enum Heard {
     Closed,
     Written,
     Waiting,
-    Pending,
-    Ended,
     Fault(IoKind),
     Timeout,
     NoConnections,
     Busy,
-    Mismatch,
-    TooLong,
-    Undecodable,
-    Short,
-    QueueFull,
-    Exhausted,
     Other,
-}
-
-fn heard_notice(notice: Notice) -> Heard {
-    match notice {
-        Notice::NotAllBytesSent => Heard::Short,
-        Notice::SendQueueFull => Heard::QueueFull,
-        Notice::IdSpaceExhausted => Heard::Exhausted,
-        _ => Heard::Other,
-    }
 }
 
 /// What an error is heard as.
@@ -47,10 +28,6 @@ pub(crate) fn heard_error(error: &NetError) -> Heard {
         NetError::Timeout => Heard::Timeout,
         NetError::NoConnections => Heard::NoConnections,
         NetError::Busy => Heard::Busy,
-        NetError::QueryCaseMismatch => Heard::Mismatch,
-        NetError::Proto(ProtoError::TooLong) => Heard::TooLong,
-        NetError::Proto(ProtoError::Decode(_)) => Heard::Undecodable,
-        NetError::Message(notice) => heard_notice(*notice),
         _ => Heard::Other,
     }
 }

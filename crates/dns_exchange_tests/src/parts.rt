@@ -8,14 +8,6 @@ use std::alloc::Global;
 use std::net::{IpAddr, Ipv4Addr, SocketAddr};
 use std::process::Abort;
 
-/// A request of id 1 that asks for addresses of `a.`.
-pub(crate) const ASKED: &[u8] =
-    b"\x00\x01\x01\x00\x00\x01\x00\x00\x00\x00\x00\x00\x01a\x00\x00\x01\x00\x01";
-
-/// A response to it.
-pub(crate) const ANSWER: &[u8] =
-    b"\x00\x01\x81\x80\x00\x01\x00\x00\x00\x00\x00\x00\x01a\x00\x00\x01\x00\x01";
-
 /// What was tried held; the message names it.
 pub(crate) fn check(rt: &impl Abort, what: &str, held: bool)
     ensures { held ≡ true }
@@ -28,23 +20,13 @@ pub(crate) fn server() -> SocketAddr {
     SocketAddr::new(IpAddr::V4(Ipv4Addr::new(127, 0, 0, 1)), 53)
 }
 
-fn request_with(message: Message) -> DnsRequest {
+/// A query without a question.
+pub(crate) fn query(alloc: Global) -> DnsRequest {
     DnsRequest {
-        message,
+        message: Message::query(alloc),
         options: DnsRequestOptions::default(),
         original: None,
     }
-}
-
-/// A query without a question.
-pub(crate) fn query(alloc: Global) -> DnsRequest {
-    request_with(Message::query(alloc))
-}
-
-/// The request of these bytes, of which there are few.
-pub(crate) fn request_of(rt: &impl Abort, alloc: Global, bytes: &[u8]) -> DnsRequest {
-    check(rt, "a short message", bytes.len() <= 512);
-    request_with(Message::from_vec(alloc, bytes).expect(rt, "a message"))
 }
 
 /// A response without a question (RFC 1035, 4.1.1).

@@ -2,35 +2,11 @@ use crate::parts::check;
 use dns_datagrams::{Retries, next_port};
 use dns_handle::IoKind;
 use dns_link::{Clock, Dialer, FixedClock, SocketDialer, SystemClock};
-use dns_mux::{Draws, ListDraws, RandDraws};
+use dns_mux::ListDraws;
 use dns_name::NoMemory;
 use std::alloc::Global;
 use std::collections::BTreeSet;
 use std::net::{IpAddr, Ipv4Addr, SocketAddr};
-
-/// Whether two generators draw alike in a row.
-fn are_alike(a: &mut RandDraws, b: &mut RandDraws) -> bool {
-    for _ in 0..20 {
-        if a.id() != b.id() || a.port() != b.port() {
-            return false;
-        }
-    }
-    true
-}
-
-#[test]
-fn draws_go_by_the_seed(rt: HostRuntime) {
-    check(
-        &rt,
-        "one seed gives one row of draws",
-        are_alike(&mut RandDraws::from_seed(5), &mut RandDraws::from_seed(5)),
-    );
-    check(
-        &rt,
-        "another seed gives another",
-        !are_alike(&mut RandDraws::from_seed(5), &mut RandDraws::from_seed(6)),
-    );
-}
 
 /// The port that is drawn where 2000 is avoided and so many draws give it before 2001, and how many attempts there were.
 fn attempted(alloc: Global, avoided: usize) -> Result<(u16, u8), NoMemory> {
