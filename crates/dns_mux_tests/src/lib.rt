@@ -1,4 +1,5 @@
-//! Tests of the multiplexer, of its queue and of its draws, by what `dns_mux` gives.
+//! Tests of the multiplexer, of its queue and of its draws; of requests that wait, of what is polled for them, of sends that are
+//! made again, and of replies by turn: by what `dns_mux`, `dns_requests`, `dns_retry` and `dns_recorded` give.
 //!
 //! They stand apart, since a crate with tests of its own is proved twice.
 #![tactic(auto)]
@@ -12,6 +13,18 @@ mod parts;
 #[cfg(test)]
 mod queue_tests;
 #[cfg(test)]
+mod replies;
+#[cfg(test)]
+mod request_queue_tests;
+#[cfg(test)]
+mod retry_tests;
+#[cfg(test)]
 mod script;
 #[cfg(test)]
 mod script_tests;
+#[cfg(test)]
+mod stream_tests;
+#[cfg(test)]
+mod turn_tests;
+#[cfg(test)]
+mod waiting;
