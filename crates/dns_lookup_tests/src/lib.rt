@@ -1,6 +1,5 @@
 //! Tests of lookups: what a lookup and a whole request send and refuse; replies by turn; validations that are driven by hand, which
-//! answer as lookups do; sets that are kept, and served from what was kept; how often the verifier is asked; and the code of
-//! docs/LIBRARY.md.
+//! answer as lookups do; sets that are kept, and served from what was kept; and how often the verifier is asked.
 //!
 //! They stand apart, since a crate with tests of its own is proved twice.
 #![tactic(auto)]
@@ -19,8 +18,6 @@ mod iteration_tests;
 mod kept_tests;
 #[cfg(test)]
 mod large_tests;
-#[cfg(test)]
-mod library_tests;
 #[cfg(test)]
 mod lookup_tests;
 #[cfg(test)]
