@@ -1,71 +1,79 @@
 //! Trails of sets that are served from what was kept (RFC 4035, 4.5): the answer of a walk by DS is kept, and looked up again.
 use crate::given::{
-    Answer, anchors_of, answer_of, ask_scene, derives, trail_of, trusted_of, upstream_of,
-    verifier_of,
+    MOMENT, anchors_of, ask_scene, derives, upstream_of, validator_of, verifier_of,
 };
 use crate::rows::check_held;
 use crate::scenes::walk_by_ds;
-use dns_chain::{
-    CacheKey, Chain, DnssecDnsHandle, Entry, IterationLimits, Limits, ListCache, Proof, Record,
-    RecordSet, RrsetProof, TrustAnchors, ValidationCache,
-};
-use dns_net::{Asked, DnsResponse, MarkOrigin, NetError, Reply};
+use dns_cache::{CacheKey, Entry, ListCache, RrsetProof, ValidationCache};
+use dns_evidence::{Asked, Chain, IterationLimits, Limits, Reply};
+use dns_handle::DnsResponse;
+use dns_lookup::DnssecDnsHandle;
+use dns_model::{MarkOrigin, Proof};
+use dns_record::{Record, RecordSet};
+use dns_trust::TrustAnchors;
 use std::alloc::Global;
+use std::process::Abort;
 
-/// What was kept.
+/// What was kept of the set: until when, with how many links of its chain, and whether by its first signature or by none.
 #[derive(Clone, Copy)]
-enum Kept {
-    /// The set, as the lookup left it, until this moment.
-    Until(u64),
-    /// The set with its chain but for the last link.
-    Shortened,
-    /// The set by no signature.
-    ByNone,
-    Nothing,
-}
+struct Kept(u64, usize, bool);
 
 /// What is shown, what was kept, the moment of the second lookup, and whether its trail is a derivation.
-struct Row(&'static str, Kept, u64, bool);
+struct Row(&'static str, Option<Kept>, u64, bool);
 
+#[rattlefmt::skip]
 const ROWS: &[Row] = &[
-    Row("served", Kept::Until(1600), 1500, true),
-    Row("its time is up", Kept::Until(1500), 1500, false),
-    Row("its signature has ended", Kept::Until(9000), 2001, false),
-    Row("the chain of another set", Kept::Shortened, 1500, false),
-    Row("another signature", Kept::ByNone, 1500, false),
-    Row("nothing was kept", Kept::Nothing, 1500, false),
+    Row("served", Some(Kept(1600, 6, true)), 1500, true),
+    Row("its time is up", Some(Kept(1500, 6, true)), 1500, false),
+    Row("its signature has ended", Some(Kept(9000, 6, true)), 2001, false),
+    Row("the chain of another set", Some(Kept(9000, 5, true)), 1500, false),
+    Row("another signature", Some(Kept(9000, 6, false)), 1500, false),
+    Row("nothing was kept", None, 1500, false),
 ];
+
+fn rows() -> &'static [Row] {
+    ROWS
+}
 
 #[test]
 fn kept_sets_serve(rt: HostRuntime) {
-    for row in ROWS {
-        check_held(&rt, row.0, is_derivation(rt.alloc(), row) == Some(row.3));
+    for row in rows() {
+        let held = is_derivation(&rt, rt.alloc(), row);
+        check_held(&rt, row.0, held == row.3);
     }
 }
 
 #[test]
 fn kept_sets_serve_a_lookup(rt: HostRuntime) {
-    for row in ROWS {
-        let served = is_served(rt.alloc(), row.1, row.2, true);
+    for row in rows() {
+        let served = is_served(&rt, rt.alloc(), row, true);
         check_held(&rt, row.0, served == Some(row.3));
     }
-    let other = is_served(rt.alloc(), Kept::Until(1600), 1500, false);
+    let row = rows().first().expect(&rt, "a row");
+    let other = is_served(&rt, rt.alloc(), row, false);
     check_held(&rt, "by other anchors", other == Some(false));
+}
+
+// What a lookup answers, over no cache.
+fn first_response(rt: &impl Abort, alloc: Global) -> DnsResponse {
+    let mut validator = validator_of(rt, alloc, walk_by_ds());
+    let answer = ask_scene(rt, alloc, &mut validator, walk_by_ds(), MOMENT);
+    drop(validator.into_inner());
+    answer.expect(rt, "an answer")
 }
 
 // Whether a lookup over a cache that holds what was kept serves the set from it, with the scene's anchors or with none; else it judges
 // the set anew.
-fn is_served(alloc: Global, kept: Kept, moment: u64, trusts: bool) -> Option<bool> {
-    let cache = holding(alloc, kept_by(alloc, kept)?);
-    let answer = looked_up(alloc, cache, moment, trusts);
-    let held = is_from_cache(&answer);
-    drop(answer);
+fn is_served(rt: &impl Abort, alloc: Global, row: &Row, trusts: bool) -> Option<bool> {
+    let response = second_response(rt, alloc, row, trusts);
+    let held = is_from_cache(&response);
+    drop(response);
     held
 }
 
 // Whether the first set of the last step is served from the cache; None where it repeats a step.
-fn is_from_cache(answer: &Answer) -> Option<bool> {
-    let set = trail_of(answer)?.steps.last()?.sets.first()?;
+fn is_from_cache(response: &DnsResponse) -> Option<bool> {
+    let set = response.trail.steps.last()?.sets.first()?;
     match set.origin {
         MarkOrigin::Cache => Some(true),
         MarkOrigin::Table => Some(false),
@@ -73,68 +81,59 @@ fn is_from_cache(answer: &Answer) -> Option<bool> {
     }
 }
 
-// A cache of the one entry that was kept, if there is one.
-fn holding(alloc: Global, kept: Vec<Entry>) -> ListCache {
-    let mut cache = ListCache::new(alloc, 100);
-    let mut kept = kept;
-    if let Some(entry) = kept.pop() {
-        let _ = cache.insert(alloc, entry);
-    }
-    drop(kept);
-    cache
-}
-
-fn anchors_for(alloc: Global, trusts: bool) -> TrustAnchors {
+fn anchors_for(rt: &impl Abort, alloc: Global, trusts: bool) -> TrustAnchors {
     if trusts {
-        return anchors_of(alloc, walk_by_ds());
+        return anchors_of(rt, alloc, walk_by_ds());
     }
     TrustAnchors::empty(alloc)
 }
 
-fn looked_up(alloc: Global, cache: ListCache, moment: u64, trusts: bool) -> Answer {
-    let upstream = upstream_of(alloc, walk_by_ds());
-    let verifier = verifier_of(alloc, walk_by_ds());
-    let anchors = anchors_for(alloc, trusts);
-    let Ok(mut validator) = DnssecDnsHandle::with_cache(upstream, anchors, verifier, cache) else {
-        return Err(NetError::NoMemory);
-    };
-    let answer = ask_scene(alloc, &mut validator, walk_by_ds(), moment);
-    drop(validator);
-    answer
+// A cache of the one entry that was kept, if there is one.
+fn holding(rt: &impl Abort, alloc: Global, row: &Row) -> ListCache {
+    let mut cache = ListCache::new(alloc, 100);
+    if let Some(kept) = row.1 {
+        let response = first_response(rt, alloc);
+        let entry = entry_of(rt, alloc, &response, kept);
+        drop(response);
+        cache.insert(alloc, entry).expect(rt, "memory");
+    }
+    cache
+}
+
+fn second_response(rt: &impl Abort, alloc: Global, row: &Row, trusts: bool) -> DnsResponse {
+    let cache = holding(rt, alloc, row);
+    let upstream = upstream_of(rt, alloc, walk_by_ds());
+    let verifier = verifier_of(rt, alloc, walk_by_ds());
+    let anchors = anchors_for(rt, alloc, trusts);
+    let made = DnssecDnsHandle::with_cache(upstream, anchors, verifier, cache);
+    let mut validator = made.expect(rt, "a validator");
+    let answer = ask_scene(rt, alloc, &mut validator, walk_by_ds(), row.2);
+    drop(validator.into_inner());
+    answer.expect(rt, "an answer")
 }
 
 // Whether the trail of a second lookup whose one set is served is a derivation.
-fn is_derivation(alloc: Global, row: &Row) -> Option<bool> {
-    let kept = kept_by(alloc, row.1)?;
-    let mut answer = answer_of(alloc, walk_by_ds());
-    serve(&mut answer);
-    let held = holds(alloc, &kept, &answer, row.2);
-    drop(answer);
-    drop(kept);
-    held
-}
-
-fn holds(alloc: Global, kept: &[Entry], answer: &Answer, moment: u64) -> Option<bool> {
-    let trail = trail_of(answer)?;
-    let trusted = trusted_of(alloc, walk_by_ds());
+fn is_derivation(rt: &impl Abort, alloc: Global, row: &Row) -> bool {
+    let mut response = first_response(rt, alloc);
+    let mut all = Vec::new(alloc);
+    if let Some(kept) = row.1 {
+        all.push(entry_of(rt, alloc, &response, kept))
+            .expect(rt, "memory");
+    }
+    serve_last(&mut response.trail.steps);
     let limits = Limits {
         depth: 26,
         soft: IterationLimits::DEFAULT.soft,
         hard: IterationLimits::DEFAULT.hard,
     };
-    let held = derives(alloc, &trusted, moment, &limits, kept, trail);
-    drop(trusted);
+    let trail = &response.trail;
+    let held = derives(rt, alloc, walk_by_ds(), row.2, &limits, &all, trail);
+    drop(all);
+    drop(response);
     held
 }
 
-// Makes of a trail that of a lookup whose one set is served.
-fn serve(answer: &mut Answer) {
-    if let Ok(response) = answer {
-        serve_last(&mut response.trail.steps);
-    }
-}
-
-// The last step alone stays.
+// Makes of a trail that of a lookup whose one set is served: the last step alone stays.
 fn serve_last(steps: &mut Vec<Asked>) {
     let last = steps.len().saturating_sub(1);
     if last < steps.len() {
@@ -153,81 +152,51 @@ fn serve_step(step: &mut Asked) {
     }
 }
 
-// What was kept of the answer's set: one entry or none.
-fn kept_by(alloc: Global, kept: Kept) -> Option<Vec<Entry>> {
-    let answer = answer_of(alloc, walk_by_ds());
-    let all = kept_in(alloc, &answer, kept);
-    drop(answer);
-    all
-}
-
-fn kept_in(alloc: Global, answer: &Answer, kept: Kept) -> Option<Vec<Entry>> {
-    match answer {
-        Ok(response) => kept_of(alloc, response, kept),
-        Err(_) => None,
-    }
-}
-
-fn kept_of(alloc: Global, response: &DnsResponse, kept: Kept) -> Option<Vec<Entry>> {
-    let entry = match kept {
-        Kept::Until(until) => entry_of(alloc, response, until, 6, true)?,
-        Kept::Shortened => entry_of(alloc, response, 9000, 5, true)?,
-        Kept::ByNone => entry_of(alloc, response, 9000, 6, false)?,
-        Kept::Nothing => return Some(Vec::new(alloc)),
-    };
-    let mut all = Vec::new(alloc);
-    all.push(entry).ok()?;
-    Some(all)
-}
-
-// The set with so many links of its chain, by its first signature or by none.
-fn entry_of(
-    alloc: Global,
-    response: &DnsResponse,
-    until: u64,
-    links: usize,
-    signed: bool,
-) -> Option<Entry> {
-    let key = key_of(alloc, response.trail.steps.last()?)?;
-    let chain = shortened(response.chains.first()?, links)?;
+// What was kept of the response's set.
+fn entry_of(rt: &impl Abort, alloc: Global, response: &DnsResponse, kept: Kept) -> Entry {
+    let Kept(until, links, signed) = kept;
+    let step = response.trail.steps.last().expect(rt, "a step");
+    let chain = response.chains.first().expect(rt, "a chain");
     let found = RrsetProof {
         proof: Proof::Secure,
         adjusted_ttl: Some(1000),
         rrsig_index: if signed { Some(0) } else { None },
     };
-    Some(Entry::new(key, until, Ok(found), Some(chain)))
+    let key = key_of(rt, alloc, step);
+    Entry::new(key, until, Ok(found), Some(shortened(rt, chain, links)))
 }
 
-fn shortened(chain: &Chain, links: usize) -> Option<Chain> {
-    let mut chain = chain.try_clone().ok()?;
+// The chain with so many links.
+fn shortened(rt: &impl Abort, chain: &Chain, links: usize) -> Chain {
+    let mut chain = chain.try_clone().expect(rt, "memory");
     chain.links.truncate(links);
-    Some(chain)
+    chain
 }
 
-// The key of the set that a step heard: a record, and its signature.
-fn key_of(alloc: Global, step: &Asked) -> Option<CacheKey> {
+// The key of the set that a step heard.
+fn key_of(rt: &impl Abort, alloc: Global, step: &Asked) -> CacheKey {
+    let set = set_of(rt, alloc, answers_of(step));
+    let key = CacheKey::of(&step.query, &set).expect(rt, "memory");
+    drop(set);
+    key
+}
+
+// The answers that a step heard.
+fn answers_of(step: &Asked) -> &[Record] {
     match &step.reply {
-        Reply::Told(told) => key_in(alloc, step, &told.answers),
-        Reply::Fault => None,
+        Reply::Told(told) => told.answers.as_slice(),
+        Reply::Fault => &[],
     }
 }
 
-fn key_in(alloc: Global, step: &Asked, answers: &[Record]) -> Option<CacheKey> {
-    match answers {
-        [record, signature] => {
-            let set = set_of(alloc, record, signature)?;
-            CacheKey::of(&step.query, &set).ok()
-        }
-        _ => None,
-    }
-}
-
-fn set_of(alloc: Global, record: &Record, signature: &Record) -> Option<RecordSet> {
-    let mut set = RecordSet::of(alloc, record.try_clone().ok()?).ok()?;
-    sign(&mut set, signature)?;
-    Some(set)
-}
-
-fn sign(set: &mut RecordSet, signature: &Record) -> Option<()> {
-    set.rrsigs.push(signature.try_clone().ok()?).ok()
+// The set of two records, of which the other is the signature.
+fn set_of(rt: &impl Abort, alloc: Global, answers: &[Record]) -> RecordSet {
+    check_held(rt, "a record and its signature", answers.len() == 2);
+    let first = answers.first().expect(rt, "a record");
+    let last = answers.last().expect(rt, "a signature");
+    let record = first.try_clone().expect(rt, "memory");
+    let mut set = RecordSet::of(alloc, record).expect(rt, "memory");
+    let signature = last.try_clone().expect(rt, "memory");
+    set.rrsigs.push(signature).expect(rt, "memory");
+    set
 }

@@ -1,10 +1,15 @@
 //! When what a validation leaves to be kept expires (RFC 4035, 4.7 and 5.3.3).
-use crate::given::{MOMENT, Trusted, begun, judge_of, trusted_of, upstream_of};
+use crate::given::{MOMENT, anchors_of, options_to, query_of, upstream_of, verifier_of};
 use crate::kept_tests::{Given, scene_of};
 use crate::rows::check_held;
-use dns_chain::{Listed, TtlRange, TtlRanges, Validation, Wanted};
-use dns_net::{DnsHandle, Recorded};
+use dns_cache::{TtlRange, TtlRanges};
+use dns_evidence::{IterationLimits, Listed};
+use dns_handle::DnsHandle;
+use dns_recorded::Recorded;
+use dns_trust::Judge;
+use dns_validation::{Validation, Wanted};
 use std::alloc::Global;
+use std::process::Abort;
 
 /// What is looked up, for how many seconds what isn't an error is kept at least and at most, and when each entry expires that is left.
 struct Row(&'static str, Given, u64, u64, &'static [u64]);
@@ -20,16 +25,24 @@ const ROWS: &[Row] = &[
 #[test]
 fn what_is_left_expires(rt: HostRuntime) {
     for row in ROWS {
-        check_held(&rt, row.0, expire_so(rt.alloc(), row));
+        check_held(&rt, row.0, expire_so(&rt, rt.alloc(), row));
     }
 }
 
-fn expire_so(alloc: Global, row: &Row) -> bool {
-    let trusted = trusted_of(alloc, scene_of(row.1));
-    let mut left = Vec::new(alloc);
-    let held = is_driven(alloc, &trusted, row, &mut left) == Some(true) && left.as_slice() == row.4;
+// The entries that are left by what the row's scene trusts expire as the row says.
+fn expire_so(rt: &impl Abort, alloc: Global, row: &Row) -> bool {
+    let anchors = anchors_of(rt, alloc, scene_of(row.1));
+    let verifier = verifier_of(rt, alloc, scene_of(row.1));
+    let judge = Judge {
+        verifier: &verifier,
+        anchors: &anchors,
+        moment: MOMENT,
+    };
+    let left = left_by(rt, alloc, judge, row);
+    let held = left.as_slice() == row.4;
     drop(left);
-    drop(trusted);
+    drop(verifier);
+    drop(anchors);
     held
 }
 
@@ -43,28 +56,30 @@ fn ranges_of(row: &Row) -> TtlRanges {
     ranges
 }
 
-// Drives such a validation, where nothing is kept, and notes when each entry expires that it gives out.
-fn is_driven(alloc: Global, trusted: &Trusted, row: &Row, left: &mut Vec<u64>) -> Option<bool> {
+// Drives such a validation to its end, where nothing is kept: when each entry expires that it gives out.
+fn left_by(rt: &impl Abort, alloc: Global, judge: Judge<'_, Listed>, row: &Row) -> Vec<u64> {
     let scene = scene_of(row.1);
-    let mut validation = begun(
+    let query = query_of(rt, alloc, scene.name, scene.query_type);
+    let (options, limits) = (options_to(scene.depth), IterationLimits::DEFAULT);
+    let mut validation = Validation::new(
         alloc,
-        judge_of(trusted),
-        scene.name,
-        scene.query_type,
-        scene.depth,
+        judge,
+        query,
+        options,
+        limits,
         ranges_of(row),
-    )?;
-    let mut upstream = upstream_of(alloc, scene);
-    let mut held = true;
+    ).expect(rt, "memory");
+    let mut upstream = upstream_of(rt, alloc, scene);
+    let mut left = Vec::new(alloc);
     for _ in 0..100_u32 {
         if !goes_on(alloc, &mut upstream, &mut validation) {
             break;
         }
-        held = held && is_noted(&mut validation, left);
+        note(rt, &mut validation, &mut left);
     }
     drop(upstream);
-    drop(validation);
-    Some(held)
+    drop(validation.into_answer().expect(rt, "an end"));
+    left
 }
 
 // Tells a validation what it wants; false where it wants nothing.
@@ -88,18 +103,14 @@ fn goes_on(
 }
 
 // Notes when what it gives out expires, to the last.
-fn is_noted(validation: &mut Validation<'_, Listed>, left: &mut Vec<u64>) -> bool {
+fn note(rt: &impl Abort, validation: &mut Validation<'_, Listed>, left: &mut Vec<u64>) {
     for _ in 0..100_u32 {
         match validation.kept() {
             Some(entry) => {
-                let expires = entry.expires;
+                left.push(entry.expires).expect(rt, "memory");
                 drop(entry);
-                if left.push(expires).is_err() {
-                    return false;
-                }
             }
-            None => return true,
+            None => return,
         }
     }
-    false
 }

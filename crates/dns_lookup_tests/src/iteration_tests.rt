@@ -1,13 +1,13 @@
 //! How many iterations of the hash of NSEC3 records a lookup counts, and whoever checks its trail (RFC 9276, 3.2). A name has no address,
 //! as one record says that is hashed a hundred times.
-use crate::given::{
-    Answer, MOMENT, ask_scene, derives, trail_of, trusted_of, upstream_of, validator_over,
-};
+use crate::given::{Answer, MOMENT, ask_scene, derives, validator_of};
 use crate::rows::check_held;
 use crate::scenes::hashed;
-use dns_chain::{Denial, Limits, NetError, Proof};
-use dns_net::DnsError;
+use dns_evidence::Limits;
+use dns_handle::{DnsError, DnsResponse, NetError};
+use dns_model::{Denial, Proof};
 use std::alloc::Global;
+use std::process::Abort;
 
 /// What is shown, by which limits, and with which mark the denial counts.
 struct Row(&'static str, Option<u16>, Option<u16>, Proof);
@@ -22,13 +22,11 @@ const ROWS: &[Row] = &[
 ];
 
 /// The answer by a validator with these limits.
-fn look_up(alloc: Global, soft: Option<u16>, hard: Option<u16>) -> Answer {
-    let Some(made) = validator_over(alloc, upstream_of(alloc, hashed()), hashed()) else {
-        return Err(NetError::NoMemory);
-    };
+fn look_up(rt: &impl Abort, alloc: Global, soft: Option<u16>, hard: Option<u16>) -> Answer {
+    let made = validator_of(rt, alloc, hashed());
     let mut limited = made.nsec3_iteration_limits(soft, hard);
-    let answer = ask_scene(alloc, &mut limited, hashed(), MOMENT);
-    drop(limited);
+    let answer = ask_scene(rt, alloc, &mut limited, hashed(), MOMENT);
+    drop(limited.into_inner());
     answer
 }
 
@@ -44,8 +42,8 @@ fn mark_of(answer: &Answer) -> Option<Proof> {
     }
 }
 
-fn mark_by(alloc: Global, soft: Option<u16>, hard: Option<u16>) -> Option<Proof> {
-    let answer = look_up(alloc, soft, hard);
+fn mark_by(rt: &impl Abort, alloc: Global, row: &Row) -> Option<Proof> {
+    let answer = look_up(rt, alloc, row.1, row.2);
     let mark = mark_of(&answer);
     drop(answer);
     mark
@@ -54,36 +52,31 @@ fn mark_by(alloc: Global, soft: Option<u16>, hard: Option<u16>) -> Option<Proof>
 #[test]
 fn iterations_count_up_to_the_limits_of_a_validator(rt: HostRuntime) {
     for row in ROWS {
-        let mark = mark_by(rt.alloc(), row.1, row.2);
+        let mark = mark_by(&rt, rt.alloc(), row);
         check_held(&rt, row.0, mark == Some(row.3));
     }
 }
 
-/// The trail of an answer is a derivation by these limits.
-fn derives_by(alloc: Global, answer: &Answer, soft: u16, hard: u16) -> Option<bool> {
-    let trail = trail_of(answer)?;
-    let trusted = trusted_of(alloc, hashed());
+#[test]
+fn a_trail_holds_by_limits_that_count_its_records(rt: HostRuntime) {
+    let held = holds_by_its_own(&rt, rt.alloc());
+    check_held(&rt, "by its own limits, and not by less", held);
+}
+
+fn holds_by_its_own(rt: &impl Abort, alloc: Global) -> bool {
+    let response = look_up(rt, alloc, None, None).expect(rt, "an answer");
+    let own = derives_by(rt, alloc, &response, 100);
+    let less = derives_by(rt, alloc, &response, 99);
+    drop(response);
+    own && !less
+}
+
+/// The trail of a response is a derivation by this soft limit, and the hard one of 500.
+fn derives_by(rt: &impl Abort, alloc: Global, response: &DnsResponse, soft: u16) -> bool {
     let limits = Limits {
         depth: hashed().depth,
         soft,
-        hard,
+        hard: 500,
     };
-    let held = derives(alloc, &trusted, MOMENT, &limits, &[], trail);
-    drop(trusted);
-    held
-}
-
-/// It is one by its own limits, and none by less.
-fn holds_by_its_own(alloc: Global) -> bool {
-    let answer = look_up(alloc, None, None);
-    let own = derives_by(alloc, &answer, 100, 500);
-    let less = derives_by(alloc, &answer, 99, 500);
-    drop(answer);
-    own == Some(true) && less == Some(false)
-}
-
-#[test]
-fn a_trail_holds_by_limits_that_count_its_records(rt: HostRuntime) {
-    let held = holds_by_its_own(rt.alloc());
-    check_held(&rt, "by its own limits, and not by less", held);
+    derives(rt, alloc, hashed(), MOMENT, &limits, &[], &response.trail)
 }

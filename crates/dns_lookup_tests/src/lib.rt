@@ -1,13 +1,11 @@
-//! Tests of lookups: what a lookup and a whole request send and refuse; replies by turn; validations that are driven by hand, which
-//! answer as lookups do; sets that are kept, and served from what was kept; and how often the verifier is asked.
+//! Tests of lookups: what a lookup and a whole request send and refuse; replies by turn; sets that are kept, and when what is kept expires;
+//! trails of sets that are served from what was kept; and how often the verifier is asked.
 //!
 //! They stand apart, since a crate with tests of its own is proved twice.
 #![tactic(auto)]
 
 #[cfg(test)]
 mod cached_tests;
-#[cfg(test)]
-mod driven_tests;
 #[cfg(test)]
 mod expiry_tests;
 #[cfg(test)]
@@ -16,8 +14,6 @@ mod given;
 mod iteration_tests;
 #[cfg(test)]
 mod kept_tests;
-#[cfg(test)]
-mod large_tests;
 #[cfg(test)]
 mod lookup_tests;
 #[cfg(test)]
@@ -28,9 +24,5 @@ mod request_tests;
 mod rows;
 #[cfg(test)]
 mod scenes;
-#[cfg(test)]
-mod served_tests;
-#[cfg(test)]
-mod side_by_side_tests;
 #[cfg(test)]
 mod turn_tests;

@@ -2,11 +2,16 @@
 use crate::given::{Answer, MOMENT, ask, ask_scene, put_message, upstream_of};
 use crate::rows::check_held;
 use crate::scenes::servers;
-use dns_chain::{DnssecDnsHandle, Listed, Octets, Proof, Record, RecordType, TrustAnchors};
-use dns_net::{
-    DnsError, DnsHandle, DnsRequest, DnsRequestOptions, DnsResponse, NetError, Recorded,
-};
+use dns_evidence::Listed;
+use dns_handle::{DnsError, DnsHandle, DnsRequest, DnsResponse, NetError};
+use dns_lookup::DnssecDnsHandle;
+use dns_model::Proof;
+use dns_name::Octets;
+use dns_record::{Record, RecordType};
+use dns_recorded::Recorded;
+use dns_trust::TrustAnchors;
 use std::alloc::Global;
+use std::process::Abort;
 
 /// The message of a request, and when it was sent.
 #[derive(Drop)]
@@ -58,15 +63,16 @@ const EXPANDED: &[u8] =
 
 /// A handle over an upstream, that trusts no key and accepts no signature.
 pub(crate) fn handle_over(
+    rt: &impl Abort,
     alloc: Global,
     replies: Recorded,
-) -> Option<DnssecDnsHandle<Keeping, Listed>> {
+) -> DnssecDnsHandle<Keeping, Listed> {
     let upstream = Keeping {
         replies,
         kept: Vec::new(alloc),
     };
     let (anchors, verifier) = (TrustAnchors::empty(alloc), Listed::new(alloc));
-    DnssecDnsHandle::with_trust_anchor(alloc, upstream, anchors, verifier).ok()
+    DnssecDnsHandle::with_trust_anchor(alloc, upstream, anchors, verifier).expect(rt, "memory")
 }
 
 /// An ask of the lookup of `. NS` with default options.
@@ -104,22 +110,20 @@ fn is_kept(kept: &[Sending], row: &Asked, moment: u64) -> bool {
 }
 
 /// What the lookup of `. NS` sends at a place is the row's message.
-fn is_sent(alloc: Global, row: &Asked) -> bool {
-    let Some(mut handle) = handle_over(alloc, upstream_of(alloc, servers())) else {
-        return false;
-    };
-    let answer = ask_scene(alloc, &mut handle, servers(), MOMENT);
+fn is_sent(rt: &impl Abort, alloc: Global, row: &Asked) -> bool {
+    let mut handle = handle_over(rt, alloc, upstream_of(rt, alloc, servers()));
+    let answer = ask_scene(rt, alloc, &mut handle, servers(), MOMENT);
     let answered = answer.is_ok();
     drop(answer);
     let held = answered && is_kept(handle.inner().kept.as_slice(), row, MOMENT);
-    drop(handle);
+    drop(handle.into_inner());
     held
 }
 
 #[test]
 fn each_ask_has_the_options_of_the_lookup_and_its_moment(rt: HostRuntime) {
     for row in ASKED {
-        check_held(&rt, row.name, is_sent(rt.alloc(), row));
+        check_held(&rt, row.name, is_sent(&rt, rt.alloc(), row));
     }
 }
 
@@ -152,19 +156,13 @@ fn is_denial(answer: &Answer) -> bool {
     }
 }
 
-/// An upstream that has the set of `b.`, and the root's keys.
-fn upstream_of_expanded(alloc: Global) -> Recorded {
-    let mut upstream = upstream_of(alloc, servers());
-    let _ = put_message(alloc, &mut upstream, "b.", RecordType::NS, EXPANDED);
-    upstream
-}
-
-fn is_denied(alloc: Global) -> bool {
-    let Some(mut handle) = handle_over(alloc, upstream_of_expanded(alloc)) else {
-        return false;
-    };
-    let answer = ask(alloc, &mut handle, "b.", RecordType::NS, 26, MOMENT);
-    drop(handle);
+/// The root's servers are known, and the set of `b.`
+fn is_denied(rt: &impl Abort, alloc: Global) -> bool {
+    let mut upstream = upstream_of(rt, alloc, servers());
+    put_message(rt, alloc, &mut upstream, "b.", RecordType::NS, EXPANDED);
+    let mut handle = handle_over(rt, alloc, upstream);
+    let answer = ask(rt, alloc, &mut handle, "b.", RecordType::NS, 26, MOMENT);
+    drop(handle.into_inner());
     let held = is_denial(&answer);
     drop(answer);
     held
@@ -172,5 +170,5 @@ fn is_denied(alloc: Global) -> bool {
 
 #[test]
 fn a_denial_holds_the_judged_response(rt: HostRuntime) {
-    check_held(&rt, "an expansion", is_denied(rt.alloc()));
+    check_held(&rt, "an expansion", is_denied(&rt, rt.alloc()));
 }

@@ -1,14 +1,17 @@
 //! How often a lookup asks its verifier, and how often whoever checks the answer does (RFC 4035, 5.3). Contracts don't see the
 //! verifier's count.
-use crate::given::{Answer, MOMENT, Trusted, anchors_of, ask_scene, trusted_of, upstream_of};
+use crate::given::{MOMENT, anchors_of, ask_scene, upstream_of, verifier_of};
 use crate::rows::check_held;
 use crate::scenes::{Scene, anchored_beside, one_zone, walk};
-use dns_chain::{
-    DnssecDnsHandle, IterationLimits, Limits, Listed, Verifier, check_chain, check_trail,
-};
-use dns_net::{Chain, NetError, Trail};
+use dns_chain_check::check_chain;
+use dns_evidence::{Chain, IterationLimits, Limits, Listed, Trail, Verifier};
+use dns_handle::DnsResponse;
+use dns_lookup::DnssecDnsHandle;
+use dns_trail::check_trail;
+use dns_trust::TrustAnchors;
 use std::alloc::Global;
 use std::cell::Cell;
+use std::process::Abort;
 
 /// A verifier that answers as another one, and counts how often it is asked.
 #[derive(Drop)]
@@ -68,106 +71,79 @@ const ROWS: &[Row] = &[
 ];
 
 /// The answer to a scene's query by a verifier that counts.
-fn look_up(alloc: Global, scene: &Scene, verifier: Counting<'_>) -> Answer {
-    let upstream = upstream_of(alloc, scene);
-    let anchors = anchors_of(alloc, scene);
-    let Ok(mut validator) = DnssecDnsHandle::new(alloc, upstream, anchors, verifier) else {
-        return Err(NetError::NoMemory);
-    };
-    let answer = ask_scene(alloc, &mut validator, scene, MOMENT);
-    drop(validator);
-    answer
-}
-
-/// The answer, and how many questions were asked for it.
-fn answer_after(alloc: Global, trusted: &Trusted, row: &Row) -> (Answer, u32) {
-    let questions = Cell::new(0);
-    let verifier = Counting {
-        listed: &trusted.verifier,
-        questions: &questions,
-    };
-    let answer = look_up(alloc, scene_of(row.1), verifier);
-    (answer, questions.get())
-}
-
-/// Every chain is justified, by a verifier that counts.
-fn are_justified(
+fn look_up(
+    rt: &impl Abort,
     alloc: Global,
-    trusted: &Trusted,
+    scene: &Scene,
+    anchors: TrustAnchors,
+    verifier: Counting<'_>,
+) -> DnsResponse {
+    let upstream = upstream_of(rt, alloc, scene);
+    let made = DnssecDnsHandle::new(alloc, upstream, anchors, verifier);
+    let mut validator = made.expect(rt, "memory");
+    let answer = ask_scene(rt, alloc, &mut validator, scene, MOMENT);
+    drop(validator.into_inner());
+    answer.expect(rt, "an answer")
+}
+
+/// Every chain is justified.
+fn are_justified(
+    rt: &impl Abort,
+    alloc: Global,
+    anchors: &TrustAnchors,
     verifier: &Counting<'_>,
     chains: &[Chain],
 ) -> bool {
     for chain in chains {
-        let checked = check_chain(alloc, &trusted.anchors, verifier, MOMENT, chain);
-        if !checked.unwrap_or(false) {
+        if !check_chain(alloc, anchors, verifier, MOMENT, chain).expect(rt, "memory") {
             return false;
         }
     }
     true
 }
 
-/// A check of the chains asks once for each signed link.
-fn asks_by_chains(alloc: Global, trusted: &Trusted, chains: &[Chain], wanted: u32) -> bool {
-    let questions = Cell::new(0);
-    let verifier = Counting {
-        listed: &trusted.verifier,
-        questions: &questions,
+/// The trail is a derivation.
+fn is_derived(
+    rt: &impl Abort,
+    alloc: Global,
+    anchors: &TrustAnchors,
+    verifier: &Counting<'_>,
+    trail: &Trail,
+) -> bool {
+    let limits = Limits {
+        depth: 26,
+        soft: IterationLimits::DEFAULT.soft,
+        hard: IterationLimits::DEFAULT.hard,
     };
-    are_justified(alloc, trusted, &verifier, chains) && questions.get() == wanted
+    check_trail(alloc, anchors, verifier, MOMENT, &limits, &[], trail).expect(rt, "memory")
 }
 
-/// A check of the trail asks so often.
-fn asks_by_trail(alloc: Global, trusted: &Trusted, trail: &Trail, wanted: u32) -> bool {
-    let questions = Cell::new(0);
-    let verifier = Counting {
-        listed: &trusted.verifier,
-        questions: &questions,
-    };
-    let checked = check_trail(
-        alloc,
-        &trusted.anchors,
-        &verifier,
-        MOMENT,
-        &Limits {
-            depth: 26,
-            soft: IterationLimits::DEFAULT.soft,
-            hard: IterationLimits::DEFAULT.hard,
-        },
-        &[],
-        trail,
-    );
-    checked.unwrap_or(false) && questions.get() == wanted
-}
-
-/// The answer's checks ask as often as the row says.
-fn asks_by_checks(alloc: Global, trusted: &Trusted, answer: &Answer, row: &Row) -> bool {
-    match answer {
-        Ok(response) => {
-            asks_by_chains(alloc, trusted, &response.chains, row.4)
-                && asks_by_trail(alloc, trusted, &response.trail, row.3)
-        }
-        Err(_) => false,
-    }
-}
-
-/// The lookup and the checks do.
-fn asks_so(alloc: Global, trusted: &Trusted, row: &Row) -> bool {
-    let (answer, questions) = answer_after(alloc, trusted, row);
-    let held = questions == row.2 && asks_by_checks(alloc, trusted, &answer, row);
-    drop(answer);
-    held
-}
-
-fn is_asked(alloc: Global, row: &Row) -> bool {
-    let trusted = trusted_of(alloc, scene_of(row.1));
-    let held = asks_so(alloc, &trusted, row);
-    drop(trusted);
-    held
+/// The lookup asks as often as the row says, a check of the chains once for each signed link, and one of the trail as the row says.
+fn asks_so(rt: &impl Abort, alloc: Global, listed: &Listed, row: &Row) -> bool {
+    let asked = Cell::new(0);
+    let (questions, scene) = (&asked, scene_of(row.1));
+    let anchors = anchors_of(rt, alloc, scene);
+    let response = look_up(rt, alloc, scene, anchors, Counting { listed, questions });
+    let by_lookup = questions.get() == row.2;
+    let anchors = anchors_of(rt, alloc, scene);
+    let verifier = &Counting { listed, questions };
+    questions.set(0);
+    let justified = are_justified(rt, alloc, &anchors, verifier, &response.chains);
+    let by_chains = justified && questions.get() == row.4;
+    questions.set(0);
+    let derived = is_derived(rt, alloc, &anchors, verifier, &response.trail);
+    let by_trail = derived && questions.get() == row.3;
+    drop(anchors);
+    drop(response);
+    by_lookup && by_chains && by_trail
 }
 
 #[test]
 fn the_verifier_is_asked_no_more_often_than_the_rules_ask_it(rt: HostRuntime) {
     for row in ROWS {
-        check_held(&rt, row.0, is_asked(rt.alloc(), row));
+        let listed = verifier_of(&rt, rt.alloc(), scene_of(row.1));
+        let held = asks_so(&rt, rt.alloc(), &listed, row);
+        drop(listed);
+        check_held(&rt, row.0, held);
     }
 }

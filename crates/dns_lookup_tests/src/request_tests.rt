@@ -1,10 +1,11 @@
 //! What a validator sends for a whole request, and what it answers (RFC 1035, 4.1.1; RFC 4035, 3.2 and 4.1).
-use crate::given::message_of;
-use crate::lookup_tests::{Keeping, Sending, handle_over};
+use crate::given::{Answer, MOMENT, message_of};
+use crate::lookup_tests::{Sending, handle_over};
 use crate::rows::check_held;
-use dns_chain::{DnssecDnsHandle, Listed};
-use dns_net::{DnsHandle, DnsRequest, DnsRequestOptions, DnsResponse, NetError, Notice, Recorded};
+use dns_handle::{DnsHandle, DnsRequest, DnsRequestOptions, NetError, Notice};
+use dns_recorded::Recorded;
 use std::alloc::Global;
+use std::process::Abort;
 
 /// The message of a request, and that of what is sent for it, or nothing.
 struct Sent {
@@ -38,15 +39,6 @@ const SENT: &[Sent] = &[
     },
 ];
 
-fn request_of(alloc: Global, given: &[u8]) -> Option<DnsRequest> {
-    let message = message_of(alloc, given).ok()?;
-    Some(DnsRequest {
-        message,
-        options: DnsRequestOptions::default(),
-        original: None,
-    })
-}
-
 /// The upstream's error where something was sent, which then was one request, and else that there is no question.
 fn is_error(error: &NetError, kept: &[Sending], sent: &[u8]) -> bool {
     match kept {
@@ -56,35 +48,31 @@ fn is_error(error: &NetError, kept: &[Sending], sent: &[u8]) -> bool {
     }
 }
 
-fn is_refused(answer: &Result<DnsResponse, NetError>, kept: &[Sending], sent: &[u8]) -> bool {
+fn is_refused(answer: &Answer, kept: &[Sending], sent: &[u8]) -> bool {
     match answer {
         Ok(_) => false,
         Err(error) => is_error(error, kept, sent),
     }
 }
 
-fn sends_so(
-    alloc: Global,
-    validator: &mut DnssecDnsHandle<Keeping, Listed>,
-    row: &Sent,
-) -> Option<bool> {
-    let answer = validator.send(alloc, request_of(alloc, row.given)?, 1000);
+// A validator whose upstream answers nothing in time sends as the row says.
+fn is_sent(rt: &impl Abort, alloc: Global, row: &Sent) -> bool {
+    let mut validator = handle_over(rt, alloc, Recorded::new(alloc));
+    let request = DnsRequest {
+        message: message_of(rt, alloc, row.given),
+        options: DnsRequestOptions::default(),
+        original: None,
+    };
+    let answer = validator.send(alloc, request, MOMENT);
     let held = is_refused(&answer, validator.inner().kept.as_slice(), row.sent);
     drop(answer);
-    Some(held)
-}
-
-// A validator whose upstream answers nothing in time sends as the row says.
-fn is_sent(alloc: Global, row: &Sent) -> Option<bool> {
-    let mut validator = handle_over(alloc, Recorded::new(alloc))?;
-    let held = sends_so(alloc, &mut validator, row);
-    drop(validator);
+    drop(validator.into_inner());
     held
 }
 
 #[test]
 fn a_request_is_sent_to_be_validated(rt: HostRuntime) {
     for row in SENT {
-        check_held(&rt, row.name, is_sent(rt.alloc(), row) == Some(true));
+        check_held(&rt, row.name, is_sent(&rt, rt.alloc(), row));
     }
 }

@@ -2,9 +2,12 @@
 use crate::given::{Answer, MOMENT, ask, put_message};
 use crate::lookup_tests::handle_over;
 use crate::rows::check_held;
-use dns_chain::{NetError, Proof, RecordType};
-use dns_net::{DnsError, Recorded};
+use dns_handle::{DnsError, NetError};
+use dns_model::Proof;
+use dns_record::RecordType;
+use dns_recorded::Recorded;
 use std::alloc::Global;
+use std::process::Abort;
 
 /// No key of the root.
 const NO_KEY: &[u8] = b"\0\0\x84\0\0\x01\0\0\0\0\0\0\0\0\x30\0\x01";
@@ -39,20 +42,18 @@ fn end_by(proof: Proof) -> End {
 }
 
 /// The lookups of the keys, one after another over such replies, end so.
-fn end_so(alloc: Global, replies: Recorded, ends: &[End]) -> bool {
+fn end_so(rt: &impl Abort, alloc: Global, replies: Recorded, ends: &[End]) -> bool {
     let mut replies = replies;
-    let _ = put_message(alloc, &mut replies, ".", RecordType::DNSKEY, NO_KEY);
-    let _ = put_message(alloc, &mut replies, ".", RecordType::DNSKEY, KEY_SET);
-    let Some(mut handle) = handle_over(alloc, replies) else {
-        return false;
-    };
+    put_message(rt, alloc, &mut replies, ".", RecordType::DNSKEY, NO_KEY);
+    put_message(rt, alloc, &mut replies, ".", RecordType::DNSKEY, KEY_SET);
+    let mut handle = handle_over(rt, alloc, replies);
     let mut held = true;
     for end in ends {
-        let answer = ask(alloc, &mut handle, ".", RecordType::DNSKEY, 26, MOMENT);
+        let answer = ask(rt, alloc, &mut handle, ".", RecordType::DNSKEY, 26, MOMENT);
         held = held && end_of(&answer) == *end;
         drop(answer);
     }
-    drop(handle);
+    drop(handle.into_inner());
     held
 }
 
@@ -63,12 +64,12 @@ fn replies_are_taken_by_turn_or_the_first_again(rt: HostRuntime) {
     check_held(
         &rt,
         "by turn each send takes the next reply, and then the last",
-        end_so(alloc, Recorded::in_turn(alloc), ends),
+        end_so(&rt, alloc, Recorded::in_turn(alloc), ends),
     );
     let ends = &[End::BogusDenial, End::BogusDenial, End::BogusDenial];
     check_held(
         &rt,
         "else each send takes the first reply",
-        end_so(alloc, Recorded::new(alloc), ends),
+        end_so(&rt, alloc, Recorded::new(alloc), ends),
     );
 }

@@ -4,16 +4,20 @@ ghost use Rattle.std.specs.Prelude.{IsTrue};
 ghost use Rattle.dns_cache.specs.Caches.{HasAccepted};
 ghost use Rattle.dns_validation.specs.Validations.{AcceptedWhereKept};
 
+use crate::driven_tests::keep_all;
 use crate::given::{MOMENT, anchors_of, begun, upstream_of};
 use crate::rows::check_held;
 use crate::scenes::name_error;
-use dns_chain::{
-    Acceptance, AcceptedBy, CacheKey, DnsHandle, Entry, Judge, ListCache, TrustAnchors, TtlRanges,
-    Validation, ValidationCache, Verifier, Wanted, accepted_chain,
-};
-use dns_net::Recorded;
+use dns_cache::{Acceptance, AcceptedBy, CacheKey, Entry, ListCache};
+use dns_chain_check::accepted_chain;
+use dns_evidence::Verifier;
+use dns_handle::DnsHandle;
+use dns_recorded::Recorded;
+use dns_trust::{Judge, TrustAnchors};
+use dns_validation::{Validation, Wanted};
 use std::alloc::Global;
 use std::cell::Cell;
+use std::process::Abort;
 
 /// A verifier that accepts each signature, and counts how often it is asked.
 #[derive(Drop)]
@@ -75,108 +79,106 @@ struct Seen {
 }
 
 // By the anchors of the scene, or by none.
-fn trust_of(alloc: Global, is_anchored: bool) -> TrustAnchors {
+fn trust_of(rt: &impl Abort, alloc: Global, is_anchored: bool) -> TrustAnchors {
     if is_anchored {
-        return anchors_of(alloc, name_error());
+        return anchors_of(rt, alloc, name_error());
     }
     TrustAnchors::empty(alloc)
 }
 
-// What is seen of a validation of a name error, where it came to its end.
-fn seen_over(alloc: Global, cache: &mut ListCache, way: Way) -> Option<Seen> {
-    let anchors = trust_of(alloc, way.is_anchored);
+// What is seen of a validation of a name error, which comes to its end.
+fn seen_over(rt: &impl Abort, alloc: Global, cache: &mut ListCache, way: Way) -> Seen {
+    let anchors = trust_of(rt, alloc, way.is_anchored);
     let verifier = AcceptsAll::new();
     let judge = Judge {
         verifier: &verifier,
         anchors: &anchors,
         moment: way.moment,
     };
-    let ended = driven(alloc, cache, judge, way.acceptance);
-    let asks_verifier = verifier.questions.get() > 0;
+    let (name, query_type) = (name_error().name, name_error().query_type);
+    let mut validation = begun(rt, alloc, judge, name, query_type);
+    let sends = sends_of(rt, alloc, cache, &mut validation, way);
+    let is_answered = is_answered(rt, validation);
     drop(anchors);
-    let (sends, is_answered) = ended?;
-    Some(Seen {
+    Seen {
         sends,
-        asks_verifier,
+        asks_verifier: verifier.questions.get() > 0,
         is_answered,
-    })
+    }
 }
 
-// How often such a validation asked its upstream, and whether it had an answer.
-fn driven(
+// It came to an answer, and not to an error.
+fn is_answered(rt: &impl Abort, validation: Validation<'_, AcceptsAll>) -> bool {
+    let answer = validation.into_answer().expect(rt, "an end");
+    let held = answer.is_ok();
+    drop(answer);
+    held
+}
+
+// Gives a validation what it wants, until it wants nothing: how often it asked its upstream.
+fn sends_of(
+    rt: &impl Abort,
     alloc: Global,
     cache: &mut ListCache,
-    judge: Judge<'_, AcceptsAll>,
-    acceptance: Acceptance,
-) -> Option<(u32, bool)> {
-    let (scene, ranges, moment) = (name_error(), TtlRanges::new(), judge.moment);
-    let mut validation = begun(alloc, judge, scene.name, scene.query_type, 26, ranges)?;
-    let mut upstream = upstream_of(alloc, scene);
+    validation: &mut Validation<'_, AcceptsAll>,
+    way: Way,
+) -> u32 {
+    let mut upstream = upstream_of(rt, alloc, name_error());
     let mut sends = 0_u32;
     for _ in 0..1_000_u32 {
-        match served(
-            alloc,
-            &mut upstream,
-            cache,
-            &mut validation,
-            moment,
-            acceptance,
-        ) {
+        match served(rt, alloc, &mut upstream, cache, validation, way) {
             Some(true) => sends = sends.saturating_add(1),
             Some(false) => {}
             None => break,
         }
     }
     drop(upstream);
-    let answer = validation.into_answer()?;
-    let is_answered = answer.is_ok();
-    drop(answer);
-    Some((sends, is_answered))
+    sends
 }
 
 // Gives a validation what it wants, and keeps what it gives out. Whether its upstream was asked; None where it wants nothing.
 fn served(
+    rt: &impl Abort,
     alloc: Global,
     upstream: &mut Recorded,
     cache: &mut ListCache,
     validation: &mut Validation<'_, AcceptsAll>,
-    moment: u64,
-    acceptance: Acceptance,
+    way: Way,
 ) -> Option<bool> {
-    let asked = match validation.next()? {
-        Wanted::Reply(ask) => {
-            validation.answer(upstream.send(alloc, ask.request, moment));
+    let asked = match validation.next() {
+        None => return None,
+        Some(Wanted::Reply(ask)) => {
+            validation.answer(upstream.send(alloc, ask.request, way.moment));
             true
         }
-        Wanted::Entry(key) => {
-            entry_told(alloc, cache, validation, &key, acceptance)?;
+        Some(Wanted::Entry(key)) => {
+            entry_told(rt, alloc, cache, validation, &key, way.acceptance);
+            drop(key);
             false
         }
     };
-    for _ in 0..1_000_u32 {
-        let Some(entry) = validation.kept() else {
-            break;
-        };
-        cache.insert(alloc, entry).ok()?;
-    }
+    keep_all(rt, alloc, cache, validation);
     Some(asked)
 }
 
 fn entry_told(
+    rt: &impl Abort,
     alloc: Global,
     cache: &mut ListCache,
     validation: &mut Validation<'_, AcceptsAll>,
     key: &CacheKey,
     acceptance: Acceptance,
-) -> Option<()> {
+) {
     let verifier = AcceptsAll::new();
-    let given = cache.get_for(alloc, key, MOMENT, &verifier).ok()?;
-    validation.found(accepted_by(alloc, &verifier, given, acceptance));
-    Some(())
+    let given = cache
+        .get_for(alloc, key, MOMENT, &verifier)
+        .expect(rt, "memory");
+    validation.found(accepted_by(rt, alloc, &verifier, given, acceptance));
 }
 
 // The entry, with another acceptance: with `Kept` where the verifier accepts its chain.
 fn accepted_by<V: Verifier>(
+    rt: &impl Abort,
     alloc: Global,
     verifier: &V,
     given: Option<(Entry, Acceptance)>,
@@ -188,32 +190,34 @@ fn accepted_by<V: Verifier>(
         return None;
     };
     match acceptance {
-        Acceptance::Kept => kept_by(alloc, verifier, entry),
+        Acceptance::Kept => kept_by(rt, alloc, verifier, entry),
         Acceptance::Unknown => Some((entry, Acceptance::Unknown)),
         Acceptance::Other => Some((entry, Acceptance::Other)),
     }
 }
 
-fn kept_by<V: Verifier>(alloc: Global, verifier: &V, entry: Entry) -> Option<(Entry, Acceptance)>
+fn kept_by<V: Verifier>(
+    rt: &impl Abort,
+    alloc: Global,
+    verifier: &V,
+    entry: Entry,
+) -> Option<(Entry, Acceptance)>
     ensures { AcceptedWhereKept (V.answers verifier.now) result }
 {
-    if has_accepted(alloc, verifier, &entry) {
-        Some((entry, Acceptance::Kept))
-    } else {
-        None
+    if has_accepted(rt, alloc, verifier, &entry) {
+        return Some((entry, Acceptance::Kept));
     }
+    drop(entry);
+    None
 }
 
-fn has_accepted<V: Verifier>(alloc: Global, verifier: &V, entry: &Entry) -> bool
+fn has_accepted<V: Verifier>(rt: &impl Abort, alloc: Global, verifier: &V, entry: &Entry) -> bool
     ensures { IsTrue result → HasAccepted (V.answers verifier.now) entry.now }
 {
     let Some(chain) = &entry.chain else {
         return false;
     };
-    match accepted_chain(alloc, verifier, chain) {
-        Ok(accepted) => accepted,
-        Err(_) => false,
-    }
+    accepted_chain(alloc, verifier, chain).expect(rt, "memory")
 }
 
 /// What is seen of a second validation, over what a first one left.
@@ -253,39 +257,28 @@ const REFUSED: &[Way] = &[
     Way { is_anchored: false, ..KEPT },
 ];
 
-// What is seen of a validation over what a first one left.
-fn seen_later(alloc: Global, way: Way) -> Option<Seen> {
+// What is seen of a validation over what a first one left, which asked for the name, and for the keys of two signatures.
+fn seen_later(rt: &impl Abort, alloc: Global, way: Way) -> Seen {
     let mut cache = ListCache::new(alloc, 100);
-    let first = seen_over(alloc, &mut cache, FIRST);
-    let later = seen_over(alloc, &mut cache, way);
+    let first = seen_over(rt, alloc, &mut cache, FIRST);
+    let later = seen_over(rt, alloc, &mut cache, way);
     drop(cache);
-    // it asks for the name, and for the keys of two signatures
-    if first == Some(Seen { sends: 3, ..SERVED }) {
-        later
-    } else {
-        None
-    }
+    check_held(rt, "the first one", first == Seen { sends: 3, ..SERVED });
+    later
 }
 
 #[test]
 fn a_kept_set_serves_the_next_validation(rt: HostRuntime) {
     for row in rows() {
-        let seen = seen_later(rt.alloc(), row.1);
-        check_held(&rt, row.0, seen == Some(row.2));
-    }
-}
-
-fn is_refused(alloc: Global, way: Way) -> bool {
-    match seen_later(alloc, way) {
-        Some(seen) => !seen.is_answered,
-        None => false,
+        let seen = seen_later(&rt, rt.alloc(), row.1);
+        check_held(&rt, row.0, seen == row.2);
     }
 }
 
 #[test]
 fn an_accepted_chain_serves_while_anchors_and_times_hold(rt: HostRuntime) {
     for way in REFUSED {
-        let refused = is_refused(rt.alloc(), *way);
-        check_held(&rt, "what was kept doesn't serve", refused);
+        let seen = seen_later(&rt, rt.alloc(), *way);
+        check_held(&rt, "what was kept doesn't serve", !seen.is_answered);
     }
 }
