@@ -132,9 +132,8 @@ pub(crate) fn answer_over(
     query_type: RecordType,
 ) -> Answer {
     let query = query_of(rt, alloc, name, query_type);
-    let mut validator = DnssecDnsHandle::new(alloc, upstream, anchors, verifier).expect(
-        rt, "memory",
-    );
+    let made = DnssecDnsHandle::new(alloc, upstream, anchors, verifier);
+    let mut validator = made.expect(rt, "memory");
     let answer = validator.lookup(alloc, query, options(), MOMENT);
     drop(validator.into_inner());
     answer
