@@ -3,10 +3,10 @@
 use crate::parts::*;
 use dns_chain_check::accepted_chain;
 use dns_evidence::{Chain, Link, Listed};
-use dns_model::{NameError, Section};
-use dns_name::Name;
+use dns_model::Section;
 use dns_record::{DNSClass, Rdata, RecordType};
 use std::alloc::Global;
+use std::process::Abort;
 
 /// What it shows; a chain, a letter a link; and whether a verifier accepts it that accepts the signature of S and
 /// nothing else. A is `KEY` as one of the root and B a key that can't be read; W is the root's key set, whose key the
@@ -34,144 +34,110 @@ const OVER_ROOT: &[u8] = b"\0\x02\x0d\0\0\0\x0e\x10\0\0\x07\xd0\0\0\x03\xe8\xae\
 const ROOT_BYTES: &[u8] =
     b"\0\x02\x0d\0\0\0\x0e\x10\0\0\x07\xd0\0\0\x03\xe8\xae\xc9\0\0\0\x02\0\x01\0\0\x0e\x10\0\x03\x01a\0";
 
-fn rdata(alloc: Global, bytes: &[u8]) -> Result<Rdata, NameError> {
-    if bytes.len() > 65535 {
-        return Err(NameError::LongName);
-    }
-    Ok(Rdata::from_slice(alloc, bytes)?)
-}
-
-fn anchored(alloc: Global, key: &[u8]) -> Result<Link, NameError> {
-    Ok(Link::Anchored {
-        owner: Name::root(alloc)?,
+fn anchored(rt: &impl Abort, alloc: Global, key: &[u8]) -> Link {
+    Link::Anchored {
+        owner: name_of(rt, alloc, "."),
         class: DNSClass::IN,
-        key: rdata(alloc, key)?,
-    })
+        key: rdata_of(rt, alloc, key),
+    }
 }
 
-fn rdatas(alloc: Global, bytes: &[u8], count: usize) -> Result<Vec<Rdata>, NameError> {
+/// So many rdatas of these bytes.
+fn rdatas(rt: &impl Abort, alloc: Global, bytes: &[u8], count: usize) -> Vec<Rdata> {
     let mut rdatas = Vec::new(alloc);
     for _ in 0..count {
-        rdatas.push(rdata(alloc, bytes)?)?;
+        rdatas.push(rdata_of(rt, alloc, bytes)).expect(rt, "memory");
     }
-    Ok(rdatas)
-}
-
-/// So many rdatas of the root, and its name.
-fn of_root(alloc: Global, bytes: &[u8], count: usize) -> Result<(Vec<Rdata>, Name), NameError> {
-    let rdatas = rdatas(alloc, bytes, count)?;
-    let root = Name::root(alloc)?;
-    Ok((rdatas, root))
+    rdatas
 }
 
 /// So often the number of the first link.
-fn first_links(alloc: Global, count: usize) -> Result<Vec<u32>, NameError> {
+fn first_links(rt: &impl Abort, alloc: Global, count: usize) -> Vec<u32> {
     let mut links = Vec::new(alloc);
     for _ in 0..count {
-        links.push(0)?;
+        links.push(0).expect(rt, "memory");
     }
-    Ok(links)
+    links
 }
 
 /// The root's key set, so often its key, with so many numbers of the first link.
-fn key_set(alloc: Global, keys: usize, numbers: usize) -> Result<Link, NameError> {
-    let links = first_links(alloc, numbers)?;
-    let (keys, owner) = of_root(alloc, KEY, keys)?;
-    Ok(Link::KeySet {
-        owner,
+fn key_set(rt: &impl Abort, alloc: Global, keys: usize, numbers: usize) -> Link {
+    Link::KeySet {
+        owner: name_of(rt, alloc, "."),
         class: DNSClass::IN,
-        keys,
-        links,
-    })
-}
-
-/// The root's key, and its signature over the root's NS set.
-fn key_and_signature(alloc: Global) -> Result<(Rdata, Rdata), NameError> {
-    let key = rdata(alloc, KEY)?;
-    let sig = rdata(alloc, OVER_ROOT)?;
-    Ok((key, sig))
+        keys: rdatas(rt, alloc, KEY, keys),
+        links: first_links(rt, alloc, numbers),
+    }
 }
 
 /// The root's NS set, signed by a key of the second link.
-fn signed(alloc: Global, server: &[u8]) -> Result<Link, NameError> {
-    let (rdatas, owner) = of_root(alloc, server, 1)?;
-    let (key, sig) = key_and_signature(alloc)?;
-    Ok(Link::Signed {
-        owner,
+fn signed(rt: &impl Abort, alloc: Global, server: &[u8]) -> Link {
+    Link::Signed {
+        owner: name_of(rt, alloc, "."),
         class: DNSClass::IN,
         record_type: RecordType::NS,
-        rdatas,
-        sig,
+        rdatas: rdatas(rt, alloc, server, 1),
+        sig: rdata_of(rt, alloc, OVER_ROOT),
         key_link: 1,
-        key,
-    })
-}
-
-fn link(alloc: Global, letter: u8) -> Result<Link, NameError> {
-    match letter {
-        b'A' => anchored(alloc, KEY),
-        b'B' => anchored(alloc, b"\x01\x01\x03"),
-        b'S' => signed(alloc, b"\x01a\0"),
-        b'W' => key_set(alloc, 1, 1),
-        b'M' => key_set(alloc, 2, 1),
-        b'N' => key_set(alloc, 1, 2),
-        _ => signed(alloc, b"\x01b\0"),
+        key: rdata_of(rt, alloc, KEY),
     }
 }
 
-fn chain_of(alloc: Global, letters: &str) -> Result<Chain, NameError> {
+fn link(rt: &impl Abort, alloc: Global, letter: u8) -> Link {
+    match letter {
+        b'A' => anchored(rt, alloc, KEY),
+        b'B' => anchored(rt, alloc, b"\x01\x01\x03"),
+        b'S' => signed(rt, alloc, b"\x01a\0"),
+        b'W' => key_set(rt, alloc, 1, 1),
+        b'M' => key_set(rt, alloc, 2, 1),
+        b'N' => key_set(rt, alloc, 1, 2),
+        _ => signed(rt, alloc, b"\x01b\0"),
+    }
+}
+
+fn links_of(rt: &impl Abort, alloc: Global, letters: &str) -> Vec<Link> {
     let mut links = Vec::new(alloc);
     for letter in letters.as_bytes() {
-        links.push(link(alloc, *letter)?)?;
+        links.push(link(rt, alloc, *letter)).expect(rt, "memory");
     }
-    Ok(Chain {
-        section: Section::Answer,
-        links,
-    })
+    links
 }
 
 /// So many links to the root's key.
-fn starts(alloc: Global, count: usize) -> Result<Chain, NameError> {
+fn starts(rt: &impl Abort, alloc: Global, count: usize) -> Vec<Link> {
     let mut links = Vec::new(alloc);
     for _ in 0..count {
-        links.push(anchored(alloc, KEY)?)?;
+        links.push(anchored(rt, alloc, KEY)).expect(rt, "memory");
     }
-    Ok(Chain {
+    links
+}
+
+/// The verifier accepts the chain of these links.
+fn is_accepted(rt: &impl Abort, alloc: Global, links: Vec<Link>) -> bool {
+    let chain = Chain {
         section: Section::Answer,
         links,
-    })
-}
-
-fn is_accepted_by(alloc: Global, listed: &mut Listed, chain: &Chain) -> Result<bool, NameError> {
-    listed.support(13);
-    listed.accept(13, b"\xaa\xbb", ROOT_BYTES, b"\xcc")?;
-    Ok(accepted_chain(alloc, listed, chain)?)
-}
-
-fn is_accepted(alloc: Global, chain: Chain) -> Result<bool, NameError> {
+    };
     let mut listed = Listed::new(alloc);
-    let accepted = is_accepted_by(alloc, &mut listed, &chain);
+    listed.support(13);
+    let listing = listed.accept(13, b"\xaa\xbb", ROOT_BYTES, b"\xcc");
+    listing.expect(rt, "memory");
+    let accepted = accepted_chain(alloc, &listed, &chain).expect(rt, "memory");
     drop(listed);
     drop(chain);
     accepted
 }
 
-fn is_told(alloc: Global, row: &Row) -> Result<bool, NameError> {
-    Ok(is_accepted(alloc, chain_of(alloc, row.1)?)? == row.2)
-}
-
 #[test]
 fn chains_are_accepted_without_anchors_and_moment(rt: HostRuntime) {
     for row in ROWS {
-        check_row(&rt, row.0, is_told(rt.alloc(), row));
+        let links = links_of(&rt, rt.alloc(), row.1);
+        check_row(&rt, row.0, is_accepted(&rt, rt.alloc(), links) == row.2);
     }
-}
-
-fn are_accepted(alloc: Global) -> Result<bool, NameError> {
-    is_accepted(alloc, starts(alloc, MANY)?)
 }
 
 #[test]
 fn a_chain_of_70_000_keys_is_accepted(rt: HostRuntime) {
-    check_row(&rt, "70,000 keys", are_accepted(rt.alloc()));
+    let links = starts(&rt, rt.alloc(), MANY);
+    check_row(&rt, "70,000 keys", is_accepted(&rt, rt.alloc(), links));
 }

@@ -1,13 +1,13 @@
 use crate::counting::Counting;
 use crate::parts::*;
-use crate::wanted::tells;
+use crate::wanted::reads;
 use dns_marks::verify_dnskey;
-use dns_model::{NameError, Proof};
-use dns_name::NoMemory;
+use dns_model::Proof;
 use dns_proof::ProofError;
 use dns_record::{Record, RecordType};
 use dns_trust::DsIndex;
 use std::alloc::Global;
+use std::process::Abort;
 
 /// What it shows; a key of `example.` by its type and rdata; DS records by owner and rdata; and what is found of the
 /// key.
@@ -54,75 +54,81 @@ fn rows() -> &'static [Row] {
     ROWS
 }
 
-fn ds_records(alloc: Global, rows: &[(&str, &[u8])]) -> Result<Vec<Record>, NameError> {
+fn ds_records(rt: &impl Abort, alloc: Global, rows: &[(&str, &[u8])]) -> Vec<Record> {
     let mut records = Vec::new(alloc);
     for row in rows {
-        records.push(record(alloc, row.0, RecordType::DS, row.1, Proof::Secure)?)?;
+        let next = record(rt, alloc, row.0, RecordType::DS, row.1, Proof::Secure);
+        records.push(next).expect(rt, "memory");
     }
-    Ok(records)
+    records
 }
 
 /// What is found of a key is Secure, or it fails so.
-fn is_key(alloc: Global, found: &Result<Proof, ProofError>, want: &str) -> Result<bool, NameError> {
+fn is_key(rt: &impl Abort, alloc: Global, found: &Result<Proof, ProofError>, want: &str) -> bool {
     match found {
-        Ok(proof) => Ok(*proof == Proof::Secure && want == "Secure"),
-        Err(error) => tells(alloc, error, want),
+        Ok(proof) => *proof == Proof::Secure && want == "Secure",
+        Err(error) => reads(rt, alloc, error, want),
     }
 }
 
 /// One of the DS records matches the key.
 fn is_matched(
+    rt: &impl Abort,
     alloc: Global,
     verifier: &Counting,
     key: &Record,
     ds: &[Record],
-) -> Result<bool, NoMemory> {
-    let index = DsIndex::of(alloc, &key.name, ds)?;
-    Ok(index.matching(verifier, key).is_some())
+) -> bool {
+    let index = DsIndex::of(alloc, &key.name, ds).expect(rt, "memory");
+    let matched = index.matching(verifier, key).is_some();
+    drop(index);
+    matched
 }
 
-/// What is found of a key is what is wanted, and a DS matches it where that is Secure.
-fn finds(alloc: Global, key: &Record, ds: &[Record], want: &str) -> Result<bool, NameError> {
-    let verifier = Counting::new();
-    let is_matched = is_matched(alloc, &verifier, key, ds)?;
-    let found = verify_dnskey(alloc, &verifier, key, ds);
-    let held = is_key(alloc, &found, want);
-    drop(found);
-    Ok(held? && is_matched == (want == "Secure"))
-}
-
-/// The same of a key by its type and rdata.
-fn finds_of(
+/// What is found of a key of this type and rdata is what is wanted, and a DS matches it where that is Secure.
+fn finds(
+    rt: &impl Abort,
     alloc: Global,
     record_type: RecordType,
     key: &[u8],
     ds: &[Record],
     want: &str,
-) -> Result<bool, NameError> {
-    let key = record(alloc, "example.", record_type, key, Proof::Indeterminate)?;
-    let held = finds(alloc, &key, ds, want);
+) -> bool {
+    let key = record(
+        rt,
+        alloc,
+        "example.",
+        record_type,
+        key,
+        Proof::Indeterminate,
+    );
+    let verifier = Counting::new();
+    let matched = is_matched(rt, alloc, &verifier, &key, ds);
+    let found = verify_dnskey(alloc, &verifier, &key, ds);
+    let held = is_key(rt, alloc, &found, want);
+    drop(found);
     drop(key);
-    held
+    held && matched == (want == "Secure")
 }
 
-fn is_shown(alloc: Global, row: &Row) -> Result<bool, NameError> {
-    let ds = ds_records(alloc, row.3)?;
-    finds_of(alloc, row.1, row.2, &ds, row.4)
+fn is_shown(rt: &impl Abort, alloc: Global, row: &Row) -> bool {
+    let ds = ds_records(rt, alloc, row.3);
+    let held = finds(rt, alloc, row.1, row.2, &ds, row.4);
+    drop(ds);
+    held
 }
 
 #[test]
 fn keys_are_proved_by_ds_records(rt: HostRuntime) {
     for row in rows() {
-        check_row(&rt, row.0, is_shown(rt.alloc(), row));
+        check_row(&rt, row.0, is_shown(&rt, rt.alloc(), row));
     }
-}
-
-fn is_last_matched(alloc: Global) -> Result<bool, NameError> {
-    let ds = many_and_one(alloc, RecordType::DS, DS_BESIDE, DS)?;
-    finds_of(alloc, DNSKEY, KEY, &ds, "Secure")
 }
 
 #[test]
 fn a_key_is_matched_behind_70_000_ds_records(rt: HostRuntime) {
-    check_row(&rt, "the last DS matches", is_last_matched(rt.alloc()));
+    let ds = many_and_one(&rt, rt.alloc(), RecordType::DS, DS_BESIDE, DS);
+    let held = finds(&rt, rt.alloc(), DNSKEY, KEY, &ds, "Secure");
+    drop(ds);
+    check_row(&rt, "the last DS matches", held);
 }

@@ -1,8 +1,8 @@
 use crate::counting::Counting;
 use crate::parts::*;
-use crate::wanted::{Want, is_found, only, tells, text_of};
+use crate::wanted::{Want, is_found, reads, text_of};
 use dns_marks::{KeysMark, ZoneVerdict, mark_keys};
-use dns_model::{NameError, Proof};
+use dns_model::Proof;
 use dns_name::{Name, Octets};
 use dns_proof::{ProofError, ProofErrorKind};
 use dns_record::{RecordSet, RecordType};
@@ -89,63 +89,51 @@ fn rows() -> &'static [Row] {
     ROWS
 }
 
-fn signed(alloc: Global, rdatas: &[&[u8]]) -> Result<Vec<ZoneVerdict>, NameError> {
-    let ds = records_of(alloc, "example.", RecordType::DS, rdatas)?;
-    only(alloc, ZoneVerdict::Signed(ds))
+fn insecure(name: Name) -> ZoneVerdict {
+    ZoneVerdict::Insecure(ProofErrorKind::DsResponseInsecure { name })
 }
 
-fn named(name: Name, is_insecure: bool) -> ZoneVerdict {
-    if is_insecure {
-        ZoneVerdict::Insecure(ProofErrorKind::DsResponseInsecure { name })
-    } else {
-        ZoneVerdict::Bogus(ProofErrorKind::DsRecordShouldExist { name })
-    }
+fn bogus(name: Name) -> ZoneVerdict {
+    ZoneVerdict::Bogus(ProofErrorKind::DsRecordShouldExist { name })
 }
 
-fn named_example(alloc: Global, is_insecure: bool) -> Result<Vec<ZoneVerdict>, NameError> {
-    let name = Name::from_ascii(alloc, "example.")?;
-    only(alloc, named(name, is_insecure))
-}
-
-/// The verdict, or none.
-fn verdict_of(alloc: Global, zone: &Zone) -> Result<Vec<ZoneVerdict>, NameError> {
+/// The verdict on `example.`, or none.
+fn verdict_of(rt: &impl Abort, alloc: Global, zone: &Zone) -> Option<ZoneVerdict> {
     match zone {
-        Zone::Unknown => Ok(Vec::new(alloc)),
-        Zone::Signed(rdatas) => signed(alloc, rdatas),
-        Zone::Insecure => named_example(alloc, true),
-        Zone::Unsupported => only(
+        Zone::Unknown => None,
+        Zone::Signed(rdatas) => Some(ZoneVerdict::Signed(records_of(
+            rt,
             alloc,
-            ZoneVerdict::Insecure(ProofErrorKind::UnknownKeyAlgorithm),
-        ),
-        Zone::Bogus => named_example(alloc, false),
+            "example.",
+            RecordType::DS,
+            rdatas,
+        ))),
+        Zone::Insecure => Some(insecure(name_of(rt, alloc, "example."))),
+        Zone::Unsupported => Some(ZoneVerdict::Insecure(ProofErrorKind::UnknownKeyAlgorithm)),
+        Zone::Bogus => Some(bogus(name_of(rt, alloc, "example."))),
     }
 }
 
 /// Trusts the key of `KEY` at this owner.
-fn trust(alloc: Global, anchors: &mut TrustAnchors, owner: &str) -> Result<(), NameError> {
-    let owner = Name::from_ascii(alloc, owner)?;
-    let key = Octets::from_slice(alloc, b"\xaa\xbb")?;
-    anchors.insert_with_name(owner, 13, key)?;
-    Ok(())
+fn trust(rt: &impl Abort, alloc: Global, anchors: &mut TrustAnchors, owner: &str) {
+    let key = Octets::from_slice(alloc, b"\xaa\xbb").expect(rt, "memory");
+    let trusted = anchors.insert_with_name(name_of(rt, alloc, owner), 13, key);
+    trusted.expect(rt, "memory");
 }
 
-fn key_set(alloc: Global, row: &Row) -> Result<RecordSet, NameError> {
-    let mut keys = records_of(alloc, row.1, RecordType::DNSKEY, row.2)?;
-    fill(alloc, &mut keys, RecordType::DNSKEY, KEY, row.3)?;
-    set_of(alloc, row.1, RecordType::DNSKEY, keys, row.4)
-}
-
-fn mark_of(
-    alloc: Global,
-    verifier: &Counting,
-    set: &RecordSet,
-    anchors: &TrustAnchors,
-    zone: Option<&ZoneVerdict>,
-) -> Result<KeysMark, ProofError> {
-    if set.records.len() == 0 {
-        return Err(ProofError::new(Proof::Bogus, ProofErrorKind::NoMemory));
+/// The row's anchor, or none.
+fn anchors_of(rt: &impl Abort, alloc: Global, row: &Row) -> TrustAnchors {
+    let mut anchors = TrustAnchors::empty(alloc);
+    if row.5 {
+        trust(rt, alloc, &mut anchors, row.1);
     }
-    mark_keys(alloc, verifier, anchors, set, zone, 1500)
+    anchors
+}
+
+fn key_set(rt: &impl Abort, alloc: Global, row: &Row) -> RecordSet {
+    let mut keys = records_of(rt, alloc, row.1, RecordType::DNSKEY, row.2);
+    fill(rt, alloc, &mut keys, RecordType::DNSKEY, KEY, row.3);
+    set_of(rt, alloc, row.1, RecordType::DNSKEY, keys, row.4)
 }
 
 fn is_keys_mark(mark: &KeysMark, want: &Want) -> bool {
@@ -157,62 +145,50 @@ fn is_keys_mark(mark: &KeysMark, want: &Want) -> bool {
 
 /// A mark, or why there is none, is the one that is wanted.
 fn is_mark(
+    rt: &impl Abort,
     alloc: Global,
     mark: &Result<KeysMark, ProofError>,
     want: &Want,
-) -> Result<bool, NameError> {
+) -> bool {
     match mark {
-        Ok(mark) => Ok(is_keys_mark(mark, want)),
-        Err(error) => tells(alloc, error, text_of(want)),
+        Ok(mark) => is_keys_mark(mark, want),
+        Err(error) => reads(rt, alloc, error, text_of(want)),
     }
 }
 
-/// A key set is marked so with these anchors, by the one DS verdict or by none, after so many questions.
-fn is_marked_by(
+/// A key set is marked so with these anchors and by this DS verdict, after so many questions.
+fn is_marked(
+    rt: &impl Abort,
     alloc: Global,
     set: &RecordSet,
     anchors: &TrustAnchors,
-    zones: &[ZoneVerdict],
+    zone: Option<&ZoneVerdict>,
     row: &Row,
-) -> Result<bool, NameError> {
-    let verifier = Counting::new();
-    let mark = mark_of(alloc, &verifier, set, anchors, zones.first());
-    let held = is_mark(alloc, &mark, &row.7);
-    drop(mark);
-    Ok(held? && verifier.questions() == row.8)
-}
-
-/// The same with the row's anchor.
-fn is_marked_with(
-    alloc: Global,
-    anchors: &mut TrustAnchors,
-    set: &RecordSet,
-    row: &Row,
-) -> Result<bool, NameError> {
-    if row.5 {
-        trust(alloc, anchors, row.1)?;
+) -> bool {
+    if set.records.is_empty() {
+        return false;
     }
-    let zones = verdict_of(alloc, &row.6)?;
-    is_marked_by(alloc, set, anchors, &zones, row)
+    let verifier = Counting::new();
+    let mark = mark_keys(alloc, &verifier, anchors, set, zone, 1500);
+    let held = is_mark(rt, alloc, &mark, &row.7);
+    drop(mark);
+    held && verifier.questions() == row.8
 }
 
-fn is_marked(alloc: Global, set: &RecordSet, row: &Row) -> Result<bool, NameError> {
-    let mut anchors = TrustAnchors::empty(alloc);
-    let held = is_marked_with(alloc, &mut anchors, set, row);
+fn is_shown(rt: &impl Abort, alloc: Global, row: &Row) -> bool {
+    let set = key_set(rt, alloc, row);
+    let anchors = anchors_of(rt, alloc, row);
+    let zone = verdict_of(rt, alloc, &row.6);
+    let held = is_marked(rt, alloc, &set, &anchors, zone.as_ref(), row);
+    drop(zone);
     drop(anchors);
-    held
-}
-
-fn is_shown(alloc: Global, row: &Row) -> Result<bool, NameError> {
-    let set = key_set(alloc, row)?;
-    let held = is_marked(alloc, &set, row);
     drop(set);
     held
 }
 
 fn check_rows(rt: &impl Abort, alloc: Global, rows: &[Row]) {
     for row in rows {
-        check_row(rt, row.0, is_shown(alloc, row));
+        check_row(rt, row.0, is_shown(rt, alloc, row));
     }
 }
 

@@ -2,165 +2,151 @@
 use crate::parts::*;
 use dns_evidence::{Listed, Verifier};
 use dns_marks::{KeyAnswer, ZoneVerdict};
-use dns_model::NameError;
-use dns_name::{Name, Octets};
+use dns_name::Octets;
 use dns_record::RecordType;
 use dns_trust::TrustAnchors;
 use std::alloc::Global;
+use std::process::Abort;
 
 /// What is signed, and its signature. As an array of a function it would be dear to prove.
 const SIGNED: &[u8] = &[7; 300];
 
 const SIGNATURE: &[u8] = &[8; 300];
 
-fn accept_all(listed: &mut Listed) -> Result<(), NameError> {
+fn accept_all(rt: &impl Abort, listed: &mut Listed) {
     for number in 0..MANY as u32 {
-        listed.accept(13, &number.to_be_bytes(), SIGNED, SIGNATURE)?;
+        let accepted = listed.accept(13, &number.to_be_bytes(), SIGNED, SIGNATURE);
+        accepted.expect(rt, "memory");
     }
-    Ok(())
 }
 
-fn copy_holds_all(listed: &mut Listed) -> Result<bool, NameError> {
-    accept_all(listed)?;
-    let copy = listed.try_clone()?;
+fn copy_holds_last(rt: &impl Abort, listed: &Listed) -> bool {
+    let copy = listed.try_clone().expect(rt, "memory");
     let last = MANY as u32 - 1;
     let held = copy.accepts(13, &last.to_be_bytes(), SIGNED, SIGNATURE);
     drop(copy);
-    Ok(held)
-}
-
-fn holds_all(alloc: Global) -> Result<bool, NameError> {
-    let mut listed = Listed::new(alloc);
-    let held = copy_holds_all(&mut listed);
-    drop(listed);
     held
 }
 
 #[test]
 fn a_list_holds_70_000_signatures(rt: HostRuntime) {
-    check_row(&rt, "of 300 bytes", holds_all(rt.alloc()));
+    let mut listed = Listed::new(rt.alloc());
+    accept_all(&rt, &mut listed);
+    let held = copy_holds_last(&rt, &listed);
+    drop(listed);
+    check_row(&rt, "of 300 bytes", held);
 }
 
 /// Accepts a signature by each of these keys.
-fn accept_keys(listed: &mut Listed, keys: &[&[u8]]) -> Result<(), NameError> {
+fn accept_keys(rt: &impl Abort, listed: &mut Listed, keys: &[&[u8]]) {
     for key in keys {
-        listed.accept(13, key, b"\x07", b"\x08")?;
+        let accepted = listed.accept(13, key, b"\x07", b"\x08");
+        accepted.expect(rt, "memory");
     }
-    Ok(())
 }
 
 /// Both lists are the same once the other supports algorithm 13, also where it supports algorithm 1, which is never known.
-fn become_same(listed: &mut Listed, other: &mut Listed) -> Result<bool, NameError> {
+fn become_same(rt: &impl Abort, listed: &mut Listed, other: &mut Listed) -> bool {
     listed.support(13);
-    accept_keys(listed, &[KEY, OTHER_KEY, THIRD_KEY])?;
-    accept_keys(other, &[THIRD_KEY, OTHER_KEY, KEY, KEY])?;
+    accept_keys(rt, listed, &[KEY, OTHER_KEY, THIRD_KEY]);
+    accept_keys(rt, other, &[THIRD_KEY, OTHER_KEY, KEY, KEY]);
     let before = listed.same(other);
     other.support(13);
     other.support(1);
     let same = listed.same(other) && other.same(listed);
-    other.accept(1, KEY, b"\x07", b"\x08")?;
+    let accepted = other.accept(1, KEY, b"\x07", b"\x08");
+    accepted.expect(rt, "memory");
     let is_known = other.supports(1) || other.accepts(1, KEY, b"\x07", b"\x08");
-    Ok(!before && same && !is_known)
-}
-
-fn are_same(alloc: Global) -> Result<bool, NameError> {
-    let mut listed = Listed::new(alloc);
-    let mut other = Listed::new(alloc);
-    let held = become_same(&mut listed, &mut other);
-    drop(other);
-    drop(listed);
-    held
+    !before && same && !is_known
 }
 
 #[test]
 fn lists_are_the_same_in_any_order(rt: HostRuntime) {
-    check_row(&rt, "another order, and one twice", are_same(rt.alloc()));
+    let mut listed = Listed::new(rt.alloc());
+    let mut other = Listed::new(rt.alloc());
+    let held = become_same(&rt, &mut listed, &mut other);
+    drop(other);
+    drop(listed);
+    check_row(&rt, "another order, and one twice", held);
 }
 
-fn is_answer_copied(alloc: Global) -> Result<bool, NameError> {
-    let answer = KeyAnswer::Keys(many_and_one(alloc, RecordType::DNSKEY, KEY_BESIDE, KEY)?);
-    let copy = answer.try_clone();
+fn is_answer_copied(rt: &impl Abort, alloc: Global) -> bool {
+    let keys = many_and_one(rt, alloc, RecordType::DNSKEY, KEY_BESIDE, KEY);
+    let answer = KeyAnswer::Keys(keys);
+    let copy = answer.try_clone().expect(rt, "memory");
     drop(answer);
-    let copy = copy?;
     let held = matches!(&copy, KeyAnswer::Keys(keys) if keys.len() == MANY + 1);
     drop(copy);
-    Ok(held)
+    held
 }
 
-fn is_verdict_copied(alloc: Global) -> Result<bool, NameError> {
-    let verdict = ZoneVerdict::Signed(many_and_one(alloc, RecordType::DS, MISS, DS)?);
-    let copy = verdict.try_clone();
+fn is_verdict_copied(rt: &impl Abort, alloc: Global) -> bool {
+    let ds = many_and_one(rt, alloc, RecordType::DS, MISS, DS);
+    let verdict = ZoneVerdict::Signed(ds);
+    let copy = verdict.try_clone().expect(rt, "memory");
     drop(verdict);
-    let copy = copy?;
     let held = matches!(&copy, ZoneVerdict::Signed(ds) if ds.len() == MANY + 1);
     drop(copy);
-    Ok(held)
+    held
 }
 
 #[test]
 fn answers_and_verdicts_of_70_000_records_are_copied(rt: HostRuntime) {
-    check_row(&rt, "keys", is_answer_copied(rt.alloc()));
-    check_row(&rt, "DS records", is_verdict_copied(rt.alloc()));
+    check_row(&rt, "keys", is_answer_copied(&rt, rt.alloc()));
+    check_row(&rt, "DS records", is_verdict_copied(&rt, rt.alloc()));
 }
 
-/// Trusts a key of the root; whether it is new.
-fn trust(alloc: Global, anchors: &mut TrustAnchors, number: u32) -> Result<bool, NameError> {
-    let key = Octets::from_slice(alloc, &number.to_be_bytes())?;
-    Ok(anchors.insert_with_name(Name::root(alloc)?, 13, key)?)
-}
-
-/// Each of so many keys is new.
-fn trust_all(alloc: Global, anchors: &mut TrustAnchors) -> Result<bool, NameError> {
-    for number in 0..MANY as u32 {
-        if !trust(alloc, anchors, number)? {
-            return Ok(false);
-        }
-    }
-    Ok(true)
-}
-
-fn has_all(alloc: Global, anchors: &TrustAnchors) -> Result<bool, NameError> {
-    let root = Name::root(alloc)?;
-    let last = MANY as u32 - 1;
-    let held = anchors.contains_with_name(&root, 13, &last.to_be_bytes());
-    drop(root);
-    Ok(held && anchors.len() == MANY)
-}
-
-fn copy_trusts_all(alloc: Global, anchors: &mut TrustAnchors) -> Result<bool, NameError> {
-    let all_new = anchors.is_empty() && trust_all(alloc, anchors)?;
-    let again = trust(alloc, anchors, 0)?;
-    let copy = anchors.try_clone()?;
-    let held = has_all(alloc, &copy);
-    drop(copy);
-    Ok(held? && all_new && !again)
-}
-
-fn are_anchors_copied(alloc: Global) -> Result<bool, NameError> {
-    let mut anchors = TrustAnchors::empty(alloc);
-    let held = copy_trusts_all(alloc, &mut anchors);
-    drop(anchors);
-    held
-}
-
-fn trusts_for(
+/// Trusts a key of this owner; whether it is new.
+fn trust(
+    rt: &impl Abort,
     alloc: Global,
     anchors: &mut TrustAnchors,
     owner: &str,
+    key: &[u8],
+) -> bool {
+    let key = Octets::from_slice(alloc, key).expect(rt, "memory");
+    let trusted = anchors.insert_with_name(name_of(rt, alloc, owner), 13, key);
+    trusted.expect(rt, "memory")
+}
+
+/// A key of this owner is trusted by this algorithm.
+fn trusts(
+    rt: &impl Abort,
+    alloc: Global,
+    anchors: &TrustAnchors,
+    owner: &str,
     algorithm: u8,
-) -> Result<bool, NameError> {
-    let name = Name::from_ascii(alloc, "org.")?;
-    let _ = anchors.insert_with_name(name, 13, Octets::from_slice(alloc, KEY)?)?;
-    let owner = Name::from_ascii(alloc, owner)?;
-    let held = anchors.contains_with_name(&owner, algorithm, KEY);
+    key: &[u8],
+) -> bool {
+    let owner = name_of(rt, alloc, owner);
+    let held = anchors.contains_with_name(&owner, algorithm, key);
     drop(owner);
-    Ok(held)
+    held
+}
+
+/// Each of so many keys is new.
+fn trust_all(rt: &impl Abort, alloc: Global, anchors: &mut TrustAnchors) -> bool {
+    for number in 0..MANY as u32 {
+        if !trust(rt, alloc, anchors, ".", &number.to_be_bytes()) {
+            return false;
+        }
+    }
+    true
+}
+
+fn copy_trusts_last(rt: &impl Abort, alloc: Global, anchors: &TrustAnchors) -> bool {
+    let copy = anchors.try_clone().expect(rt, "memory");
+    let last = MANY as u32 - 1;
+    let held = trusts(rt, alloc, &copy, ".", 13, &last.to_be_bytes()) && copy.len() == MANY;
+    drop(copy);
+    held
 }
 
 /// Whether a set that trusts a key of `org.` by algorithm 13 trusts it for this owner and this algorithm.
-fn is_trusted_for(alloc: Global, owner: &str, algorithm: u8) -> Result<bool, NameError> {
+fn is_trusted_for(rt: &impl Abort, alloc: Global, owner: &str, algorithm: u8) -> bool {
     let mut anchors = TrustAnchors::empty(alloc);
-    let held = trusts_for(alloc, &mut anchors, owner, algorithm);
+    trust(rt, alloc, &mut anchors, "org.", KEY);
+    let held = trusts(rt, alloc, &anchors, owner, algorithm, KEY);
     drop(anchors);
     held
 }
@@ -168,12 +154,29 @@ fn is_trusted_for(alloc: Global, owner: &str, algorithm: u8) -> Result<bool, Nam
 #[test]
 fn a_key_is_trusted_for_its_owner_and_algorithm(rt: HostRuntime) {
     let alloc = rt.alloc();
-    assert!(rt; is_trusted_for(alloc, "oRg.", 13) == Ok(true));
-    assert!(rt; is_trusted_for(alloc, "org.", 8) == Ok(false));
-    assert!(rt; is_trusted_for(alloc, "net.", 13) == Ok(false));
+    check_row(
+        &rt,
+        "the owner in another case",
+        is_trusted_for(&rt, alloc, "oRg.", 13),
+    );
+    check_row(
+        &rt,
+        "another algorithm",
+        !is_trusted_for(&rt, alloc, "org.", 8),
+    );
+    check_row(
+        &rt,
+        "another owner",
+        !is_trusted_for(&rt, alloc, "net.", 13),
+    );
 }
 
 #[test]
 fn a_set_of_70_000_anchors_is_copied(rt: HostRuntime) {
-    check_row(&rt, "of the root", are_anchors_copied(rt.alloc()));
+    let mut anchors = TrustAnchors::empty(rt.alloc());
+    let all_new = anchors.is_empty() && trust_all(&rt, rt.alloc(), &mut anchors);
+    let again = trust(&rt, rt.alloc(), &mut anchors, ".", &0u32.to_be_bytes());
+    let held = copy_trusts_last(&rt, rt.alloc(), &anchors);
+    drop(anchors);
+    check_row(&rt, "of the root", held && all_new && !again);
 }

@@ -1,5 +1,5 @@
 //! What tests share: the assertion on a row, and keys, records and sets.
-use dns_model::{NameError, Proof};
+use dns_model::Proof;
 use dns_name::Name;
 use dns_record::{DNSClass, Rdata, Record, RecordSet, RecordType};
 use std::alloc::Global;
@@ -44,96 +44,107 @@ pub(crate) const REFUSED: &[u8] =
     b"\0\x02\x0d\x01\0\0\x02\x58\0\0\x07\xd0\0\0\x03\xe8\xae\xc9\x07example\0\xcd";
 
 /// What was tried on a row held; the message names the row.
-pub(crate) fn check_row(rt: &impl Abort, row: &str, held: Result<bool, NameError>) {
-    assert!(rt; matches!(held, Ok(true)), "{row}");
+pub(crate) fn check_row(rt: &impl Abort, row: &str, held: bool) {
+    assert!(rt; held, "{row}");
 }
 
-/// A record of ttl 3600 with a mark. A row that is too long fails its test by the error.
+/// The name of this text.
+pub(crate) fn name_of(rt: &impl Abort, alloc: Global, text: &str) -> Name {
+    Name::from_ascii(alloc, text).expect(rt, "a name")
+}
+
+/// The rdata of these bytes. A row that is too long ends its test.
+pub(crate) fn rdata_of(rt: &impl Abort, alloc: Global, bytes: &[u8]) -> Rdata {
+    if bytes.len() > 65535 {
+        rt.abort();
+    }
+    Rdata::from_slice(alloc, bytes).expect(rt, "memory")
+}
+
+/// A record of ttl 3600 with a mark.
 pub(crate) fn record(
+    rt: &impl Abort,
     alloc: Global,
     owner: &str,
     record_type: RecordType,
     rdata: &[u8],
     proof: Proof,
-) -> Result<Record, NameError> {
-    if rdata.len() > 65535 {
-        return Err(NameError::LongName);
-    }
-    Ok(Record {
-        name: Name::from_ascii(alloc, owner)?,
+) -> Record {
+    Record {
+        name: name_of(rt, alloc, owner),
         record_type,
         dns_class: DNSClass::IN,
         ttl: 3600,
-        rdata: Rdata::from_slice(alloc, rdata)?,
+        rdata: rdata_of(rt, alloc, rdata),
         proof,
-    })
+    }
 }
 
 /// Records of one owner and type, each with its mark.
 pub(crate) fn marked_records(
+    rt: &impl Abort,
     alloc: Global,
     owner: &str,
     record_type: RecordType,
     rows: &[(&[u8], Proof)],
-) -> Result<Vec<Record>, NameError> {
+) -> Vec<Record> {
     let mut records = Vec::new(alloc);
     for row in rows {
-        records.push(record(alloc, owner, record_type, row.0, row.1)?)?;
+        let next = record(rt, alloc, owner, record_type, row.0, row.1);
+        records.push(next).expect(rt, "memory");
     }
-    Ok(records)
+    records
 }
 
 /// The same without a mark.
 pub(crate) fn records_of(
+    rt: &impl Abort,
     alloc: Global,
     owner: &str,
     record_type: RecordType,
     rdatas: &[&[u8]],
-) -> Result<Vec<Record>, NameError> {
+) -> Vec<Record> {
     let mut records = Vec::new(alloc);
     for rdata in rdatas {
-        let proof = Proof::Indeterminate;
-        records.push(record(alloc, owner, record_type, rdata, proof)?)?;
+        let next = record(rt, alloc, owner, record_type, rdata, Proof::Indeterminate);
+        records.push(next).expect(rt, "memory");
     }
-    Ok(records)
+    records
 }
 
 /// A set of class IN with signatures.
 pub(crate) fn set_of(
+    rt: &impl Abort,
     alloc: Global,
     owner: &str,
     record_type: RecordType,
     records: Vec<Record>,
     signatures: &[&[u8]],
-) -> Result<RecordSet, NameError> {
-    Ok(RecordSet {
-        name: Name::from_ascii(alloc, owner)?,
+) -> RecordSet {
+    RecordSet {
+        name: name_of(rt, alloc, owner),
         record_type,
         dns_class: DNSClass::IN,
         records,
-        rrsigs: records_of(alloc, owner, RecordType::RRSIG, signatures)?,
-    })
-}
-
-fn fill_with(records: &mut Vec<Record>, one: &Record, number: usize) -> Result<(), NameError> {
-    for _ in 0..number {
-        records.push(one.try_clone()?)?;
+        rrsigs: records_of(rt, alloc, owner, RecordType::RRSIG, signatures),
     }
-    Ok(())
 }
 
 /// So many records of `example.` more, each of this rdata and Secure.
 pub(crate) fn fill(
+    rt: &impl Abort,
     alloc: Global,
     records: &mut Vec<Record>,
     record_type: RecordType,
     rdata: &[u8],
     number: usize,
-) -> Result<(), NameError> {
-    let one = record(alloc, "example.", record_type, rdata, Proof::Secure)?;
-    let filled = fill_with(records, &one, number);
+) {
+    let one = record(rt, alloc, "example.", record_type, rdata, Proof::Secure);
+    for _ in 0..number {
+        let next = one.try_clone().expect(rt, "memory");
+        records.push(next).expect(rt, "memory");
+    }
     drop(one);
-    filled
 }
 
 /// More than 16 bits count.
@@ -141,13 +152,14 @@ pub(crate) const MANY: usize = 70_000;
 
 /// So many records of one rdata, and one of another behind them.
 pub(crate) fn many_and_one(
+    rt: &impl Abort,
     alloc: Global,
     record_type: RecordType,
     rdata: &[u8],
     last: &[u8],
-) -> Result<Vec<Record>, NameError> {
+) -> Vec<Record> {
     let mut records = Vec::new(alloc);
-    fill(alloc, &mut records, record_type, rdata, MANY)?;
-    fill(alloc, &mut records, record_type, last, 1)?;
-    Ok(records)
+    fill(rt, alloc, &mut records, record_type, rdata, MANY);
+    fill(rt, alloc, &mut records, record_type, last, 1);
+    records
 }

@@ -7,13 +7,14 @@ use crate::parts::*;
 use crate::wanted::{Want, is_wanted};
 use dns_evidence::Steps;
 use dns_marks::{KeyAnswer, mark_rrset};
-use dns_model::{NameError, Proof};
+use dns_model::Proof;
 use dns_name::Name;
 use dns_proof::{ProofError, ProofErrorKind, RrsetProof};
 use dns_record::{DNSClass, Query, RecordSet, RecordType};
 use dns_trust::first_signatures;
 use std::alloc::Global;
 use std::marker::Brand;
+use std::process::Abort;
 use std::sync::ledger::{Blank, Ledger};
 
 /// What came of the ask of a signature: the signer that was asked for in vain, or keys by rdata and mark.
@@ -107,47 +108,46 @@ fn rows() -> &'static [Row] {
     ROWS
 }
 
-fn failed(alloc: Global, signer: &str) -> Result<KeyAnswer, NameError> {
-    let name = Name::from_ascii(alloc, signer)?;
-    Ok(KeyAnswer::Failed(Query {
+fn failed(name: Name) -> KeyAnswer {
+    KeyAnswer::Failed(Query {
         name,
         query_type: RecordType::DNSKEY,
         query_class: DNSClass::IN,
-    }))
+    })
 }
 
-fn answered(alloc: Global, owner: &str, keys: &[(&[u8], Proof)]) -> Result<KeyAnswer, NameError> {
-    let keys = marked_records(alloc, owner, RecordType::DNSKEY, keys)?;
-    Ok(KeyAnswer::Keys(keys))
+fn answered(rt: &impl Abort, alloc: Global, owner: &str, keys: &[(&[u8], Proof)]) -> KeyAnswer {
+    KeyAnswer::Keys(marked_records(rt, alloc, owner, RecordType::DNSKEY, keys))
 }
 
-fn answer_of(alloc: Global, owner: &str, told: &Told) -> Result<KeyAnswer, NameError> {
+fn answer_of(rt: &impl Abort, alloc: Global, owner: &str, told: &Told) -> KeyAnswer {
     match told {
-        Told::Skipped => Ok(KeyAnswer::Skipped),
-        Told::Failed(signer) => failed(alloc, signer),
-        Told::Keys(keys) => answered(alloc, owner, keys),
+        Told::Skipped => KeyAnswer::Skipped,
+        Told::Failed(signer) => failed(name_of(rt, alloc, signer)),
+        Told::Keys(keys) => answered(rt, alloc, owner, keys),
     }
 }
 
 /// A copy of an answer, which outlives it.
-fn copied_answer(alloc: Global, owner: &str, told: &Told) -> Result<KeyAnswer, NameError> {
-    let answer = answer_of(alloc, owner, told)?;
-    let copy = answer.try_clone();
+fn copied_answer(rt: &impl Abort, alloc: Global, owner: &str, told: &Told) -> KeyAnswer {
+    let answer = answer_of(rt, alloc, owner, told);
+    let copy = answer.try_clone().expect(rt, "memory");
     drop(answer);
-    Ok(copy?)
+    copy
 }
 
-fn answers_of(alloc: Global, row: &Row) -> Result<Vec<KeyAnswer>, NameError> {
+fn answers_of(rt: &impl Abort, alloc: Global, row: &Row) -> Vec<KeyAnswer> {
     let mut answers = Vec::new(alloc);
     for told in row.3 {
-        answers.push(copied_answer(alloc, row.1, told)?)?;
+        let answer = copied_answer(rt, alloc, row.1, told);
+        answers.push(answer).expect(rt, "memory");
     }
-    Ok(answers)
+    answers
 }
 
-fn servers(alloc: Global, row: &Row) -> Result<RecordSet, NameError> {
-    let records = records_of(alloc, row.1, RecordType::NS, &[b"\x01a\0"])?;
-    set_of(alloc, row.1, RecordType::NS, records, row.2)
+fn servers(rt: &impl Abort, alloc: Global, row: &Row) -> RecordSet {
+    let records = records_of(rt, alloc, row.1, RecordType::NS, &[b"\x01a\0"]);
+    set_of(rt, alloc, row.1, RecordType::NS, records, row.2)
 }
 
 /// The mark of a set at second 1500.
@@ -174,27 +174,31 @@ fn found<L: Ledger>(
 
 /// A set is marked as the row says, after as many questions.
 fn is_marked(
+    rt: &impl Abort,
     alloc: Global,
     set: &RecordSet,
     answers: &[KeyAnswer],
     row: &Row,
-) -> Result<bool, NameError> {
+) -> bool {
     let verifier = Counting::new();
     let mark = found::<Brand>(alloc, &verifier, set, answers, Blank::new(1));
-    Ok(is_wanted(alloc, mark, &row.4)? && verifier.questions() == row.5)
+    let held = is_wanted(rt, alloc, &mark, &row.4);
+    drop(mark);
+    held && verifier.questions() == row.5
 }
 
-fn is_shown(alloc: Global, row: &Row) -> Result<bool, NameError> {
-    let answers = answers_of(alloc, row)?;
-    let set = servers(alloc, row)?;
-    let held = is_marked(alloc, &set, &answers, row);
+fn is_shown(rt: &impl Abort, alloc: Global, row: &Row) -> bool {
+    let answers = answers_of(rt, alloc, row);
+    let set = servers(rt, alloc, row);
+    let held = is_marked(rt, alloc, &set, &answers, row);
     drop(set);
+    drop(answers);
     held
 }
 
 #[test]
 fn sets_are_marked_by_their_signatures(rt: HostRuntime) {
     for row in rows() {
-        check_row(&rt, row.0, is_shown(rt.alloc(), row));
+        check_row(&rt, row.0, is_shown(&rt, rt.alloc(), row));
     }
 }

@@ -8,7 +8,7 @@ use crate::parts::*;
 use crate::wanted::{Want, is_found, is_wanted};
 use dns_evidence::Steps;
 use dns_marks::{verify_rrset_with_dnskey, verify_rrsig_with_keys};
-use dns_model::{NameError, Proof};
+use dns_model::Proof;
 use dns_name::NoMemory;
 use dns_proof::{ProofError, ProofErrorKind, RrsetProof};
 use dns_rdata::{Dnskey, Rrsig};
@@ -16,6 +16,7 @@ use dns_record::{Record, RecordSet, RecordType};
 use dns_trust::{Judge, TrustAnchors, is_good_by};
 use std::alloc::Global;
 use std::marker::Brand;
+use std::process::Abort;
 use std::sync::ledger::{Blank, Ledger};
 
 /// What it shows; keys of `example.` by rdata and mark; a signature; the type of the set that is handed in in place of
@@ -139,11 +140,12 @@ struct Parts {
     set: RecordSet,
 }
 
-fn parts_of(alloc: Global, row: &Row) -> Result<Parts, NameError> {
-    let keys = marked_records(alloc, "example.", RecordType::DNSKEY, row.1)?;
-    let records = records_of(alloc, "example.", NS, &[b"\x01a\0"])?;
-    let set = set_of(alloc, "example.", row.3, records, &[row.2])?;
-    Ok(Parts { keys, set })
+fn parts_of(rt: &impl Abort, alloc: Global, row: &Row) -> Parts {
+    let records = records_of(rt, alloc, "example.", NS, &[b"\x01a\0"]);
+    Parts {
+        keys: marked_records(rt, alloc, "example.", RecordType::DNSKEY, row.1),
+        set: set_of(rt, alloc, "example.", row.3, records, &[row.2]),
+    }
 }
 
 /// What the signature proves by the last key, whose mark counts.
@@ -170,10 +172,10 @@ fn proof_by_key<L: Ledger>(
 }
 
 /// It is good by the last key, whatever its mark.
-fn is_good(alloc: Global, verifier: &Counting, parts: &Parts, now: u64) -> Result<bool, NoMemory> {
+fn is_good(rt: &impl Abort, alloc: Global, verifier: &Counting, parts: &Parts, now: u64) -> bool {
     let Parts { keys, set } = parts;
     let (Some(key), Some(sig)) = (keys.last(), set.rrsigs.last()) else {
-        return Ok(false);
+        return false;
     };
     let anchors = TrustAnchors::empty(alloc);
     let judge = Judge {
@@ -181,7 +183,7 @@ fn is_good(alloc: Global, verifier: &Counting, parts: &Parts, now: u64) -> Resul
         anchors: &anchors,
         moment: now,
     };
-    let good = is_good_by(alloc, &judge, set, sig, key);
+    let good = is_good_by(alloc, &judge, set, sig, key).expect(rt, "memory");
     drop(anchors);
     good
 }
@@ -210,17 +212,16 @@ fn proof_by_keys<L: Ledger>(
 
 /// By the last key it proves what the row says. The verifier is asked as often where its mark counts as where it
 /// doesn't: a row whose key isn't Secure has one by which no signature is good.
-fn is_proved_by_key(alloc: Global, parts: &Parts, row: &Row) -> Result<bool, NameError> {
+fn is_proved_by_key(rt: &impl Abort, alloc: Global, parts: &Parts, row: &Row) -> bool {
     let verifier = Counting::new();
-    let good = is_good(alloc, &verifier, parts, row.4)?;
+    let good = is_good(rt, alloc, &verifier, parts, row.4);
     let once = verifier.questions();
     let mark = proof_by_key::<Brand>(alloc, &verifier, parts, row.4, Blank::new(1));
-    Ok(
-        is_wanted(alloc, mark, &row.5)?
-            && good == matches!(&row.5, Want::Found(..))
-            && once == row.6
-            && verifier.questions() == once.wrapping_add(row.6),
-    )
+    let held = is_wanted(rt, alloc, &mark, &row.5);
+    drop(mark);
+    held && good == matches!(&row.5, Want::Found(..))
+        && once == row.6
+        && verifier.questions() == once.wrapping_add(row.6)
 }
 
 fn is_proof(found: &Option<RrsetProof>, want: &Want) -> bool {
@@ -231,63 +232,50 @@ fn is_proof(found: &Option<RrsetProof>, want: &Want) -> bool {
 }
 
 /// By all keys it does.
-fn is_proved_by_keys(alloc: Global, parts: &Parts, row: &Row) -> Result<bool, NameError> {
+fn is_proved_by_keys(rt: &impl Abort, alloc: Global, parts: &Parts, row: &Row) -> bool {
     let verifier = Counting::new();
-    let found = proof_by_keys::<Brand>(alloc, &verifier, parts, row.4, Blank::new(1))?;
-    Ok(is_proof(&found, &row.5) && verifier.questions() == row.6)
-}
-
-fn is_shown_by_key(alloc: Global, row: &Row) -> Result<bool, NameError> {
-    let parts = parts_of(alloc, row)?;
-    let held = is_proved_by_key(alloc, &parts, row);
-    drop(parts);
-    held
-}
-
-fn is_shown_by_keys(alloc: Global, row: &Row) -> Result<bool, NameError> {
-    let parts = parts_of(alloc, row)?;
-    let held = is_proved_by_keys(alloc, &parts, row);
-    drop(parts);
-    held
+    let proved = proof_by_keys::<Brand>(alloc, &verifier, parts, row.4, Blank::new(1));
+    let found = proved.expect(rt, "memory");
+    is_proof(&found, &row.5) && verifier.questions() == row.6
 }
 
 #[test]
 fn signatures_are_judged_by_one_key(rt: HostRuntime) {
     for row in by_one() {
-        check_row(&rt, row.0, is_shown_by_key(rt.alloc(), row));
+        let parts = parts_of(&rt, rt.alloc(), row);
+        let held = is_proved_by_key(&rt, rt.alloc(), &parts, row);
+        drop(parts);
+        check_row(&rt, row.0, held);
     }
 }
 
 #[test]
 fn signatures_are_judged_by_keys_with_marks(rt: HostRuntime) {
     for row in by_keys() {
-        check_row(&rt, row.0, is_shown_by_keys(rt.alloc(), row));
+        let parts = parts_of(&rt, rt.alloc(), row);
+        let held = is_proved_by_keys(&rt, rt.alloc(), &parts, row);
+        drop(parts);
+        check_row(&rt, row.0, held);
     }
 }
 
 const LARGE: &Row = &Row("the last key", SECURE, OVER_NS, NS, 1500, GOOD, 1);
 
 /// Many keys, of which the last made the signature, and an NS set of many records.
-fn large_parts(alloc: Global) -> Result<Parts, NameError> {
-    let keys = many_and_one(alloc, RecordType::DNSKEY, KEY_BESIDE, KEY)?;
-    let records = many_and_one(alloc, NS, b"\x01b\0", b"\x01a\0")?;
-    let set = set_of(alloc, "example.", NS, records, &[OVER_NS])?;
-    Ok(Parts { keys, set })
-}
-
-fn is_large_proved(alloc: Global) -> Result<bool, NameError> {
-    let parts = large_parts(alloc)?;
-    let by_key = is_proved_by_key(alloc, &parts, LARGE);
-    let by_keys = is_proved_by_keys(alloc, &parts, LARGE);
-    drop(parts);
-    Ok(by_key? && by_keys?)
+fn large_parts(rt: &impl Abort, alloc: Global) -> Parts {
+    let records = many_and_one(rt, alloc, NS, b"\x01b\0", b"\x01a\0");
+    Parts {
+        keys: many_and_one(rt, alloc, RecordType::DNSKEY, KEY_BESIDE, KEY),
+        set: set_of(rt, alloc, "example.", NS, records, &[OVER_NS]),
+    }
 }
 
 #[test]
 fn a_set_of_70_000_records_is_proved_by_the_last_of_as_many_keys(rt: HostRuntime) {
-    check_row(
-        &rt,
-        "by that key alone, and among them",
-        is_large_proved(rt.alloc()),
-    );
+    let parts = large_parts(&rt, rt.alloc());
+    let by_key = is_proved_by_key(&rt, rt.alloc(), &parts, LARGE);
+    let by_keys = is_proved_by_keys(&rt, rt.alloc(), &parts, LARGE);
+    drop(parts);
+    check_row(&rt, "by that key alone", by_key);
+    check_row(&rt, "among them", by_keys);
 }

@@ -1,9 +1,10 @@
 use crate::parts::*;
-use dns_model::{NameError, Proof};
-use dns_record::{Record, RecordType};
+use dns_model::Proof;
+use dns_record::{Record, RecordSet, RecordType};
 use dns_trust::RrsigValidity;
 use dns_trust::RrsigValidity::{ExpiredRrsig, ValidRrsig, WrongDnskey, WrongRrsig};
 use std::alloc::Global;
+use std::process::Abort;
 
 /// The owner, the type and the rdata of a record.
 struct Written(&'static str, RecordType, &'static [u8]);
@@ -84,41 +85,30 @@ fn rows() -> &'static [Row] {
     ROWS
 }
 
-fn record_of(alloc: Global, row: &Written) -> Result<Record, NameError> {
-    record(alloc, row.0, row.1, row.2, Proof::Indeterminate)
+fn record_of(rt: &impl Abort, alloc: Global, row: &Written) -> Record {
+    record(rt, alloc, row.0, row.1, row.2, Proof::Indeterminate)
 }
 
-/// What is found out of a signature over the root's NS set and a key.
-fn validity(
-    alloc: Global,
-    sig: &Record,
-    key: &Record,
-    now: u64,
-) -> Result<RrsigValidity, NameError> {
-    let records = records_of(alloc, ".", RecordType::NS, &[b"\x01a\0"])?;
-    let set = set_of(alloc, ".", RecordType::NS, records, &[])?;
-    let found = RrsigValidity::check(sig, &set, key, now);
+fn servers(rt: &impl Abort, alloc: Global) -> RecordSet {
+    let records = records_of(rt, alloc, ".", RecordType::NS, &[b"\x01a\0"]);
+    set_of(rt, alloc, ".", RecordType::NS, records, &[])
+}
+
+/// What is found out of a signature over the root's NS set and a key is what the row says.
+fn fits(rt: &impl Abort, alloc: Global, row: &Row) -> bool {
+    let sig = record_of(rt, alloc, &row.1);
+    let key = record_of(rt, alloc, &row.2);
+    let set = servers(rt, alloc);
+    let found = RrsigValidity::check(&sig, &set, &key, row.3);
     drop(set);
-    Ok(found)
-}
-
-fn validity_of(alloc: Global, sig: &Record, row: &Row) -> Result<RrsigValidity, NameError> {
-    let key = record_of(alloc, &row.2)?;
-    let found = validity(alloc, sig, &key, row.3);
     drop(key);
-    found
-}
-
-fn fits(alloc: Global, row: &Row) -> Result<bool, NameError> {
-    let sig = record_of(alloc, &row.1)?;
-    let found = validity_of(alloc, &sig, row);
     drop(sig);
-    Ok(found? == row.4)
+    found == row.4
 }
 
 #[test]
 fn signatures_fit_their_set_and_key(rt: HostRuntime) {
     for row in rows() {
-        check_row(&rt, row.0, fits(rt.alloc(), row));
+        check_row(&rt, row.0, fits(&rt, rt.alloc(), row));
     }
 }

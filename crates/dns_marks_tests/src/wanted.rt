@@ -1,7 +1,9 @@
 //! Marks and errors as tests compare them.
-use dns_model::{NameError, Proof};
-use dns_proof::{ProofError, ProofErrorKind, RrsetProof};
+use dns_model::Proof;
+use dns_proof::{ProofError, RrsetProof};
 use std::alloc::Global;
+use std::fmt::Display;
+use std::process::Abort;
 
 /// A mark with the ttl that a signature leaves and the place of the signature, or the text of the error, or neither.
 pub(crate) enum Want {
@@ -10,24 +12,12 @@ pub(crate) enum Want {
     Nothing,
 }
 
-/// A list of one value. To let a list go is one call, while each function that lets go an error or a verdict itself
-/// goes over all its variants, which is dear to prove.
-pub(crate) fn only<T: Drop>(alloc: Global, value: T) -> Result<Vec<T>, NameError> {
-    let mut values = Vec::new(alloc);
-    values.push(value)?;
-    Ok(values)
-}
-
-/// The mark and the cause of an error read so.
-pub(crate) fn tells(alloc: Global, error: &ProofError, want: &str) -> Result<bool, NameError> {
-    let text = format!(in alloc; "{error}")?;
-    Ok(text.as_str() == want)
-}
-
-/// A cause reads so.
-pub(crate) fn reads(alloc: Global, kind: &ProofErrorKind, want: &str) -> Result<bool, NameError> {
-    let text = format!(in alloc; "{kind}")?;
-    Ok(text.as_str() == want)
+/// An error, or the cause of one, reads so.
+pub(crate) fn reads<D: Display>(rt: &impl Abort, alloc: Global, error: &D, want: &str) -> bool {
+    let text = format!(in alloc; "{error}").expect(rt, "memory");
+    let held = text.as_str() == want;
+    drop(text);
+    held
 }
 
 /// What is found is this mark, this ttl and this place.
@@ -48,24 +38,15 @@ pub(crate) fn text_of(want: &Want) -> &'static str {
     }
 }
 
-fn is_mark(
+/// What is found, or why nothing is, is what is wanted.
+pub(crate) fn is_wanted(
+    rt: &impl Abort,
     alloc: Global,
     mark: &Result<RrsetProof, ProofError>,
     want: &Want,
-) -> Result<bool, NameError> {
+) -> bool {
     match mark {
-        Ok(found) => Ok(is_found(found, want)),
-        Err(error) => tells(alloc, error, text_of(want)),
+        Ok(found) => is_found(found, want),
+        Err(error) => reads(rt, alloc, error, text_of(want)),
     }
-}
-
-/// What is found, or why nothing is, is what is wanted.
-pub(crate) fn is_wanted(
-    alloc: Global,
-    mark: Result<RrsetProof, ProofError>,
-    want: &Want,
-) -> Result<bool, NameError> {
-    let held = is_mark(alloc, &mark, want);
-    drop(mark);
-    held
 }

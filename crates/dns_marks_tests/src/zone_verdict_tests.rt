@@ -1,16 +1,17 @@
 use crate::counting::Counting;
 use crate::parts::*;
-use crate::wanted::{only, reads};
+use crate::wanted::reads;
 use dns_evidence::Trail;
 use dns_handle::{DnsResponse, NetError, NoRecords};
 use dns_marks::{DnsAnswer, ZoneVerdict, ds_verdict};
 use dns_message::Message;
 use dns_model::Proof::{Bogus, Insecure, Secure};
 use dns_model::Section::{Additional, Answer, Authority};
-use dns_model::{Denial, NameError, Proof, Section};
-use dns_name::{Name, NoMemory};
+use dns_model::{Denial, Proof, Section};
+use dns_name::NoMemory;
 use dns_record::{DNSClass, OpCode, Query, Record, RecordType, ResponseCode};
 use std::alloc::Global;
+use std::process::Abort;
 
 /// A record of a response: its class, section, owner, type, rdata and mark.
 struct Told(
@@ -198,10 +199,10 @@ fn empty_message(alloc: Global) -> Message {
     }
 }
 
-/// A response without records.
-fn empty_response(alloc: Global) -> DnsResponse {
+/// A response that is this message.
+fn response_of(alloc: Global, message: Message) -> DnsResponse {
     DnsResponse {
-        message: empty_message(alloc),
+        message,
         chains: Vec::new(alloc),
         denial: Denial::None,
         trail: Trail::new(alloc),
@@ -216,35 +217,26 @@ fn section_of(message: &mut Message, section: Section) -> &mut Vec<Record> {
     }
 }
 
-/// A section of the response that a list has alone.
-fn section_in(answers: &mut [DnsAnswer], section: Section) -> Option<&mut Vec<Record>> {
-    match answers.first_mut() {
-        Some(Ok(response)) => Some(section_of(&mut response.message, section)),
-        _ => None,
+fn told_record(rt: &impl Abort, alloc: Global, told: &Told) -> Record {
+    Record {
+        dns_class: told.0,
+        ..record(rt, alloc, told.2, told.3, told.4, told.5)
     }
-}
-
-fn told_record(alloc: Global, told: &Told) -> Result<Record, NameError> {
-    let mut next = record(alloc, told.2, told.3, told.4, told.5)?;
-    next.dns_class = told.0;
-    Ok(next)
 }
 
 /// A record more.
-fn put(alloc: Global, answers: &mut [DnsAnswer], told: &Told) -> Result<(), NameError> {
-    match section_in(answers, told.1) {
-        Some(records) => Ok(records.push(told_record(alloc, told)?)?),
-        None => Ok(()),
-    }
+fn put(rt: &impl Abort, alloc: Global, message: &mut Message, told: &Told) {
+    let next = told_record(rt, alloc, told);
+    section_of(message, told.1).push(next).expect(rt, "memory");
 }
 
-/// An answer with these records, by itself in a list.
-fn answer_of(alloc: Global, told: &[Told]) -> Result<Vec<DnsAnswer>, NameError> {
-    let mut answers = only(alloc, Ok(empty_response(alloc)))?;
+/// A message with these records.
+fn message_of(rt: &impl Abort, alloc: Global, told: &[Told]) -> Message {
+    let mut message = empty_message(alloc);
     for one in told {
-        put(alloc, &mut answers, one)?;
+        put(rt, alloc, &mut message, one);
     }
-    Ok(answers)
+    message
 }
 
 /// These DS records are so many, all of class IN.
@@ -253,109 +245,104 @@ fn are_signed(ds: &[Record], number: usize) -> bool {
 }
 
 /// A verdict is this one.
-fn is_verdict(alloc: Global, verdict: &ZoneVerdict, want: &Want) -> Result<bool, NameError> {
+fn is_verdict(rt: &impl Abort, alloc: Global, verdict: &ZoneVerdict, want: &Want) -> bool {
     match (verdict, want) {
-        (ZoneVerdict::Signed(ds), Want::Signed(number)) => Ok(are_signed(ds, *number)),
-        (ZoneVerdict::Insecure(kind), Want::Insecure(text)) => reads(alloc, kind, text),
-        (ZoneVerdict::Bogus(kind), Want::Bogus(text)) => reads(alloc, kind, text),
-        _ => Ok(false),
+        (ZoneVerdict::Signed(ds), Want::Signed(number)) => are_signed(ds, *number),
+        (ZoneVerdict::Insecure(kind), Want::Insecure(text)) => reads(rt, alloc, kind, text),
+        (ZoneVerdict::Bogus(kind), Want::Bogus(text)) => reads(rt, alloc, kind, text),
+        _ => false,
     }
 }
 
 /// A copy of a verdict is this one.
-fn copy_is(alloc: Global, verdict: &ZoneVerdict, want: &Want) -> Result<bool, NameError> {
-    let copy = verdict.try_clone()?;
-    let held = is_verdict(alloc, &copy, want);
+fn copy_is(rt: &impl Abort, alloc: Global, verdict: &ZoneVerdict, want: &Want) -> bool {
+    let copy = verdict.try_clone().expect(rt, "memory");
+    let held = is_verdict(rt, alloc, &copy, want);
     drop(copy);
     held
 }
 
 fn is_wanted(
+    rt: &impl Abort,
     alloc: Global,
     verdict: &Result<ZoneVerdict, NoMemory>,
     want: &Want,
-) -> Result<bool, NameError> {
+) -> bool {
     match verdict {
-        Ok(verdict) => copy_is(alloc, verdict, want),
-        Err(_) => Ok(matches!(want, Want::NoMemory)),
+        Ok(verdict) => copy_is(rt, alloc, verdict, want),
+        Err(_) => matches!(want, Want::NoMemory),
     }
 }
 
-/// The DS verdict on `EXAMPLE.` by the answer that a list has is this one.
-fn gives(
-    alloc: Global,
-    class: DNSClass,
-    answers: &[DnsAnswer],
-    want: &Want,
-) -> Result<bool, NameError> {
-    let Some(answer) = answers.first() else {
-        return Ok(false);
-    };
-    let zone = Name::from_ascii(alloc, "EXAMPLE.")?;
-    let verifier = Counting::new();
-    let verdict = ds_verdict(alloc, &verifier, &zone, class, answer);
-    drop(zone);
-    let held = is_wanted(alloc, &verdict, want);
+/// The DS verdict on `EXAMPLE.` by this answer is this one.
+fn gives(rt: &impl Abort, alloc: Global, class: DNSClass, answer: DnsAnswer, want: &Want) -> bool {
+    let zone = name_of(rt, alloc, "EXAMPLE.");
+    let verdict = ds_verdict(alloc, &Counting::new(), &zone, class, &answer);
+    let held = is_wanted(rt, alloc, &verdict, want);
     drop(verdict);
+    drop(zone);
+    drop(answer);
     held
 }
 
-/// The DS verdict of a row is the one that it names.
-fn is_judged(alloc: Global, row: &Row) -> Result<bool, NameError> {
-    let answers = answer_of(alloc, row.1)?;
-    gives(alloc, row.2, &answers, &row.3)
+/// The DS verdict by a response that is this message.
+fn gives_by(
+    rt: &impl Abort,
+    alloc: Global,
+    class: DNSClass,
+    message: Message,
+    want: &Want,
+) -> bool {
+    gives(rt, alloc, class, Ok(response_of(alloc, message)), want)
 }
 
 #[test]
 fn zones_are_judged_by_answers(rt: HostRuntime) {
     for row in rows() {
-        check_row(&rt, row.0, is_judged(rt.alloc(), row));
+        let message = message_of(&rt, rt.alloc(), row.1);
+        check_row(
+            &rt,
+            row.0,
+            gives_by(&rt, rt.alloc(), row.2, message, &row.3),
+        );
     }
 }
 
 /// There are no records: a lookup never answers so.
-fn no_records(alloc: Global) -> Result<NetError, NameError> {
+fn no_records(rt: &impl Abort, alloc: Global) -> NetError {
     let query = Query {
-        name: Name::from_ascii(alloc, "example.")?,
+        name: name_of(rt, alloc, "example."),
         query_type: DS_TYPE,
         query_class: IN,
     };
-    Ok(NetError::from(NoRecords::new(alloc, query, ResponseCode(0))))
+    NetError::from(NoRecords::new(alloc, query, ResponseCode(0)))
 }
 
 /// An ask that failed makes the verdict Bogus, with the question, but want of memory stays it.
-fn is_failed(alloc: Global, error: NetError, want: &Want) -> Result<bool, NameError> {
-    let answers = only(alloc, Err(error))?;
-    gives(alloc, IN, &answers, want)
-}
-
-fn is_bogus_without_records(alloc: Global) -> Result<bool, NameError> {
-    is_failed(alloc, no_records(alloc)?, &UNANSWERED)
+fn is_failed(rt: &impl Abort, alloc: Global, error: NetError, want: &Want) -> bool {
+    gives(rt, alloc, IN, Err(error), want)
 }
 
 #[test]
 fn zones_are_bogus_where_the_ask_failed(rt: HostRuntime) {
-    let in_time = is_failed(rt.alloc(), NetError::Timeout, &UNANSWERED);
+    let in_time = is_failed(&rt, rt.alloc(), NetError::Timeout, &UNANSWERED);
     check_row(&rt, "no answer in time", in_time);
-    check_row(&rt, "no records", is_bogus_without_records(rt.alloc()));
-    let wanting = is_failed(rt.alloc(), NetError::NoMemory, &Want::NoMemory);
+    let error = no_records(&rt, rt.alloc());
+    let bogus = is_failed(&rt, rt.alloc(), error, &UNANSWERED);
+    check_row(&rt, "no records", bogus);
+    let wanting = is_failed(&rt, rt.alloc(), NetError::NoMemory, &Want::NoMemory);
     check_row(&rt, "want of memory", wanting);
 }
 
-fn fill_answer(alloc: Global, answers: &mut [DnsAnswer]) -> Result<(), NameError> {
-    match section_in(answers, Section::Answer) {
-        Some(records) => fill(alloc, records, DS_TYPE, DS, MANY),
-        None => Ok(()),
-    }
-}
-
-fn signs_all(alloc: Global) -> Result<bool, NameError> {
-    let mut answers = answer_of(alloc, &[])?;
-    fill_answer(alloc, &mut answers)?;
-    gives(alloc, IN, &answers, &Want::Signed(MANY))
+/// Fills the answer section.
+fn fill_answers(rt: &impl Abort, alloc: Global, message: &mut Message) {
+    fill(rt, alloc, &mut message.answers, DS_TYPE, DS, MANY);
 }
 
 #[test]
 fn a_zone_is_signed_by_70_000_ds_records(rt: HostRuntime) {
-    check_row(&rt, "each is supported", signs_all(rt.alloc()));
+    let mut message = empty_message(rt.alloc());
+    fill_answers(&rt, rt.alloc(), &mut message);
+    let signed = gives_by(&rt, rt.alloc(), IN, message, &Want::Signed(MANY));
+    check_row(&rt, "each is supported", signed);
 }
