@@ -1,6 +1,6 @@
-//! Tests of `run`: over some of the repository's rows, over an outside that fails, and over servers in memory and of this machine. And of
-//! what it alone uses: streams of std as sources and sinks, and lookups below nested zones. `tools/run_rows` and `tools/run_asks` run the
-//! program.
+//! Tests of `run`: over some of the repository's rows, over an outside that fails, and over a server in memory. And of what it alone uses:
+//! streams of std as sources and sinks, and lookups below nested zones. `tools/run_rows` and `tools/run_asks` run the program, the latter
+//! over servers of a machine.
 //!
 //! They stand apart, since a crate with tests of its own is proved twice.
 #![tactic(auto)]
@@ -19,10 +19,6 @@ mod rows;
 mod run_tests;
 #[cfg(test)]
 mod runs;
-#[cfg(test)]
-mod server;
-#[cfg(test)]
-mod socket_tests;
 #[cfg(test)]
 mod stream_tests;
 #[cfg(test)]
