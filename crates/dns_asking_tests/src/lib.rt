@@ -1,7 +1,8 @@
-//! Tests of lookups over one server, in memory, and of words that are addresses; and the code of docs/LIBRARY.md, through the facades.
-//! `tools/run_asks` asks servers of a machine by the program.
+//! Tests of what `run` alone uses: lookups over one server, in memory, and words that are addresses; a lookup below nested zones; and
+//! streams of std as sources and sinks; and the code of docs/LIBRARY.md, through the facades. `tools/run_asks` asks servers of a machine by
+//! the program.
 //!
-//! They stand apart, since a crate with tests of its own is proved twice.
+//! They stand apart, since a crate with tests of its own is proved twice, and below `dns_run`, so that they don't wait for it.
 #![tactic(auto)]
 
 #[cfg(test)]
@@ -11,4 +12,8 @@ mod asking_tests;
 #[cfg(test)]
 mod library_tests;
 #[cfg(test)]
+mod nested_zone_tests;
+#[cfg(test)]
 mod rows;
+#[cfg(test)]
+mod stream_tests;

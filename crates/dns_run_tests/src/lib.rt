@@ -1,14 +1,11 @@
-//! Tests of `run`: over some of the repository's rows, over an outside that fails, and over a server in memory. And of what it alone uses:
-//! streams of std as sources and sinks, and lookups below nested zones. `tools/run_rows` and `tools/run_asks` run the program, the latter
-//! over servers of a machine.
+//! Tests of `run`: over some of the repository's rows, over an outside that fails, and over a server in memory. `tools/run_rows` and
+//! `tools/run_asks` run the program, the latter over servers of a machine; `dns_asking_tests` tries what `run` alone uses.
 //!
 //! They stand apart, since a crate with tests of its own is proved twice.
 #![tactic(auto)]
 
 #[cfg(test)]
 mod ask_tests;
-#[cfg(test)]
-mod nested_zone_tests;
 #[cfg(test)]
 mod replying;
 #[cfg(test)]
@@ -19,7 +16,5 @@ mod rows;
 mod run_tests;
 #[cfg(test)]
 mod runs;
-#[cfg(test)]
-mod stream_tests;
 #[cfg(test)]
 mod worked_rows;

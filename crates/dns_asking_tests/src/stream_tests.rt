@@ -1,5 +1,5 @@
 //! Streams of std as sources and sinks, where the streams fail.
-use crate::rows::check_row;
+use crate::rows::check_held;
 use dns_io::{Failed, InputSource, OutputSink, Sink, SinkFault, Source};
 use std::io;
 use std::io::{Read, Write};
@@ -62,7 +62,7 @@ fn broken_reader_is_read() -> bool {
 
 #[test]
 fn a_reader_is_read_on_after_a_fault(rt: HostRuntime) {
-    check_row(&rt, "a reader", Ok(broken_reader_is_read()));
+    check_held(&rt, "a reader", broken_reader_is_read());
 }
 
 /// What a write is given, and what it comes to.
@@ -92,5 +92,5 @@ fn broken_writer_is_written() -> bool {
 
 #[test]
 fn a_writer_that_takes_nothing_has_failed(rt: HostRuntime) {
-    check_row(&rt, "a writer", Ok(broken_writer_is_written()));
+    check_held(&rt, "a writer", broken_writer_is_written());
 }
