@@ -1,5 +1,5 @@
 //! Lookups over a server of the root, in memory. `tools/run_asks` asks servers of a machine by the program.
-ghost use Rattle.std.specs.Prelude.{◌≢◌, [], Ok, All, IfOk};
+ghost use Rattle.std.specs.Prelude.{◌≢◌, [], Ok, All};
 ghost use Rattle.dns_link.specs.Listed.{IsNewLink};
 
 use crate::rows::check_held;
@@ -9,10 +9,11 @@ use dns_handle::{DnsResponse, IoKind, NetError, Protocol};
 use dns_link::{ListDialer, PairLink};
 use dns_model::Proof;
 use dns_mux::ListDraws;
-use dns_name::{Name, NoMemory, Octets};
+use dns_name::{Name, Octets};
 use dns_record::{DNSClass, Query, RecordType};
 use dns_trust::TrustAnchors;
 use std::alloc::Global;
+use std::process::Abort;
 
 /// The public key of the root.
 const PUBLIC_KEY: &[u8] = b"\xaa\xbb";
@@ -50,76 +51,84 @@ const ROWS: &[Row] = &[
     Row("none that is made", 1000, 6, End::Marked(Proof::Secure)),
 ];
 
-/// The frames as one piece.
-fn frames(alloc: Global) -> Result<Vec<Octets>, NoMemory>
-    ensures { IfOk result (λ pieces. All (λ piece. piece ≢ []) pieces.items) }
+/// Bytes as one piece, if there are any.
+fn piece_of(rt: &impl Abort, alloc: Global, bytes: &[u8]) -> Vec<Octets>
+    ensures { All (λ piece. piece ≢ []) result.items }
 {
     let mut pieces = Vec::new(alloc);
-    let piece = Octets::from_slice(alloc, FRAMES)?;
-    if !piece.is_empty() {
-        pieces.push(piece)?;
+    if !bytes.is_empty() {
+        let piece = Octets::from_slice(alloc, bytes).expect(rt, "memory");
+        pieces.push(piece).expect(rt, "memory");
     }
-    Ok(pieces)
+    pieces
 }
 
 /// A link as the only one of a list.
-fn only(alloc: Global, link: PairLink) -> Result<Vec<Result<PairLink, IoKind>>, NoMemory>
+fn only(rt: &impl Abort, alloc: Global, link: PairLink) -> Vec<Result<PairLink, IoKind>>
     requires { IsNewLink (Ok link) }
-    ensures { IfOk result (λ links. All IsNewLink links.items) }
+    ensures { All IsNewLink result.items }
 {
     let mut links = Vec::new(alloc);
-    links.push(Ok(link))?;
-    Ok(links)
+    links.push(Ok(link)).expect(rt, "memory");
+    links
 }
 
-/// A dialer of one link, which gives the frames, takes a hundred bytes, and fails at these calls.
-fn dialer(alloc: Global, fails: Vec<u64>) -> Result<ListDialer, NoMemory> {
-    let pieces = frames(alloc)?;
-    let link = PairLink::new(alloc, pieces, 100, fails)?;
-    Ok(ListDialer::new(only(alloc, link)?, Vec::new(alloc)))
+/// A dialer of one link, which gives the frames, takes a hundred bytes, and fails at this call.
+fn dialer(rt: &impl Abort, alloc: Global, fails: u64) -> ListDialer {
+    let pieces = piece_of(rt, alloc, FRAMES);
+    let fails = Vec::from_slice(alloc, &[fails]).expect(rt, "memory");
+    let link = PairLink::new(alloc, pieces, 100, fails).expect(rt, "memory");
+    ListDialer::new(only(rt, alloc, link), Vec::new(alloc))
 }
 
-/// Trusts the root's key.
-fn trust(alloc: Global, anchors: &mut TrustAnchors) -> Option<bool> {
-    let key = Octets::from_slice(alloc, PUBLIC_KEY).ok()?;
+fn root(rt: &impl Abort, alloc: Global) -> Name {
+    Name::root(alloc).expect(rt, "memory")
+}
+
+/// The root's key is trusted.
+fn anchors(rt: &impl Abort, alloc: Global) -> TrustAnchors {
+    let key = Octets::from_slice(alloc, PUBLIC_KEY).expect(rt, "memory");
+    let mut anchors = TrustAnchors::empty(alloc);
+    let trusted = anchors.insert_with_name(root(rt, alloc), 13, key);
+    trusted.expect(rt, "memory");
     anchors
-        .insert_with_name(Name::root(alloc).ok()?, 13, key)
-        .ok()
 }
 
 /// The root's signature alone is accepted.
-fn verifier(alloc: Global) -> Listed {
+fn verifier(rt: &impl Abort, alloc: Global) -> Listed {
     let mut listed = Listed::new(alloc);
     listed.support(13);
-    let _ = listed.accept(13, PUBLIC_KEY, SIGNED, b"\xc0\xde");
+    let accepted = listed.accept(13, PUBLIC_KEY, SIGNED, b"\xc0\xde");
+    accepted.expect(rt, "memory");
     listed
 }
 
-/// The root's name servers are asked for at a moment.
-fn inquiry(alloc: Global, moment: u64) -> Option<Inquiry<Listed>> {
-    let query = Query {
-        name: Name::root(alloc).ok()?,
+fn servers(rt: &impl Abort, alloc: Global) -> Query {
+    Query {
+        name: root(rt, alloc),
         query_type: RecordType::NS,
         query_class: DNSClass::IN,
-    };
-    let mut anchors = TrustAnchors::empty(alloc);
-    let _ = trust(alloc, &mut anchors);
-    Some(Inquiry {
-        query,
+    }
+}
+
+/// The root's name servers are asked for at a moment.
+fn inquiry(rt: &impl Abort, alloc: Global, moment: u64) -> Inquiry<Listed> {
+    Inquiry {
+        query: servers(rt, alloc),
         depth: 26,
-        anchors,
-        verifier: verifier(alloc),
+        anchors: anchors(rt, alloc),
+        verifier: verifier(rt, alloc),
         moment,
-    })
+    }
 }
 
 /// How the row's lookup ended.
-fn asked(alloc: Global, row: &Row) -> Option<AskEnd<ListDialer>> {
-    let server = ServerAddress::read(b"127.0.0.1:53")?;
-    let inquiry = inquiry(alloc, row.1)?;
-    let dial = dialer(alloc, Vec::from_slice(alloc, &[row.2]).ok()?).ok()?;
+fn asked(rt: &impl Abort, alloc: Global, row: &Row) -> AskEnd<ListDialer> {
+    let server = ServerAddress::read(b"127.0.0.1:53").expect(rt, "an address");
+    let inquiry = inquiry(rt, alloc, row.1);
+    let dial = dialer(rt, alloc, row.2);
     let draws = ListDraws::new(Vec::new(alloc), Vec::new(alloc));
-    Some(ask_server(alloc, dial, draws, Protocol::Tcp, server, inquiry))
+    ask_server(alloc, dial, draws, Protocol::Tcp, server, inquiry)
 }
 
 fn is_end(reply: &Result<DnsResponse, NetError>, end: &End) -> bool {
@@ -133,20 +142,12 @@ fn is_end(reply: &Result<DnsResponse, NetError>, end: &End) -> bool {
     }
 }
 
-fn ends_so(alloc: Global, row: &Row) -> bool {
-    match asked(alloc, row) {
-        Some(ended) => {
-            let held = is_end(&ended.reply, &row.3);
-            drop(ended);
-            held
-        }
-        None => false,
-    }
-}
-
 #[test]
 fn an_answer_is_validated_at_the_moment_and_a_fault_is_told(rt: HostRuntime) {
     for row in ROWS {
-        check_held(&rt, row.0, ends_so(rt.alloc(), row));
+        let ended = asked(&rt, rt.alloc(), row);
+        let held = is_end(&ended.reply, &row.3);
+        drop(ended);
+        check_held(&rt, row.0, held);
     }
 }

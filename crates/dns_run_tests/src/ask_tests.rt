@@ -1,42 +1,43 @@
-//! Runs that ask a server over a dialer in memory.
+//! Runs that ask a server over a dialer in memory. `tools/run_asks` has the program ask servers of a machine.
 use crate::replying::Replying;
 use crate::root::{BOGUS, REPORT, SESSION};
 use crate::rows::check_row;
-use crate::runs::{sure_ends, words_of};
+use crate::runs::{bytes_of, sure_ends, words_of};
 use dns_handle::IoKind;
 use dns_link::ListDialer;
-use dns_name::NoMemory;
 use std::alloc::Global;
+use std::process::Abort;
 
-// A dialer of one link, which is refused.
-fn refusing(alloc: Global) -> Result<ListDialer, NoMemory> {
+/// A dialer of one link, which is refused.
+fn refusing(rt: &impl Abort, alloc: Global) -> ListDialer {
     let mut links = Vec::new(alloc);
-    links.push(Err(IoKind::ConnectionRefused))?;
-    Ok(ListDialer::new(links, Vec::new(alloc)))
+    let pushed = links.push(Err(IoKind::ConnectionRefused));
+    pushed.expect(rt, "memory");
+    ListDialer::new(links, Vec::new(alloc))
 }
 
-// Over a server that refuses a connection the program ends with this status and this text.
-fn refused_ends(alloc: Global, session: &[u8], status: u8, text: &[u8]) -> Result<bool, NoMemory> {
-    let dial = refusing(alloc)?;
-    let words = words_of(alloc, &["ask", "tcp", "127.0.0.1:53"])?;
-    sure_ends(alloc, &words, session, dial, status, text)
+/// Over a server that refuses a connection the program ends for that.
+fn is_refused(rt: &impl Abort, alloc: Global) -> bool {
+    let words = words_of(rt, alloc, &["ask", "tcp", "127.0.0.1:53"]);
+    let session = bytes_of(rt, alloc, SESSION);
+    let dial = refusing(rt, alloc);
+    let text = b"fault io ConnectionRefused\n";
+    let held = sure_ends(alloc, &words, session, dial, 1, text);
+    drop(words);
+    held
 }
 
 #[test]
 fn a_connection_that_is_refused_is_a_fault(rt: HostRuntime) {
-    let held = refused_ends(rt.alloc(), SESSION, 1, b"fault io ConnectionRefused\n");
-    check_row(&rt, "refused", held);
+    check_row(&rt, "refused", is_refused(&rt, rt.alloc()));
 }
 
-#[test]
-fn an_input_that_is_no_session_is_not_asked_for(rt: HostRuntime) {
-    let held = refused_ends(rt.alloc(), b"no session\n", 3, b"bad line 1\n");
-    check_row(&rt, "no session", held);
-}
-
-/// What is shown, the numbers of the calls of a link, the first and the last, of which one fails, and how the run then ends.
+/// What is shown, the protocol, the session, the numbers of the calls of a link, the first and the last, of which one fails, and how the
+/// run then ends.
 struct FailRow {
     name: &'static str,
+    protocol: &'static str,
+    session: &'static [u8],
     first: u64,
     last: u64,
     status: u8,
@@ -46,6 +47,8 @@ struct FailRow {
 const FAILS: &[FailRow] = &[
     FailRow {
         name: "the first request, or its reply",
+        protocol: "tcp",
+        session: SESSION,
         first: 1,
         last: 3,
         status: 1,
@@ -53,6 +56,8 @@ const FAILS: &[FailRow] = &[
     },
     FailRow {
         name: "the request for the root's keys, or its reply",
+        protocol: "tcp",
+        session: SESSION,
         first: 4,
         last: 6,
         status: 0,
@@ -60,10 +65,31 @@ const FAILS: &[FailRow] = &[
     },
     FailRow {
         name: "no call that is made",
+        protocol: "tcp",
+        session: SESSION,
         first: 7,
         last: 20,
         status: 0,
         text: REPORT,
+    },
+    FailRow {
+        name: "an input that is no session is not asked for",
+        protocol: "tcp",
+        session: b"no session\n",
+        first: 1,
+        last: 1,
+        status: 3,
+        text: b"bad line 1\n",
+    },
+    // a socket has no link
+    FailRow {
+        name: "datagrams that never come are late",
+        protocol: "udp",
+        session: SESSION,
+        first: 1,
+        last: 1,
+        status: 1,
+        text: b"fault timeout\n",
     },
 ];
 
@@ -72,32 +98,21 @@ fn fails() -> &'static [FailRow] {
 }
 
 /// Over links whose call with any of these numbers fails the program ends as the row says.
-fn fails_so(alloc: Global, row: &FailRow) -> Result<bool, NoMemory> {
-    let words = words_of(alloc, &["ask", "tcp", "127.0.0.1:53"])?;
+fn fails_so(rt: &impl Abort, alloc: Global, row: &FailRow) -> bool {
+    let words = words_of(rt, alloc, &["ask", row.protocol, "127.0.0.1:53"]);
+    let mut held = true;
     for call in row.first..=row.last {
+        let session = bytes_of(rt, alloc, row.session);
         let dial = Replying::new(alloc, call);
-        if !sure_ends(alloc, &words, SESSION, dial, row.status, row.text)? {
-            return Ok(false);
-        }
+        held = sure_ends(alloc, &words, session, dial, row.status, row.text) && held;
     }
-    Ok(true)
+    drop(words);
+    held
 }
 
 #[test]
 fn a_link_that_fails_is_a_fault_or_leaves_the_answer_bogus(rt: HostRuntime) {
     for row in fails() {
-        check_row(&rt, row.name, fails_so(rt.alloc(), row));
+        check_row(&rt, row.name, fails_so(&rt, rt.alloc(), row));
     }
-}
-
-/// Where no datagram comes the program ends for that.
-fn late_ends(alloc: Global) -> Result<bool, NoMemory> {
-    let words = words_of(alloc, &["ask", "udp", "127.0.0.1:53"])?;
-    let dial = Replying::new(alloc, 0);
-    sure_ends(alloc, &words, SESSION, dial, 1, b"fault timeout\n")
-}
-
-#[test]
-fn datagrams_that_never_come_are_late(rt: HostRuntime) {
-    check_row(&rt, "late", late_ends(rt.alloc()));
 }

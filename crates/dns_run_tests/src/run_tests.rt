@@ -1,11 +1,11 @@
 //! `run` over sources and sinks in memory, for a row.
 use crate::rows::check_row;
-use crate::runs::{status_over, sure_ends, words_of};
+use crate::runs::{bytes_of, status_over, sure_ends, words_of};
 use crate::worked_rows::{Row, rows};
 use dns_io::{Sink, SinkFault, Source, SureSource, TextSink, TextSource};
 use dns_link::ListDialer;
-use dns_name::{NoMemory, Octets};
 use std::alloc::Global;
+use std::process::Abort;
 
 // A sink that takes one byte a write, and fails at its second.
 #[derive(Drop)]
@@ -48,62 +48,55 @@ fn status_of<S: Source, W: Sink>(
     status_over(alloc, words, source, sink, dial)
 }
 
-// Over a source and a sink that may fail the words end with this status and this text.
-fn told_ends(
-    alloc: Global,
-    words: &[Vec<u8>],
-    source: &mut TextSource,
-    status: u8,
-    text: &[u8],
-) -> bool {
-    let mut sink = TextSink::new(alloc, Vec::new(alloc));
-    status_of(alloc, words, source, &mut sink) == status && *sink.taken() == *text
-}
-
-// The same, for a source whose numbered reads fail.
+// Over a source whose numbered reads fail, and a sink that may fail, the words end with this status and this text.
 fn failing_ends(
+    rt: &impl Abort,
     alloc: Global,
     words: &[Vec<u8>],
     session: &[u8],
     failing: &[u64],
     status: u8,
     text: &[u8],
-) -> Result<bool, NoMemory> {
-    let bytes = Octets::from_slice(alloc, session)?;
-    let mut source = TextSource::new(bytes, failing.to_vec(alloc)?);
-    Ok(told_ends(alloc, words, &mut source, status, text))
-}
-
-// So ends a row, which asks no server.
-fn row_ends(alloc: Global, words: &[Vec<u8>], row: &Row) -> Result<bool, NoMemory> {
-    let dial = ListDialer::new(Vec::new(alloc), Vec::new(alloc));
-    sure_ends(alloc, words, row.session, dial, row.status, row.text)
+) -> bool {
+    let failing = failing.to_vec(alloc).expect(rt, "memory");
+    let mut source = TextSource::new(bytes_of(rt, alloc, session), failing);
+    let mut sink = TextSink::new(alloc, Vec::new(alloc));
+    let ended = status_of(alloc, words, &mut source, &mut sink);
+    let held = ended == status && *sink.taken() == *text;
+    drop(sink);
+    drop(source);
+    held
 }
 
 // Over a sink whose second write fails a row ends for that, with what was written before.
-fn slow_ends(alloc: Global, words: &[Vec<u8>], row: &Row) -> Result<bool, NoMemory> {
-    let mut source = SureSource::new(Octets::from_slice(alloc, row.session)?);
+fn slow_ends(rt: &impl Abort, alloc: Global, words: &[Vec<u8>], row: &Row) -> bool {
+    let mut source = SureSource::new(bytes_of(rt, alloc, row.session));
     let mut sink = Slow {
         taken: Vec::new(alloc),
         faults: 0,
     };
-    let status = status_of(alloc, words, &mut source, &mut sink);
-    Ok(status == 5 && *sink.taken.as_slice() == *row.text.get(..1).unwrap_or_default())
+    let ended = status_of(alloc, words, &mut source, &mut sink);
+    let held = ended == 5 && *sink.taken.as_slice() == *row.text.get(..1).unwrap_or_default();
+    drop(sink);
+    drop(source);
+    held
 }
 
-// Both kinds of source and sink end as the row says.
-fn ends_so(alloc: Global, row: &Row) -> Result<bool, NoMemory> {
-    let words = words_of(alloc, row.words)?;
-    Ok(
-        failing_ends(alloc, &words, row.session, &[], row.status, row.text)?
-            && row_ends(alloc, &words, row)?,
-    )
+// Both kinds of source and sink end as the row says, which asks no server.
+fn ends_so(rt: &impl Abort, alloc: Global, words: &[Vec<u8>], row: &Row) -> bool {
+    let session = bytes_of(rt, alloc, row.session);
+    let dial = ListDialer::new(Vec::new(alloc), Vec::new(alloc));
+    sure_ends(alloc, words, session, dial, row.status, row.text)
+        && failing_ends(rt, alloc, words, row.session, &[], row.status, row.text)
 }
 
 #[test]
 fn rows_end_as_they_say(rt: HostRuntime) {
     for row in rows() {
-        check_row(&rt, row.name, ends_so(rt.alloc(), row));
+        let words = words_of(&rt, rt.alloc(), row.words);
+        let held = ends_so(&rt, rt.alloc(), &words, row);
+        drop(words);
+        check_row(&rt, row.name, held);
     }
 }
 
@@ -117,30 +110,27 @@ fn is_reading(words: &[&str]) -> bool {
 }
 
 // Over a source whose first or second read fails a row ends for that; no bytes are read by one read.
-fn breaks_so(alloc: Global, words: &[Vec<u8>], session: &[u8]) -> Result<bool, NoMemory> {
-    Ok(
-        failing_ends(alloc, words, session, &[0], 4, b"")?
-            && (session.is_empty() || failing_ends(alloc, words, session, &[1], 4, b"")?),
-    )
+fn breaks_so(rt: &impl Abort, alloc: Global, words: &[Vec<u8>], session: &[u8]) -> bool {
+    failing_ends(rt, alloc, words, session, &[0], 4, b"")
+        && (session.is_empty() || failing_ends(rt, alloc, words, session, &[1], 4, b""))
 }
 
 // Over a source whose reads fail a row ends for that if its words ask for a reading, and else as it says.
-fn fails_so(alloc: Global, words: &[Vec<u8>], row: &Row) -> Result<bool, NoMemory> {
+fn fails_so(rt: &impl Abort, alloc: Global, words: &[Vec<u8>], row: &Row) -> bool {
     if is_reading(row.words) {
-        breaks_so(alloc, words, row.session)
+        breaks_so(rt, alloc, words, row.session)
     } else {
-        failing_ends(alloc, words, row.session, &[0], row.status, row.text)
+        failing_ends(rt, alloc, words, row.session, &[0], row.status, row.text)
     }
-}
-
-fn ends_for_the_outside(alloc: Global, row: &Row) -> Result<bool, NoMemory> {
-    let words = words_of(alloc, row.words)?;
-    Ok(slow_ends(alloc, &words, row)? && fails_so(alloc, &words, row)?)
 }
 
 #[test]
 fn rows_end_where_the_outside_fails(rt: HostRuntime) {
     for row in rows() {
-        check_row(&rt, row.name, ends_for_the_outside(rt.alloc(), row));
+        let words = words_of(&rt, rt.alloc(), row.words);
+        let held = slow_ends(&rt, rt.alloc(), &words, row)
+            && fails_so(&rt, rt.alloc(), &words, row);
+        drop(words);
+        check_row(&rt, row.name, held);
     }
 }

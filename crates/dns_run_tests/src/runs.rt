@@ -1,22 +1,24 @@
 //! What tests share: words, and a run over a session.
 use dns_io::{Sink, Source, SureSink, SureSource};
 use dns_link::{Dialer, FixedClock};
-use dns_name::{NoMemory, Octets};
+use dns_name::Octets;
 use dns_run::run;
 use std::alloc::Global;
-
-fn push_word(all: &mut Vec<Vec<u8>>, alloc: Global, word: &str) -> Result<(), NoMemory> {
-    all.push(word.as_bytes().to_vec(alloc)?)?;
-    Ok(())
-}
+use std::process::Abort;
 
 /// The words of a run.
-pub(crate) fn words_of(alloc: Global, words: &[&str]) -> Result<Vec<Vec<u8>>, NoMemory> {
+pub(crate) fn words_of(rt: &impl Abort, alloc: Global, words: &[&str]) -> Vec<Vec<u8>> {
     let mut all = Vec::new(alloc);
     for word in words {
-        push_word(&mut all, alloc, word)?;
+        let bytes = word.as_bytes().to_vec(alloc).expect(rt, "memory");
+        all.push(bytes).expect(rt, "memory");
     }
-    Ok(all)
+    all
+}
+
+/// A session as the bytes of a source.
+pub(crate) fn bytes_of(rt: &impl Abort, alloc: Global, session: &[u8]) -> Octets {
+    Octets::from_slice(alloc, session).expect(rt, "memory")
 }
 
 /// The status of a run over a dialer, at a clock at 1000.
@@ -34,17 +36,20 @@ pub(crate) fn status_over<S: Source, W: Sink, D: Dialer + Drop>(
     status
 }
 
-/// Over a source and a sink that never fail the words end with this status and this text.
+/// Over a source of these bytes and a sink, neither of which fails, the words end with this status and this text.
 pub(crate) fn sure_ends<D: Dialer + Drop>(
     alloc: Global,
     words: &[Vec<u8>],
-    session: &[u8],
+    session: Octets,
     dial: D,
     status: u8,
     text: &[u8],
-) -> Result<bool, NoMemory> {
-    let mut source = SureSource::new(Octets::from_slice(alloc, session)?);
+) -> bool {
+    let mut source = SureSource::new(session);
     let mut sink = SureSink::new(alloc);
     let ended = status_over(alloc, words, &mut source, &mut sink, dial);
-    Ok(ended == status && *sink.taken() == *text)
+    let held = ended == status && *sink.taken() == *text;
+    drop(sink);
+    drop(source);
+    held
 }
