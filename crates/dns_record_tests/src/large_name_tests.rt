@@ -1,8 +1,7 @@
 //! The longest name, through each call that copies, reads or makes one; and bytes and texts that are longer than 16
 //! bits count.
-use crate::name_tests::{
-    folded_wire, hash_of, is_made, is_read, is_text, is_wire, labelled, longest,
-};
+use crate::name_tests::{folded_wire, hash_of, is_made, is_read, is_text, is_wire};
+use crate::name_text_tests::{labelled, longest};
 use crate::rdata_signed_tests::are_octets;
 use crate::rows::check_held;
 use dns_name::{Name, NoMemory, Octets, Text};

@@ -12,6 +12,8 @@ mod large_rdata_tests;
 #[cfg(test)]
 mod name_tests;
 #[cfg(test)]
+mod name_text_tests;
+#[cfg(test)]
 mod nsec3_rows;
 #[cfg(test)]
 mod nsec3_tests;

@@ -1,9 +1,9 @@
 //! What sets and endings ask, and what is found of a set by the asks that it makes.
 use crate::flow_rows::{Asked, FROM_NAME, FROM_PARENT, INSECURE_B, Reply, Row, rows};
-use crate::judged_steps::{LIMITS, Told, judged_sets, signed_set};
+use crate::judged_steps::{LIMITS, Told, judged_sets, placed, signed_set};
 use crate::rows::check_row;
 use crate::sets_tests::{message_of, query};
-use dns_evidence::{Listed, MarkedSet, PlacedSet};
+use dns_evidence::{Listed, MarkedSet};
 use dns_flow::{
     Ask, Got, Need, Phase, after, cause_after, found_of, start_cause, start_ending, start_set, turn,
 };
@@ -239,13 +239,6 @@ fn ends(
         }
         None => Ok(false),
     }
-}
-
-fn placed(alloc: Global, told: &Told) -> Result<PlacedSet, NameError> {
-    Ok(PlacedSet {
-        section: told.section,
-        set: signed_set(alloc, told)?,
-    })
 }
 
 fn first_causes(alloc: Global, told: &Told) -> Result<Vec<ProofErrorKind>, NameError> {

@@ -1,7 +1,7 @@
 //! Steps whose sets are judged, and how they end.
 use crate::rows::check_row;
 use crate::sets_tests::{Met, bare_message, put, query, records_of, set_of};
-use dns_evidence::{ChainedSet, Limits, MarkedSet};
+use dns_evidence::{ChainedSet, Limits, MarkedSet, PlacedSet};
 use dns_message::Message;
 use dns_model::{Denial, NameError, Proof, Section};
 use dns_outcome::{Outcome, outcome_of};
@@ -162,6 +162,13 @@ pub(crate) fn signed_set(alloc: Global, told: &Told) -> Result<RecordSet, NameEr
     let mut set = set_of(alloc, &record_of(told))?;
     drop(mem::replace(&mut set.rrsigs, rrsigs));
     Ok(set)
+}
+
+pub(crate) fn placed(alloc: Global, told: &Told) -> Result<PlacedSet, NameError> {
+    Ok(PlacedSet {
+        section: told.section,
+        set: signed_set(alloc, told)?,
+    })
 }
 
 /// A set as it is judged.
