@@ -1,10 +1,11 @@
-use crate::parts::check_row;
+use crate::parts::{check_row, name_of};
 use dns_handle::Notice;
-use dns_model::{NameError, Proof};
+use dns_model::Proof;
 use dns_name::Name;
 use dns_proof::{ProofError, ProofErrorKind};
 use dns_record::{DNSClass, Query, RecordType};
 use std::alloc::Global;
+use std::process::Abort;
 
 /// The texts of the causes, in the order of `cause`.
 const TEXTS: &[&str] = &[
@@ -69,37 +70,40 @@ fn cause(name: Name, number: usize) -> ProofErrorKind {
 }
 
 /// A Bogus error with a cause.
-fn error(alloc: Global, number: usize) -> Result<ProofError, NameError> {
-    let name = Name::from_ascii(alloc, "example.")?;
-    Ok(ProofError::new(Proof::Bogus, cause(name, number)))
+fn error(rt: &impl Abort, alloc: Global, number: usize) -> ProofError {
+    let name = name_of(rt, alloc, "example.");
+    ProofError::new(Proof::Bogus, cause(name, number))
 }
 
 /// A cause reads so.
-fn reads(alloc: Global, kind: &ProofErrorKind, want: &str) -> Result<bool, NameError> {
-    let text = format!(in alloc; "{kind}")?;
-    Ok(text.as_str() == want)
+fn reads(rt: &impl Abort, alloc: Global, kind: &ProofErrorKind, want: &str) -> bool {
+    let text = format!(in alloc; "{kind}").expect(rt, "memory");
+    let held = text.as_str() == want;
+    drop(text);
+    held
 }
 
 /// An error reads so behind its mark.
-fn tells(alloc: Global, error: &ProofError, want: &str) -> Result<bool, NameError> {
-    let text = format!(in alloc; "{error}")?;
-    Ok(text.as_str().strip_prefix("Bogus: ") == Some(want))
+fn tells(rt: &impl Abort, alloc: Global, error: &ProofError, want: &str) -> bool {
+    let text = format!(in alloc; "{error}").expect(rt, "memory");
+    let held = text.as_str().strip_prefix("Bogus: ") == Some(want);
+    drop(text);
+    held
 }
 
 /// A copy of an error does, and a copy of its cause reads so alone.
-fn copies_tell(alloc: Global, error: &ProofError, want: &str) -> Result<bool, NameError> {
-    let kind = error.kind().try_clone()?;
-    let read = reads(alloc, &kind, want);
-    drop(kind);
-    let copy = error.try_clone()?;
-    let told = tells(alloc, &copy, want);
+fn copies_tell(rt: &impl Abort, alloc: Global, error: &ProofError, want: &str) -> bool {
+    let kind = error.kind().try_clone().expect(rt, "memory");
+    let copy = error.try_clone().expect(rt, "memory");
+    let held = reads(rt, alloc, &kind, want) && tells(rt, alloc, &copy, want);
     drop(copy);
-    Ok(read? && told?)
+    drop(kind);
+    held
 }
 
-fn is_told_so(alloc: Global, number: usize, want: &str) -> Result<bool, NameError> {
-    let error = error(alloc, number)?;
-    let held = copies_tell(alloc, &error, want);
+fn is_told_so(rt: &impl Abort, alloc: Global, number: usize, want: &str) -> bool {
+    let error = error(rt, alloc, number);
+    let held = copies_tell(rt, alloc, &error, want);
     drop(error);
     held
 }
@@ -116,18 +120,13 @@ fn text(number: usize) -> &'static str {
 fn each_cause_has_its_text(rt: HostRuntime) {
     for number in 0..texts().len() {
         let want = text(number);
-        check_row(&rt, want, is_told_so(rt.alloc(), number, want));
+        check_row(&rt, want, is_told_so(&rt, rt.alloc(), number, want));
     }
 }
 
-/// The longest name: 127 labels.
-fn longest(alloc: Global) -> Result<Name, NameError> {
-    let mut name = Name::root(alloc)?;
-    for _ in 0..127 {
-        name = name.prepend_label(b"a")?;
-    }
-    Ok(name)
-}
+/// The text of the longest name: 127 labels.
+const LONGEST: &str =
+    "a.a.a.a.a.a.a.a.a.a.a.a.a.a.a.a.a.a.a.a.a.a.a.a.a.a.a.a.a.a.a.a.a.a.a.a.a.a.a.a.a.a.a.a.a.a.a.a.a.a.a.a.a.a.a.a.a.a.a.a.a.a.a.a.a.a.a.a.a.a.a.a.a.a.a.a.a.a.a.a.a.a.a.a.a.a.a.a.a.a.a.a.a.a.a.a.a.a.a.a.a.a.a.a.a.a.a.a.a.a.a.a.a.a.a.a.a.a.a.a.a.a.a.a.a.a.a.";
 
 /// The cause is that a DS should exist, at the longest name.
 fn is_long(kind: &ProofErrorKind) -> bool {
@@ -137,24 +136,23 @@ fn is_long(kind: &ProofErrorKind) -> bool {
     }
 }
 
-fn copies_are_long(error: &ProofError) -> Result<bool, NameError> {
-    let kind = error.kind().try_clone()?;
-    let is_kind = is_long(&kind);
-    drop(kind);
-    let copy = error.try_clone()?;
-    let held = is_long(copy.kind()) && copy.proof == Proof::Bogus;
+fn copies_are_long(rt: &impl Abort, error: &ProofError) -> bool {
+    let kind = error.kind().try_clone().expect(rt, "memory");
+    let copy = error.try_clone().expect(rt, "memory");
+    let held = is_long(&kind) && is_long(copy.kind()) && copy.proof == Proof::Bogus;
     drop(copy);
-    Ok(held && is_kind)
+    drop(kind);
+    held
 }
 
-fn is_copied(alloc: Global) -> Result<bool, NameError> {
-    let error = ProofError::ds_should_exist(longest(alloc)?);
-    let held = copies_are_long(&error);
+fn is_copied(rt: &impl Abort, alloc: Global) -> bool {
+    let error = ProofError::ds_should_exist(name_of(rt, alloc, LONGEST));
+    let held = copies_are_long(rt, &error);
     drop(error);
     held
 }
 
 #[test]
 fn a_cause_with_the_longest_name_is_copied(rt: HostRuntime) {
-    check_row(&rt, "with its error, and alone", is_copied(rt.alloc()));
+    check_row(&rt, "with its error, and alone", is_copied(&rt, rt.alloc()));
 }

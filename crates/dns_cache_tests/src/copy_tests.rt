@@ -1,45 +1,43 @@
 //! What a cache gives is a copy of all that was put in.
-use crate::parts::{check_row, key, rdata};
+use crate::parts::{check_row, key, name_of, rdata};
 use dns_cache::{
     Entry, ListCache, LruValidationCache, ProofError, ProofErrorKind, RrsetProof, ValidationCache,
 };
 use dns_evidence::{Chain, Link};
-use dns_model::{NameError, Proof, Section};
-use dns_name::Name;
+use dns_model::{Proof, Section};
 use dns_record::DNSClass;
 use std::alloc::Global;
+use std::process::Abort;
 
 const KEY: &[u8] = b"\x01\x01\x03\x0d";
 
-fn link(alloc: Global) -> Result<Link, NameError> {
-    let owner = Name::root(alloc)?;
-    let key = rdata(alloc, KEY)?;
-    Ok(Link::Anchored {
-        owner,
+fn link(rt: &impl Abort, alloc: Global) -> Link {
+    Link::Anchored {
+        owner: name_of(rt, alloc, "."),
         class: DNSClass::IN,
-        key,
-    })
+        key: rdata(rt, alloc, KEY),
+    }
 }
 
 /// A chain of one link.
-fn chain(alloc: Global) -> Result<Chain, NameError> {
+fn chain(rt: &impl Abort, alloc: Global) -> Chain {
     let mut links = Vec::new(alloc);
-    links.push(link(alloc)?)?;
-    Ok(Chain {
+    links.push(link(rt, alloc)).expect(rt, "memory");
+    Chain {
         section: Section::Authority,
         links,
-    })
+    }
 }
 
-fn secure(alloc: Global) -> Result<Entry, NameError> {
+fn secure(rt: &impl Abort, alloc: Global) -> Entry {
     let found = RrsetProof {
         proof: Proof::Secure,
         adjusted_ttl: Some(5),
         rrsig_index: Some(1),
     };
-    let chain = chain(alloc)?;
-    let key = key(alloc, 1, 0)?;
-    Ok(Entry::new(key, 7, Ok(found), Some(chain)))
+    let chain = chain(rt, alloc);
+    let key = key(rt, alloc, 1, 0);
+    Entry::new(key, 7, Ok(found), Some(chain))
 }
 
 fn is_that_proof(found: &RrsetProof) -> bool {
@@ -64,10 +62,10 @@ fn is_secure(entry: &Entry) -> bool {
     }
 }
 
-fn bogus(alloc: Global) -> Result<Entry, NameError> {
-    let key = key(alloc, 2, 0)?;
-    let error = ProofError::ds_should_exist(Name::from_ascii(alloc, "example.")?);
-    Ok(Entry::new(key, 7, Err(error), None))
+fn bogus(rt: &impl Abort, alloc: Global) -> Entry {
+    let key = key(rt, alloc, 2, 0);
+    let error = ProofError::ds_should_exist(name_of(rt, alloc, "example."));
+    Entry::new(key, 7, Err(error), None)
 }
 
 fn is_that_error(error: &ProofError) -> bool {
@@ -87,53 +85,49 @@ fn is_bogus(entry: &Entry) -> bool {
 }
 
 /// What a cache gives for a key at the last moment.
-fn given<C: ValidationCache>(
-    alloc: Global,
-    cache: &mut C,
-    number: u8,
-) -> Result<Option<Entry>, NameError> {
-    let key = key(alloc, number, 0)?;
+fn given<C: ValidationCache>(rt: &impl Abort, alloc: Global, cache: &mut C, number: u8) -> Entry {
+    let key = key(rt, alloc, number, 0);
     let given = cache.get(alloc, &key, 6);
     drop(key);
-    Ok(given?)
+    given.expect(rt, "memory").expect(rt, "an entry")
 }
 
-fn gives_secure<C: ValidationCache>(alloc: Global, cache: &mut C) -> Result<bool, NameError> {
-    cache.insert(alloc, secure(alloc)?)?;
-    let given = given(alloc, cache, 1)?;
-    let held = matches!(&given, Some(entry) if is_secure(entry));
+fn gives_secure<C: ValidationCache>(rt: &impl Abort, alloc: Global, cache: &mut C) -> bool {
+    cache.insert(alloc, secure(rt, alloc)).expect(rt, "memory");
+    let given = given(rt, alloc, cache, 1);
+    let held = is_secure(&given);
     drop(given);
-    Ok(held)
+    held
 }
 
-fn gives_bogus<C: ValidationCache>(alloc: Global, cache: &mut C) -> Result<bool, NameError> {
-    cache.insert(alloc, bogus(alloc)?)?;
-    let given = given(alloc, cache, 2)?;
-    let held = matches!(&given, Some(entry) if is_bogus(entry));
+fn gives_bogus<C: ValidationCache>(rt: &impl Abort, alloc: Global, cache: &mut C) -> bool {
+    cache.insert(alloc, bogus(rt, alloc)).expect(rt, "memory");
+    let given = given(rt, alloc, cache, 2);
+    let held = is_bogus(&given);
     drop(given);
-    Ok(held)
+    held
 }
 
-fn gives_both<C: ValidationCache>(alloc: Global, cache: &mut C) -> Result<bool, NameError> {
-    Ok(gives_secure(alloc, cache)? && gives_bogus(alloc, cache)?)
+fn gives_both<C: ValidationCache>(rt: &impl Abort, alloc: Global, cache: &mut C) -> bool {
+    gives_secure(rt, alloc, cache) && gives_bogus(rt, alloc, cache)
 }
 
-fn list_gives_both(alloc: Global) -> Result<bool, NameError> {
+fn list_gives_both(rt: &impl Abort, alloc: Global) -> bool {
     let mut cache = ListCache::new(alloc, 2);
-    let held = gives_both(alloc, &mut cache);
+    let held = gives_both(rt, alloc, &mut cache);
     drop(cache);
     held
 }
 
-fn lru_gives_both(alloc: Global) -> Result<bool, NameError> {
-    let mut cache = LruValidationCache::new(alloc, 2)?;
-    let held = gives_both(alloc, &mut cache);
+fn lru_gives_both(rt: &impl Abort, alloc: Global) -> bool {
+    let mut cache = LruValidationCache::new(alloc, 2).expect(rt, "memory");
+    let held = gives_both(rt, alloc, &mut cache);
     drop(cache);
     held
 }
 
 #[test]
 fn what_is_put_in_comes_out(rt: HostRuntime) {
-    check_row(&rt, "the list", list_gives_both(rt.alloc()));
-    check_row(&rt, "the hashed cache", lru_gives_both(rt.alloc()));
+    check_row(&rt, "the list", list_gives_both(&rt, rt.alloc()));
+    check_row(&rt, "the hashed cache", lru_gives_both(&rt, rt.alloc()));
 }

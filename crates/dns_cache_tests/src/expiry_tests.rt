@@ -1,10 +1,10 @@
-use crate::parts::{addresses, check_row, rdata};
+use crate::parts::{addresses, check_row, name_of, rdata};
 use dns_cache::{ProofError, ProofErrorKind, RrsetProof, TtlRange, TtlRanges};
 use dns_evidence::{Chain, Link};
-use dns_model::{NameError, Proof, Section};
-use dns_name::Name;
-use dns_record::{DNSClass, Rdata, RecordSet, RecordType};
+use dns_model::{Proof, Section};
+use dns_record::{DNSClass, RecordSet, RecordType};
 use std::alloc::Global;
+use std::process::Abort;
 
 /// What was found of a set, and until when it is kept.
 struct Row {
@@ -89,52 +89,42 @@ fn ranges_of(row: &Row) -> TtlRanges {
     }
 }
 
-/// The root, and a key without a byte.
-fn owner_and_key(alloc: Global) -> Result<(Name, Rdata), NameError> {
-    let owner = Name::root(alloc)?;
-    let key = rdata(alloc, &[])?;
-    Ok((owner, key))
-}
-
 /// A signed link, of which the signature alone is looked at.
-fn signed_link(alloc: Global, signed: &[u8]) -> Result<Link, NameError> {
-    let (owner, key) = owner_and_key(alloc)?;
-    let sig = rdata(alloc, signed)?;
-    Ok(Link::Signed {
-        owner,
+fn signed_link(rt: &impl Abort, alloc: Global, signed: &[u8]) -> Link {
+    Link::Signed {
+        owner: name_of(rt, alloc, "."),
         class: DNSClass::IN,
         record_type: RecordType::A,
         rdatas: Vec::new(alloc),
-        sig,
+        sig: rdata(rt, alloc, signed),
         key_link: 0,
-        key,
-    })
-}
-
-fn anchored_link(alloc: Global) -> Result<Link, NameError> {
-    let (owner, key) = owner_and_key(alloc)?;
-    Ok(Link::Anchored {
-        owner,
-        class: DNSClass::IN,
-        key,
-    })
-}
-
-fn put_links(alloc: Global, links: &mut Vec<Link>, signed: &[&[u8]]) -> Result<(), NameError> {
-    links.push(anchored_link(alloc)?)?;
-    for next in signed {
-        links.push(signed_link(alloc, next)?)?;
+        key: rdata(rt, alloc, b""),
     }
-    Ok(())
 }
 
-fn chain_of(alloc: Global, signed: &[&[u8]]) -> Result<Chain, NameError> {
+fn anchored_link(rt: &impl Abort, alloc: Global) -> Link {
+    Link::Anchored {
+        owner: name_of(rt, alloc, "."),
+        class: DNSClass::IN,
+        key: rdata(rt, alloc, b""),
+    }
+}
+
+fn put_links(rt: &impl Abort, alloc: Global, links: &mut Vec<Link>, signed: &[&[u8]]) {
+    links.push(anchored_link(rt, alloc)).expect(rt, "memory");
+    for next in signed {
+        let link = signed_link(rt, alloc, next);
+        links.push(link).expect(rt, "memory");
+    }
+}
+
+fn chain_of(rt: &impl Abort, alloc: Global, signed: &[&[u8]]) -> Chain {
     let mut links = Vec::new(alloc);
-    put_links(alloc, &mut links, signed)?;
-    Ok(Chain {
+    put_links(rt, alloc, &mut links, signed);
+    Chain {
         section: Section::Answer,
         links,
-    })
+    }
 }
 
 /// Until when the set is kept.
@@ -145,19 +135,19 @@ fn expires(row: &Row, set: &RecordSet, chain: &Option<Chain>) -> u64 {
     expires
 }
 
-fn is_kept_so(alloc: Global, row: &Row) -> Result<bool, NameError> {
+fn is_kept_so(rt: &impl Abort, alloc: Global, row: &Row) -> bool {
     // of two records the first one's ttl counts
-    let set = addresses(alloc, 1, row.ttl, 1)?;
-    let chain = Some(chain_of(alloc, row.signed)?);
+    let set = addresses(rt, alloc, 1, row.ttl, 1);
+    let chain = Some(chain_of(rt, alloc, row.signed));
     let expires = expires(row, &set, &chain);
     drop(chain);
     drop(set);
-    Ok(expires == row.expires)
+    expires == row.expires
 }
 
 #[test]
 fn nothing_is_kept_past_its_chain(rt: HostRuntime) {
     for row in ROWS {
-        check_row(&rt, row.shows, is_kept_so(rt.alloc(), row));
+        check_row(&rt, row.shows, is_kept_so(&rt, rt.alloc(), row));
     }
 }

@@ -1,10 +1,10 @@
-use crate::parts::{check_row, key_of, query, record};
+use crate::parts::{check_row, key_of, name_of, query, record};
 use dns_cache::CacheKey;
-use dns_model::{NameError, Proof};
-use dns_name::Name;
+use dns_model::Proof;
 use dns_record::{DNSClass, Record, RecordSet, RecordType};
 use std::alloc::Global;
 use std::hash::{BuildHasher, BuildHasherDefault, FoldHasher};
+use std::process::Abort;
 
 /// A set in the answer to a question: its addresses end with the two bytes, and its signature is the third.
 struct Row {
@@ -47,47 +47,47 @@ const ROWS: &[Row] = &[
 
 /// A record of the set.
 fn push_record(
+    rt: &impl Abort,
     alloc: Global,
     records: &mut Vec<Record>,
     row: &Row,
     record_type: RecordType,
     bytes: &[u8],
-) -> Result<(), NameError> {
-    let mut next = record(alloc, row.owner, record_type, row.ttl, bytes)?;
+) {
+    let mut next = record(rt, alloc, row.owner, record_type, row.ttl, bytes);
     next.proof = row.proof;
-    records.push(next)?;
-    Ok(())
+    records.push(next).expect(rt, "memory");
 }
 
 fn push_all(
+    rt: &impl Abort,
     alloc: Global,
     records: &mut Vec<Record>,
     rrsigs: &mut Vec<Record>,
     row: &Row,
-) -> Result<(), NameError> {
+) {
     let [first, last, signature] = row.ends;
-    push_record(alloc, records, row, RecordType::A, &[192, 0, 2, first])?;
-    push_record(alloc, records, row, RecordType::A, &[192, 0, 2, last])?;
-    push_record(alloc, rrsigs, row, RecordType::RRSIG, &[signature])
+    push_record(rt, alloc, records, row, RecordType::A, &[192, 0, 2, first]);
+    push_record(rt, alloc, records, row, RecordType::A, &[192, 0, 2, last]);
+    push_record(rt, alloc, rrsigs, row, RecordType::RRSIG, &[signature]);
 }
 
-fn set_of(alloc: Global, row: &Row) -> Result<RecordSet, NameError> {
-    let name = Name::from_ascii(alloc, row.owner)?;
+fn set_of(rt: &impl Abort, alloc: Global, row: &Row) -> RecordSet {
     let mut records = Vec::new(alloc);
     let mut rrsigs = Vec::new(alloc);
-    push_all(alloc, &mut records, &mut rrsigs, row)?;
-    Ok(RecordSet {
-        name,
+    push_all(rt, alloc, &mut records, &mut rrsigs, row);
+    RecordSet {
+        name: name_of(rt, alloc, row.owner),
         record_type: RecordType::A,
         dns_class: DNSClass::IN,
         records,
         rrsigs,
-    })
+    }
 }
 
-fn key_by(alloc: Global, row: &Row) -> Result<CacheKey, NameError> {
-    let query = query(alloc, row.name)?;
-    key_of(query, set_of(alloc, row)?)
+fn key_by(rt: &impl Abort, alloc: Global, row: &Row) -> CacheKey {
+    let query = query(rt, alloc, row.name);
+    key_of(rt, query, set_of(rt, alloc, row))
 }
 
 fn hash_of(key: &CacheKey) -> u64 {
@@ -104,18 +104,18 @@ fn are_told(one: &CacheKey, two: &CacheKey, same: bool) -> bool {
 }
 
 /// The key of the row is that of the first one, or another.
-fn is_told(alloc: Global, row: &Row) -> Result<bool, NameError> {
-    let one = key_by(alloc, &FIRST)?;
-    let two = key_by(alloc, row)?;
+fn is_told(rt: &impl Abort, alloc: Global, row: &Row) -> bool {
+    let one = key_by(rt, alloc, &FIRST);
+    let two = key_by(rt, alloc, row);
     let told = are_told(&one, &two, row.same);
     drop(two);
     drop(one);
-    Ok(told)
+    told
 }
 
 #[test]
 fn keys_go_by_question_and_bytes(rt: HostRuntime) {
     for row in ROWS {
-        check_row(&rt, row.shows, is_told(rt.alloc(), row));
+        check_row(&rt, row.shows, is_told(&rt, rt.alloc(), row));
     }
 }

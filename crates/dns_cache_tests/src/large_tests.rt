@@ -1,76 +1,80 @@
 //! Much is kept and copied.
 use crate::parts::{check_row, key, put};
 use dns_cache::{CacheKey, Entry, ListCache, LruValidationCache, ValidationCache};
-use dns_model::NameError;
 use std::alloc::Global;
 use std::hash::{BuildHasherDefault, FoldHasher};
+use std::process::Abort;
 
 const MANY: usize = 70_000;
 
-fn is_large(given: Option<Entry>, key: &CacheKey) -> bool {
-    let held = match &given {
-        Some(entry) => entry.key == *key && entry.key.set.records.len() > MANY,
-        None => false,
-    };
-    drop(given);
-    held
+fn is_large(entry: &Entry, key: &CacheKey) -> bool {
+    entry.key == *key && entry.key.set.records.len() > MANY
 }
 
 fn is_kept<C: ValidationCache>(
+    rt: &impl Abort,
     alloc: Global,
     cache: &mut C,
     key: &CacheKey,
-) -> Result<bool, NameError> {
-    put(alloc, cache, key.try_clone()?, 9, 5)?;
-    let given = cache.get(alloc, key, 0)?;
-    Ok(is_large(given, key))
+) -> bool {
+    let copy = key.try_clone().expect(rt, "memory");
+    put(rt, alloc, cache, copy, 9, 5);
+    let given = cache.get(alloc, key, 0).expect(rt, "memory");
+    let entry = given.expect(rt, "an entry");
+    let held = is_large(&entry, key);
+    drop(entry);
+    held
 }
 
-fn list_keeps(alloc: Global, key: &CacheKey) -> Result<bool, NameError> {
+fn list_keeps(rt: &impl Abort, alloc: Global, key: &CacheKey) -> bool {
     let mut cache = ListCache::new(alloc, usize::MAX);
-    let kept = is_kept(alloc, &mut cache, key);
+    let kept = is_kept(rt, alloc, &mut cache, key);
     drop(cache);
     kept
 }
 
-fn lru_keeps(alloc: Global, key: &CacheKey) -> Result<bool, NameError> {
-    let mut cache = LruValidationCache::new(alloc, usize::MAX)?;
-    let kept = is_kept(alloc, &mut cache, key);
+fn lru_keeps(rt: &impl Abort, alloc: Global, key: &CacheKey) -> bool {
+    let mut cache = LruValidationCache::new(alloc, usize::MAX).expect(rt, "memory");
+    let kept = is_kept(rt, alloc, &mut cache, key);
     drop(cache);
     kept
 }
 
-fn both_keep(alloc: Global) -> Result<bool, NameError> {
-    let key = key(alloc, 1, MANY)?;
-    let by_list = list_keeps(alloc, &key);
-    let by_hash = lru_keeps(alloc, &key);
+fn both_keep(rt: &impl Abort, alloc: Global) -> bool {
+    let key = key(rt, alloc, 1, MANY);
+    let kept = list_keeps(rt, alloc, &key) && lru_keeps(rt, alloc, &key);
     drop(key);
-    Ok(by_list? && by_hash?)
+    kept
 }
 
 #[test]
 fn a_set_of_70_000_records_is_kept(rt: HostRuntime) {
-    check_row(&rt, "70,001 records", both_keep(rt.alloc()));
+    check_row(&rt, "70,001 records", both_keep(&rt, rt.alloc()));
 }
 
-fn gives_none(alloc: Global, cache: &mut LruValidationCache) -> Result<bool, NameError> {
-    let key = key(alloc, 1, 0)?;
+fn gives_none(rt: &impl Abort, alloc: Global, cache: &mut LruValidationCache) -> bool {
+    let key = key(rt, alloc, 1, 0);
     let given = cache.get(alloc, &key, 0);
     drop(key);
-    let is_none = matches!(&given, Ok(None));
-    drop(given);
-    Ok(is_none)
+    match given.expect(rt, "memory") {
+        Some(entry) => {
+            drop(entry);
+            false
+        }
+        None => true,
+    }
 }
 
-fn is_made(alloc: Global) -> Result<bool, NameError> {
+fn is_made(rt: &impl Abort, alloc: Global) -> bool {
     let hasher: BuildHasherDefault<FoldHasher> = BuildHasherDefault::new();
-    let mut cache = LruValidationCache::with_hasher(alloc, usize::MAX, hasher)?;
-    let made = gives_none(alloc, &mut cache);
+    let made = LruValidationCache::with_hasher(alloc, usize::MAX, hasher);
+    let mut cache = made.expect(rt, "memory");
+    let held = gives_none(rt, alloc, &mut cache);
     drop(cache);
-    made
+    held
 }
 
 #[test]
 fn the_greatest_capacity_takes_no_room_at_first(rt: HostRuntime) {
-    check_row(&rt, "the greatest usize", is_made(rt.alloc()));
+    check_row(&rt, "the greatest usize", is_made(&rt, rt.alloc()));
 }

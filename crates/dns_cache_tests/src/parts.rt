@@ -1,90 +1,95 @@
 //! What tests share: the assertion on a row, and records, sets, keys and entries.
 use dns_cache::{CacheKey, Entry, RrsetProof, ValidationCache};
-use dns_model::{NameError, Proof};
+use dns_model::Proof;
 use dns_name::Name;
 use dns_record::{DNSClass, Query, Rdata, Record, RecordSet, RecordType};
 use std::alloc::Global;
 use std::process::Abort;
 
 /// What was tried on a row held; the message names the row.
-pub(crate) fn check_row(rt: &impl Abort, row: &str, held: Result<bool, NameError>) {
-    assert!(rt; matches!(held, Ok(true)), "{row}");
+pub(crate) fn check_row(rt: &impl Abort, row: &str, held: bool) {
+    assert!(rt; held, "{row}");
 }
 
-/// A row that is too long fails its test by this error.
-pub(crate) fn rdata(alloc: Global, bytes: &[u8]) -> Result<Rdata, NameError> {
+pub(crate) fn name_of(rt: &impl Abort, alloc: Global, text: &str) -> Name {
+    Name::from_ascii(alloc, text).expect(rt, "a name")
+}
+
+/// One that is too long fails its test.
+pub(crate) fn rdata(rt: &impl Abort, alloc: Global, bytes: &[u8]) -> Rdata {
     if bytes.len() > 65535 {
-        return Err(NameError::LongName);
+        rt.panic("a long rdata");
     }
-    Ok(Rdata::from_slice(alloc, bytes)?)
+    Rdata::from_slice(alloc, bytes).expect(rt, "memory")
 }
 
 /// A record of class IN.
 pub(crate) fn record(
+    rt: &impl Abort,
     alloc: Global,
     owner: &str,
     record_type: RecordType,
     ttl: u32,
     bytes: &[u8],
-) -> Result<Record, NameError> {
-    let name = Name::from_ascii(alloc, owner)?;
-    let rdata = rdata(alloc, bytes)?;
-    Ok(Record {
-        name,
+) -> Record {
+    Record {
+        name: name_of(rt, alloc, owner),
         record_type,
         dns_class: DNSClass::IN,
         ttl,
-        rdata,
+        rdata: rdata(rt, alloc, bytes),
         proof: Proof::Indeterminate,
-    })
+    }
 }
 
 /// The question for the addresses of a name.
-pub(crate) fn query(alloc: Global, name: &str) -> Result<Query, NameError> {
-    Ok(Query {
-        name: Name::from_ascii(alloc, name)?,
+pub(crate) fn query(rt: &impl Abort, alloc: Global, name: &str) -> Query {
+    Query {
+        name: name_of(rt, alloc, name),
         query_type: RecordType::A,
         query_class: DNSClass::IN,
-    })
+    }
 }
 
-fn one_address(alloc: Global, number: u8, ttl: u32) -> Result<RecordSet, NameError> {
-    let first = record(alloc, "example.", RecordType::A, ttl, &[192, 0, 2, number])?;
-    Ok(RecordSet::of(alloc, first)?)
+fn one_address(rt: &impl Abort, alloc: Global, number: u8, ttl: u32) -> RecordSet {
+    let bytes = &[192, 0, 2, number];
+    let first = record(rt, alloc, "example.", RecordType::A, ttl, bytes);
+    RecordSet::of(alloc, first).expect(rt, "memory")
 }
 
 /// So many addresses of ttl 1 more.
-fn put_addresses(alloc: Global, records: &mut Vec<Record>, number: usize) -> Result<(), NameError> {
+fn put_addresses(rt: &impl Abort, alloc: Global, records: &mut Vec<Record>, number: usize) {
     for _ in 0..number {
-        records.push(record(alloc, ".", RecordType::A, 1, &[192, 0, 2, 2])?)?;
+        let next = record(rt, alloc, ".", RecordType::A, 1, &[192, 0, 2, 2]);
+        records.push(next).expect(rt, "memory");
     }
-    Ok(())
 }
 
 /// A set of an address, which ends with this byte, and of so many more of ttl 1.
 pub(crate) fn addresses(
+    rt: &impl Abort,
     alloc: Global,
     number: u8,
     ttl: u32,
     more: usize,
-) -> Result<RecordSet, NameError> {
-    let mut set = one_address(alloc, number, ttl)?;
-    put_addresses(alloc, &mut set.records, more)?;
-    Ok(set)
+) -> RecordSet {
+    let mut set = one_address(rt, alloc, number, ttl);
+    put_addresses(rt, alloc, &mut set.records, more);
+    set
 }
 
 /// The key of a set in the answer to a question.
-pub(crate) fn key_of(query: Query, set: RecordSet) -> Result<CacheKey, NameError> {
+pub(crate) fn key_of(rt: &impl Abort, query: Query, set: RecordSet) -> CacheKey {
     let key = CacheKey::of(&query, &set);
     drop(set);
     drop(query);
-    Ok(key?)
+    key.expect(rt, "memory")
 }
 
 /// A key for each number, of a set with so many addresses more.
-pub(crate) fn key(alloc: Global, number: u8, more: usize) -> Result<CacheKey, NameError> {
-    let query = query(alloc, "example.")?;
-    key_of(query, addresses(alloc, number, 3600, more)?)
+pub(crate) fn key(rt: &impl Abort, alloc: Global, number: u8, more: usize) -> CacheKey {
+    let query = query(rt, alloc, "example.");
+    key_of(rt, query, addresses(rt, alloc, number, 3600, more))
 }
 
 /// An entry of a key. Its value tells it from others.
@@ -99,14 +104,15 @@ fn entry_of(key: CacheKey, expires: u64, value: u32) -> Entry {
 
 /// The entry of a key is put in.
 pub(crate) fn put<C: ValidationCache>(
+    rt: &impl Abort,
     alloc: Global,
     cache: &mut C,
     key: CacheKey,
     expires: u64,
     value: u32,
-) -> Result<(), NameError> {
-    cache.insert(alloc, entry_of(key, expires, value))?;
-    Ok(())
+) {
+    let entry = entry_of(key, expires, value);
+    cache.insert(alloc, entry).expect(rt, "memory");
 }
 
 /// The value of an entry that was put in.

@@ -4,9 +4,8 @@ use dns_cache::{
     Acceptance, AcceptedBy, CacheKey, Entry, ListCache, LruValidationCache, ValidationCache,
 };
 use dns_evidence::Listed;
-use dns_model::NameError;
-use dns_name::NoMemory;
 use std::alloc::Global;
+use std::process::Abort;
 
 /// A call, and what it has to answer.
 enum Step {
@@ -39,114 +38,139 @@ const SCRIPTS: &[Script] = &[
     ], 2),
 ];
 
-/// The value of an entry that is given.
-fn value_in(given: Option<Entry>) -> Option<u32> {
-    let value = match &given {
-        Some(entry) => value_of(entry),
-        None => None,
-    };
-    drop(given);
+/// The value of an entry that goes.
+fn value_in(entry: Entry) -> Option<u32> {
+    let value = value_of(&entry);
+    drop(entry);
     value
 }
 
-/// The same, where nobody's acceptance is known.
-fn unknown_value_in(given: Option<(Entry, Acceptance)>) -> Option<u32> {
-    let value = match &given {
-        Some((entry, Acceptance::Unknown)) => value_of(entry),
+/// The same of one that nobody's acceptance is known of.
+fn unknown_value_in(entry: Entry, acceptance: Acceptance) -> Option<u32> {
+    let value = value_in(entry);
+    match acceptance {
+        Acceptance::Unknown => value,
         _ => None,
-    };
-    drop(given);
-    value
+    }
+}
+
+fn given_to_all<C: AcceptedBy<Listed>>(
+    rt: &impl Abort,
+    alloc: Global,
+    cache: &mut C,
+    key: &CacheKey,
+    now: u64,
+) -> Option<u32> {
+    match cache.get(alloc, key, now).expect(rt, "memory") {
+        Some(entry) => value_in(entry),
+        None => None,
+    }
+}
+
+fn given_to<C: AcceptedBy<Listed>>(
+    rt: &impl Abort,
+    alloc: Global,
+    cache: &mut C,
+    key: &CacheKey,
+    now: u64,
+    verifier: &Listed,
+) -> Option<u32> {
+    let given = cache.get_for(alloc, key, now, verifier);
+    match given.expect(rt, "memory") {
+        Some((entry, acceptance)) => unknown_value_in(entry, acceptance),
+        None => None,
+    }
 }
 
 /// What a cache gives for a key: by `get`, or by `get_for` for a verifier.
 fn given<C: AcceptedBy<Listed>>(
+    rt: &impl Abort,
     alloc: Global,
     cache: &mut C,
     key: &CacheKey,
     now: u64,
     verifier: Option<&Listed>,
-) -> Result<Option<u32>, NoMemory> {
+) -> Option<u32> {
     match verifier {
-        None => Ok(value_in(cache.get(alloc, key, now)?)),
-        Some(verifier) => Ok(unknown_value_in(cache.get_for(alloc, key, now, verifier)?)),
+        None => given_to_all(rt, alloc, cache, key, now),
+        Some(verifier) => given_to(rt, alloc, cache, key, now, verifier),
     }
 }
 
 /// What it gives for a key is what is wanted.
 fn gets<C: AcceptedBy<Listed>>(
+    rt: &impl Abort,
     alloc: Global,
     cache: &mut C,
     number: u8,
     now: u64,
     verifier: Option<&Listed>,
     want: Option<u32>,
-) -> Result<bool, NameError> {
-    let key = key(alloc, number, 0)?;
-    let given = given(alloc, cache, &key, now, verifier);
+) -> bool {
+    let key = key(rt, alloc, number, 0);
+    let given = given(rt, alloc, cache, &key, now, verifier);
     drop(key);
-    Ok(given? == want)
+    given == want
 }
 
 /// The step is answered so.
 fn plays<C: AcceptedBy<Listed>>(
+    rt: &impl Abort,
     alloc: Global,
     cache: &mut C,
     step: &Step,
     verifier: Option<&Listed>,
-) -> Result<bool, NameError> {
+) -> bool {
     match step {
         Puts(number, expires, value) => {
-            put(alloc, cache, key(alloc, *number, 0)?, *expires, *value)?;
-            Ok(true)
+            let key = key(rt, alloc, *number, 0);
+            put(rt, alloc, cache, key, *expires, *value);
+            true
         }
-        Gets(number, now, want) => gets(alloc, cache, *number, *now, verifier, *want),
+        Gets(number, now, want) => gets(rt, alloc, cache, *number, *now, verifier, *want),
     }
 }
 
 /// Each step is.
 fn all_played<C: AcceptedBy<Listed>>(
+    rt: &impl Abort,
     alloc: Global,
     cache: &mut C,
     steps: &[Step],
     verifier: Option<&Listed>,
-) -> Result<bool, NameError> {
+) -> bool {
     for step in steps {
-        if !plays(alloc, cache, step, verifier)? {
-            return Ok(false);
+        if !plays(rt, alloc, cache, step, verifier) {
+            return false;
         }
     }
-    Ok(true)
+    true
 }
 
-fn list_plays(
-    alloc: Global,
-    script: &Script,
-    verifier: Option<&Listed>,
-) -> Result<bool, NameError> {
+fn list_plays(rt: &impl Abort, alloc: Global, script: &Script, verifier: Option<&Listed>) -> bool {
     let mut cache = ListCache::new(alloc, script.1);
-    let played = all_played(alloc, &mut cache, script.2, verifier);
+    let played = all_played(rt, alloc, &mut cache, script.2, verifier);
     let is_hit = cache.hits() == script.3;
     drop(cache);
-    Ok(played? && is_hit)
+    played && is_hit
 }
 
-fn lru_plays(alloc: Global, script: &Script, verifier: Option<&Listed>) -> Result<bool, NameError> {
-    let mut cache = LruValidationCache::new(alloc, script.1)?;
-    let played = all_played(alloc, &mut cache, script.2, verifier);
+fn lru_plays(rt: &impl Abort, alloc: Global, script: &Script, verifier: Option<&Listed>) -> bool {
+    let mut cache = LruValidationCache::new(alloc, script.1).expect(rt, "memory");
+    let played = all_played(rt, alloc, &mut cache, script.2, verifier);
     let is_hit = cache.hits() == script.3;
     drop(cache);
-    Ok(played? && is_hit)
+    played && is_hit
 }
 
-fn both_play(alloc: Global, script: &Script, verifier: Option<&Listed>) -> Result<bool, NameError> {
-    Ok(list_plays(alloc, script, verifier)? && lru_plays(alloc, script, verifier)?)
+fn both_play(rt: &impl Abort, alloc: Global, script: &Script, verifier: Option<&Listed>) -> bool {
+    list_plays(rt, alloc, script, verifier) && lru_plays(rt, alloc, script, verifier)
 }
 
 /// By `get_for`, for a verifier that accepts nothing.
-fn both_play_for(alloc: Global, script: &Script) -> Result<bool, NameError> {
+fn both_play_for(rt: &impl Abort, alloc: Global, script: &Script) -> bool {
     let verifier = Listed::new(alloc);
-    let played = both_play(alloc, script, Some(&verifier));
+    let played = both_play(rt, alloc, script, Some(&verifier));
     drop(verifier);
     played
 }
@@ -154,13 +178,13 @@ fn both_play_for(alloc: Global, script: &Script) -> Result<bool, NameError> {
 #[test]
 fn caches_are_lists_by_use(rt: HostRuntime) {
     for script in SCRIPTS {
-        check_row(&rt, script.0, both_play(rt.alloc(), script, None));
+        check_row(&rt, script.0, both_play(&rt, rt.alloc(), script, None));
     }
 }
 
 #[test]
 fn no_cache_knows_of_an_acceptance(rt: HostRuntime) {
     for script in SCRIPTS {
-        check_row(&rt, script.0, both_play_for(rt.alloc(), script));
+        check_row(&rt, script.0, both_play_for(&rt, rt.alloc(), script));
     }
 }
