@@ -10,74 +10,92 @@ use std::alloc::Global;
 use std::hash::BuildHasherDefault;
 use std::num::NonZeroUsize;
 
-// Puts an entry of each key in.
-fn insert_all<C: ValidationCache>(
-    alloc: Global,
-    cache: &mut C,
-    keys: &[CacheKey],
-    chain: &Chain,
-) -> Result<u64, NoMemory> {
-    let mut count: u64 = 0;
-    for key in keys {
+/// What holds something for a key.
+trait Store {
+    /// Puts something in for a key.
+    fn fill(&mut self, alloc: Global, key: &CacheKey, chain: &Chain) -> Result<(), NoMemory>;
+
+    /// Whether it gives something for a key.
+    fn find(&mut self, alloc: Global, key: &CacheKey) -> Result<bool, NoMemory>;
+}
+
+impl Store for LruValidationCache {
+    fn fill(&mut self, alloc: Global, key: &CacheKey, chain: &Chain) -> Result<(), NoMemory> {
         let entry = secure_entry(key, chain)?;
-        cache.insert(alloc, entry)?;
-        count = count.saturating_add(1);
+        self.insert(alloc, entry)
     }
-    Ok(count)
-}
 
-// How many entries of the keys the cache gives.
-fn get_all<C: ValidationCache>(
-    alloc: Global,
-    cache: &mut C,
-    keys: &[CacheKey],
-) -> Result<u64, NoMemory> {
-    let mut count: u64 = 0;
-    for key in keys {
-        let given = cache.get(alloc, key, 0)?;
-        count = count.saturating_add(u64::from(given.is_some()));
+    fn find(&mut self, alloc: Global, key: &CacheKey) -> Result<bool, NoMemory> {
+        let given = self.get(alloc, key, 0)?;
+        let held = given.is_some();
         drop(given);
+        Ok(held)
     }
-    Ok(count)
 }
 
-// Makes an entry of each key and lets it go.
-fn copy_all(keys: &[CacheKey], chain: &Chain) -> Result<u64, NoMemory> {
-    let mut count: u64 = 0;
-    for key in keys {
-        drop(secure_entry(key, chain)?);
-        count = count.saturating_add(1);
+impl Store for LruCache<CacheKey, u64> {
+    fn fill(&mut self, _alloc: Global, key: &CacheKey, _chain: &Chain) -> Result<(), NoMemory> {
+        let key = key.try_clone()?;
+        self.put(key, 1)?;
+        Ok(())
     }
-    Ok(count)
+
+    fn find(&mut self, _alloc: Global, key: &CacheKey) -> Result<bool, NoMemory> {
+        Ok(self.get(key).is_some())
+    }
+}
+
+// Makes an entry and lets it go.
+fn copy(key: &CacheKey, chain: &Chain) -> Result<(), NoMemory> {
+    let entry = secure_entry(key, chain)?;
+    drop(entry);
+    Ok(())
+}
+
+// Does what is asked for with one key: whether it went well.
+fn do_one<S: Store>(
+    alloc: Global,
+    work: Work,
+    store: &mut S,
+    key: &CacheKey,
+    chain: &Chain,
+) -> Result<bool, NoMemory> {
+    match work {
+        Work::Get | Work::MapGet => return store.find(alloc, key),
+        Work::Insert | Work::MapPut => store.fill(alloc, key, chain)?,
+        _ => copy(key, chain)?,
+    }
+    Ok(true)
 }
 
 // Goes over all keys once: how often it went well.
-fn pass<C: ValidationCache>(
+fn pass<S: Store>(
     alloc: Global,
     work: Work,
-    cache: &mut C,
+    store: &mut S,
     keys: &[CacheKey],
     chain: &Chain,
 ) -> Result<u64, NoMemory> {
-    match work {
-        Work::Get => get_all(alloc, cache, keys),
-        Work::Insert => insert_all(alloc, cache, keys, chain),
-        _ => copy_all(keys, chain),
+    let mut count: u64 = 0;
+    for key in keys {
+        count = count.saturating_add(u64::from(do_one(alloc, work, store, key, chain)?));
     }
+    Ok(count)
 }
 
-// Puts an entry of each key in, and then does the same so many times.
-fn passes<C: ValidationCache>(
+// Fills the store for each key, and then goes over all keys so many times.
+fn passes<S: Store>(
     alloc: Global,
-    form: Form,
-    cache: &mut C,
+    work: Work,
+    store: &mut S,
     keys: &[CacheKey],
     chain: &Chain,
+    times: u32,
 ) -> Result<u64, NoMemory> {
-    let _ = insert_all(alloc, cache, keys, chain)?;
+    let _ = pass(alloc, Work::Insert, store, keys, chain)?;
     let mut count: u64 = 0;
-    for _ in 0..form.third {
-        count = count.saturating_add(pass(alloc, form.work, cache, keys, chain)?);
+    for _ in 0..times {
+        count = count.saturating_add(pass(alloc, work, store, keys, chain)?);
     }
     Ok(count)
 }
@@ -91,12 +109,16 @@ fn room(work: Work, keys: usize) -> usize {
     }
 }
 
-/// How often it was done, on so many entries with a chain of so many links each, in so many passes.
-pub(crate) fn worked_on_cache(alloc: Global, form: Form) -> Result<u64, NoMemory> {
-    let keys = keys_of(alloc, form.first)?;
-    let chain = chain_of(alloc, form.second)?;
-    let mut cache = LruValidationCache::new(alloc, room(form.work, keys.len()))?;
-    let count = passes(alloc, form, &mut cache, &keys, &chain);
+// How often it went well on a cache, in so many passes.
+fn cache_passes(
+    alloc: Global,
+    work: Work,
+    keys: &[CacheKey],
+    chain: &Chain,
+    times: u32,
+) -> Result<u64, NoMemory> {
+    let mut cache = LruValidationCache::new(alloc, room(work, keys.len()))?;
+    let count = passes(alloc, work, &mut cache, keys, chain, times);
     drop(cache);
     count
 }
@@ -108,50 +130,37 @@ fn map_for(alloc: Global, capacity: usize) -> Result<LruCache<CacheKey, u64>, No
     Ok(map)
 }
 
-// Puts the number 1 in for each key.
-fn put_all(map: &mut LruCache<CacheKey, u64>, keys: &[CacheKey]) -> Result<u64, NoMemory> {
-    let mut count: u64 = 0;
-    for key in keys {
-        map.put(key.try_clone()?, 1)?;
-        count = count.saturating_add(1);
-    }
-    Ok(count)
-}
-
-// How many keys have a number.
-fn find_all(map: &mut LruCache<CacheKey, u64>, keys: &[CacheKey]) -> u64 {
-    let mut count: u64 = 0;
-    for key in keys {
-        if let Some(number) = map.get(key) {
-            count = count.saturating_add(*number);
-        }
-    }
+// The same on a map, which keeps no chain.
+fn map_passes(
+    alloc: Global,
+    work: Work,
+    keys: &[CacheKey],
+    chain: &Chain,
+    times: u32,
+) -> Result<u64, NoMemory> {
+    let mut map = map_for(alloc, room(work, keys.len()))?;
+    let count = passes(alloc, work, &mut map, keys, chain, times);
+    drop(map);
     count
 }
 
-// Puts all keys in, and then goes over them in so many passes: how often it went well.
-fn map_passes(
-    form: Form,
-    map: &mut LruCache<CacheKey, u64>,
-    keys: &[CacheKey],
-) -> Result<u64, NoMemory> {
-    let _ = put_all(map, keys)?;
-    let mut count: u64 = 0;
-    for _ in 0..form.second {
-        let done = match form.work {
-            Work::MapGet => find_all(map, keys),
-            _ => put_all(map, keys)?,
-        };
-        count = count.saturating_add(done);
+// How many links the chain has, and how many passes there are.
+fn links_and_passes(form: Form) -> (u32, u32) {
+    match form.work {
+        Work::MapGet | Work::MapPut => (0, form.second),
+        _ => (form.second, form.third),
     }
-    Ok(count)
 }
 
-/// How often it was done, with so many keys in so many passes.
-pub(crate) fn worked_on_map(alloc: Global, form: Form) -> Result<u64, NoMemory> {
+/// How often it was done with so many keys in so many passes: on a cache, where each entry has a chain of so many links, or on a map.
+pub(crate) fn worked_on(alloc: Global, form: Form) -> Result<u64, NoMemory> {
+    let (links, times) = links_and_passes(form);
     let keys = keys_of(alloc, form.first)?;
-    let mut map = map_for(alloc, room(form.work, keys.len()))?;
-    let count = map_passes(form, &mut map, &keys);
-    drop(map);
+    let chain = chain_of(alloc, links)?;
+    let count = match form.work {
+        Work::MapGet | Work::MapPut => map_passes(alloc, form.work, &keys, &chain, times),
+        _ => cache_passes(alloc, form.work, &keys, &chain, times),
+    };
+    drop(chain);
     count
 }

@@ -6,7 +6,6 @@ use dns_cache::{CacheKey, ListCache, LruValidationCache, ValidationCache};
 use dns_mux::{Draws, RandDraws};
 use dns_name::NoMemory;
 use std::alloc::Global;
-use std::mem;
 
 /// So many calls are played on one set of caches at most.
 const MOST_CALLS: u32 = 600;
@@ -20,26 +19,6 @@ const CAPACITIES: u16 = 7;
 /// A moment is below this.
 const MOMENTS: u16 = 16;
 
-/// Both caches and the list, of one capacity.
-#[derive(Drop)]
-struct Three {
-    list: ListCache,
-    hashed: LruValidationCache,
-    plain: Plain,
-    calls: u32,
-}
-
-fn three_of(alloc: Global, capacity: u16) -> Result<Three, NoMemory> {
-    let capacity = usize::from(capacity);
-    let hashed = LruValidationCache::new(alloc, capacity)?;
-    Ok(Three {
-        list: ListCache::new(alloc, capacity),
-        hashed,
-        plain: Plain::new(alloc, capacity),
-        calls: 0,
-    })
-}
-
 /// What a call is about: a key with its number, a moment, and the value where an entry is put in.
 #[derive(Clone, Copy)]
 struct Call<'a> {
@@ -49,23 +28,29 @@ struct Call<'a> {
     value: u32,
 }
 
-fn insert<C: ValidationCache>(alloc: Global, cache: &mut C, call: &Call) -> Result<(), NoMemory> {
+fn insert<C: ValidationCache>(alloc: Global, cache: &mut C, call: Call) -> Result<(), NoMemory> {
     let entry = plain_entry(call.key, call.moment, call.value)?;
     cache.insert(alloc, entry)
 }
 
 // Puts one entry into all three.
-fn insert_alike(alloc: Global, three: &mut Three, call: &Call) -> Result<(), NoMemory> {
-    insert(alloc, &mut three.list, call)?;
-    insert(alloc, &mut three.hashed, call)?;
-    three.plain.insert(call.number, call.moment, call.value)
+fn insert_alike(
+    alloc: Global,
+    list: &mut ListCache,
+    hashed: &mut LruValidationCache,
+    plain: &mut Plain,
+    call: Call,
+) -> Result<(), NoMemory> {
+    insert(alloc, list, call)?;
+    insert(alloc, hashed, call)?;
+    plain.insert(call.number, call.moment, call.value)
 }
 
 // Whether a cache gives the value that is wanted.
 fn gives<C: ValidationCache>(
     alloc: Global,
     cache: &mut C,
-    call: &Call,
+    call: Call,
     wanted: Option<u32>,
 ) -> Result<bool, NoMemory> {
     let given = cache.get(alloc, call.key, call.moment)?;
@@ -74,67 +59,105 @@ fn gives<C: ValidationCache>(
     Ok(value == wanted)
 }
 
-fn have_hits(three: &Three, hits: u64) -> bool {
-    three.list.hits() == hits && three.hashed.hits() == hits
-}
-
 // Whether all three give one answer for a key, and have given entries as often.
-fn get_alike(alloc: Global, three: &mut Three, call: &Call) -> Result<bool, NoMemory> {
-    let wanted = three.plain.get(call.number, call.moment)?;
-    let by_list = gives(alloc, &mut three.list, call, wanted)?;
-    let by_hash = gives(alloc, &mut three.hashed, call, wanted)?;
-    Ok(by_list && by_hash && have_hits(three, three.plain.hits()))
+fn get_alike(
+    alloc: Global,
+    list: &mut ListCache,
+    hashed: &mut LruValidationCache,
+    plain: &mut Plain,
+    call: Call,
+) -> Result<bool, NoMemory> {
+    let wanted = plain.get(call.number, call.moment)?;
+    let by_list = gives(alloc, list, call, wanted)? && list.hits() == plain.hits();
+    let by_hash = gives(alloc, hashed, call, wanted)? && hashed.hits() == plain.hits();
+    Ok(by_list && by_hash)
 }
 
-// Whether all three answer the next call alike.
-fn answer_alike(
-    alloc: Global,
-    three: &mut Three,
-    keys: &[CacheKey],
-    random: &mut RandDraws,
-    value: u32,
-) -> Result<bool, NoMemory> {
+// The next call, on one of the keys.
+fn next_call<'a>(random: &mut RandDraws, keys: &'a [CacheKey], value: u32) -> Option<Call<'a>> {
     let number = usize::from(random.id() % KEYS);
     let moment = u64::from(random.id() % MOMENTS);
-    let Some(key) = keys.get(number) else {
-        return Ok(false);
-    };
-    let call = Call {
+    let key = keys.get(number)?;
+    Some(Call {
         key,
         number,
         moment,
         value,
-    };
-    three.calls = three.calls.saturating_add(1);
-    if random.id() % 2 == 0 {
-        insert_alike(alloc, three, &call)?;
-        return Ok(true);
-    }
-    get_alike(alloc, three, &call)
+    })
 }
 
-// New ones of another capacity where enough was played on these.
-fn refresh(alloc: Global, three: &mut Three, random: &mut RandDraws) -> Result<(), NoMemory> {
-    if three.calls >= MOST_CALLS {
-        let next = three_of(alloc, random.id() % CAPACITIES)?;
-        drop(mem::replace(three, next));
+// The first of the calls with numbers from one up to another that all three don't answer alike.
+fn difference_on(
+    alloc: Global,
+    random: &mut RandDraws,
+    list: &mut ListCache,
+    hashed: &mut LruValidationCache,
+    plain: &mut Plain,
+    keys: &[CacheKey],
+    first: u32,
+    end: u32,
+) -> Result<Option<u32>, NoMemory> {
+    for value in first..end {
+        let Some(call) = next_call(random, keys, value) else {
+            return Ok(Some(value));
+        };
+        if random.id() % 2 == 0 {
+            insert_alike(alloc, list, hashed, plain, call)?;
+        } else if !get_alike(alloc, list, hashed, plain, call)? {
+            return Ok(Some(value));
+        }
     }
-    Ok(())
+    Ok(None)
 }
 
-// The first of so many calls that isn't answered alike, by these keys.
+// The same on new caches and a new list, of one capacity.
+fn difference_with(
+    alloc: Global,
+    random: &mut RandDraws,
+    capacity: usize,
+    keys: &[CacheKey],
+    first: u32,
+    end: u32,
+) -> Result<Option<u32>, NoMemory> {
+    let mut hashed = LruValidationCache::new(alloc, capacity)?;
+    let mut list = ListCache::new(alloc, capacity);
+    let mut plain = Plain::new(alloc, capacity);
+    let difference = difference_on(
+        alloc,
+        random,
+        &mut list,
+        &mut hashed,
+        &mut plain,
+        keys,
+        first,
+        end,
+    );
+    drop(plain);
+    drop(list);
+    drop(hashed);
+    difference
+}
+
+// The first of so many calls that isn't answered alike, by as many caches as these take.
 fn difference_by(
     alloc: Global,
-    three: &mut Three,
-    keys: &[CacheKey],
     random: &mut RandDraws,
+    keys: &[CacheKey],
     count: u32,
 ) -> Result<Option<u32>, NoMemory> {
-    for number in 0..count {
-        if !answer_alike(alloc, three, keys, random, number)? {
-            return Ok(Some(number));
+    let mut capacity: usize = 0;
+    let mut first: u32 = 0;
+    for _ in 0..count {
+        if first >= count {
+            break;
         }
-        refresh(alloc, three, random)?;
+        let end = count.min(first.saturating_add(MOST_CALLS));
+        let difference = difference_with(alloc, random, capacity, keys, first, end)?;
+        if difference.is_some() {
+            return Ok(difference);
+        }
+        capacity = usize::from(random.id() % CAPACITIES);
+        first = end;
     }
     Ok(None)
 }
@@ -147,8 +170,5 @@ pub(crate) fn first_difference(
 ) -> Result<Option<u32>, NoMemory> {
     let keys = keys_of(alloc, u32::from(KEYS))?;
     let mut random = RandDraws::from_seed(seed);
-    let mut three = three_of(alloc, 0)?;
-    let difference = difference_by(alloc, &mut three, &keys, &mut random, count);
-    drop(three);
-    difference
+    difference_by(alloc, &mut random, &keys, count)
 }

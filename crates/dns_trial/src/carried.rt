@@ -36,22 +36,12 @@ fn frames(alloc: Global) -> Result<Vec<u8>, NoMemory> {
     Ok(bytes)
 }
 
-/// A link that gives these bytes.
-fn link_of(alloc: Global, bytes: &[u8]) -> Result<PairLink, NoMemory> {
-    let pieces = cut_at(alloc, bytes, 0)?;
-    PairLink::new(alloc, pieces, 0, Vec::new(alloc))
-}
-
-/// A link with room for a hundred frames.
-fn roomy_link(alloc: Global) -> Result<PairLink, NoMemory> {
-    let room = (MESSAGES as usize).saturating_mul(FRAME);
-    PairLink::new(alloc, Vec::new(alloc), room, Vec::new(alloc))
-}
-
-/// Makes a link that gives these bytes, reads nothing, and answers how many messages were there.
-fn made(alloc: Global, bytes: &[u8]) -> Result<u64, NoMemory> {
-    drop(link_of(alloc, bytes)?);
-    Ok(u64::from(MESSAGES))
+/// A link with room for these frames where messages are to be written, and else one that gives them.
+fn link_for(alloc: Global, work: Work, frames: &[u8]) -> Result<PairLink, NoMemory> {
+    match work {
+        Work::Written => PairLink::new(alloc, Vec::new(alloc), frames.len(), Vec::new(alloc)),
+        _ => PairLink::new(alloc, cut_at(alloc, frames, 0)?, 0, Vec::new(alloc)),
+    }
 }
 
 /// How many messages a read gave; none where it ended or failed.
@@ -89,24 +79,32 @@ fn copy_of(alloc: Global, bytes: &[u8]) -> Result<Vec<u8>, NoMemory> {
     Ok(Vec::from_slice(alloc, bytes)?)
 }
 
+/// Whether bytes are copied.
+fn is_copied(alloc: Global, bytes: &[u8]) -> bool {
+    let copy = copy_of(alloc, bytes);
+    let held = copy.is_ok();
+    drop(copy);
+    held
+}
+
 /// How many frames are read plainly off a link, each copied into a vector of its own.
 fn copy_all(alloc: Global, link: &mut PairLink, buf: &mut [u8]) -> u64 {
     let mut copied: u64 = 0;
     for _ in 0..MESSAGES {
-        if matches!(link.read(buf), Ok(FRAME)) && copy_of(alloc, buf).is_ok() {
+        if matches!(link.read(buf), Ok(FRAME)) && is_copied(alloc, buf) {
             copied = copied.saturating_add(1);
         }
     }
     copied
 }
 
-/// How many frames are copied off a link that gives these bytes.
-fn copied(alloc: Global, bytes: &[u8]) -> Result<u64, NoMemory> {
+/// The same, or how many there are where they are left on the link.
+fn plain(alloc: Global, work: Work, link: &mut PairLink) -> Result<u64, NoMemory> {
     let mut buf = frame(alloc)?;
-    let mut link = link_of(alloc, bytes)?;
-    let copied = copy_all(alloc, &mut link, &mut buf);
-    drop(link);
-    Ok(copied)
+    match work {
+        Work::Copied => Ok(copy_all(alloc, link, &mut buf)),
+        _ => Ok(u64::from(MESSAGES)),
+    }
 }
 
 /// Puts a message into a stream's queue, and tells whether it took it.
@@ -153,25 +151,28 @@ fn write_all(
     Ok(written)
 }
 
-/// How many messages are read off a link that gives these bytes, or written to a roomy one.
-fn streamed(alloc: Global, link: PairLink, is_reading: bool) -> Result<u64, NoMemory> {
+/// How many messages are read off a link, or written to one.
+fn streamed(alloc: Global, work: Work, link: PairLink) -> Result<u64, NoMemory> {
     let (mut stream, mut handle) = TcpStream::from_stream(alloc, link, server());
-    let count = if is_reading {
-        Ok(read_all(&mut stream))
-    } else {
-        write_all(alloc, &mut stream, &mut handle)
+    let count = match work {
+        Work::Read => Ok(read_all(&mut stream)),
+        _ => write_all(alloc, &mut stream, &mut handle),
     };
+    drop(handle);
     drop(stream);
     count
 }
 
 /// How often it went well over one link.
 fn carried_once(alloc: Global, work: Work, frames: &[u8]) -> Result<u64, NoMemory> {
+    let mut link = link_for(alloc, work, frames)?;
     match work {
-        Work::Made => made(alloc, frames),
-        Work::Copied => copied(alloc, frames),
-        Work::Read => streamed(alloc, link_of(alloc, frames)?, true),
-        _ => streamed(alloc, roomy_link(alloc)?, false),
+        Work::Read | Work::Written => streamed(alloc, work, link),
+        _ => {
+            let count = plain(alloc, work, &mut link);
+            drop(link);
+            count
+        }
     }
 }
 

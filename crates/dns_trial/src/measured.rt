@@ -1,10 +1,11 @@
 //! The multiplexer beside the plain machine: what it answers to the same events.
 
+use crate::few_ids::FewIds;
 use crate::plain_mux::{Answer, Event, SIZE, TIMEOUT};
 use dns_handle::{DnsRequest, DnsRequestOptions, IoKind, NetError, Notice};
 use dns_message::Message;
 use dns_mux::{
-    BufDnsStreamHandle, DnsMultiplexer, DnsRequestSender, Draws, RequestId, SerialMessage, Taken,
+    BufDnsStreamHandle, DnsMultiplexer, DnsRequestSender, RequestId, SerialMessage, Taken,
 };
 use dns_name::NoMemory;
 use dns_record::ResponseCode;
@@ -26,11 +27,7 @@ pub(crate) fn request(alloc: Global) -> DnsRequest {
 }
 
 /// A multiplexer with the settings of the plain machine, and so many live requests at most.
-pub(crate) fn multiplexer<R: Draws + Drop>(
-    alloc: Global,
-    draws: R,
-    maximum: usize,
-) -> DnsMultiplexer<R> {
+pub(crate) fn multiplexer(alloc: Global, draws: FewIds, maximum: usize) -> DnsMultiplexer<FewIds> {
     let (handle, queue) = BufDnsStreamHandle::with_buffer_size(alloc, server(), SIZE);
     DnsMultiplexer::new(alloc, server(), handle, queue, draws)
         .with_timeout(TIMEOUT)
@@ -73,9 +70,9 @@ fn told_by(sent: &Result<RequestId, NetError>) -> Result<Answer, NoMemory> {
 }
 
 /// What a send is answered.
-pub(crate) fn send<R: Draws + Drop>(
+pub(crate) fn send(
     alloc: Global,
-    mux: &mut DnsMultiplexer<R>,
+    mux: &mut DnsMultiplexer<FewIds>,
     moment: u64,
 ) -> Result<Answer, NoMemory> {
     if mux.is_shutdown() {
@@ -104,7 +101,7 @@ fn given(taken: &Taken) -> Answer {
 }
 
 /// What a request is given.
-pub(crate) fn taken<R: Draws + Drop>(mux: &mut DnsMultiplexer<R>, number: u64) -> Answer {
+pub(crate) fn taken(mux: &mut DnsMultiplexer<FewIds>, number: u64) -> Answer {
     let taken = mux.take(RequestId(number));
     let answer = given(&taken);
     drop(taken);
@@ -122,7 +119,7 @@ fn outbound(message: &Option<SerialMessage>) -> Answer {
 }
 
 /// What is popped.
-pub(crate) fn popped<R: Draws + Drop>(mux: &mut DnsMultiplexer<R>) -> Answer {
+pub(crate) fn popped(mux: &mut DnsMultiplexer<FewIds>) -> Answer {
     let message = mux.pop_outbound();
     let answer = outbound(&message);
     drop(message);
@@ -130,9 +127,9 @@ pub(crate) fn popped<R: Draws + Drop>(mux: &mut DnsMultiplexer<R>) -> Answer {
 }
 
 /// What the multiplexer answers to an event, where the bytes that come are those of a response.
-pub(crate) fn answer<R: Draws + Drop>(
+pub(crate) fn answer(
     alloc: Global,
-    mux: &mut DnsMultiplexer<R>,
+    mux: &mut DnsMultiplexer<FewIds>,
     response: &mut [u8; 50],
     event: Event,
 ) -> Result<Answer, NoMemory> {

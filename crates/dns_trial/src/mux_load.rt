@@ -5,14 +5,14 @@ use crate::form::{Form, Work};
 use crate::measured::{multiplexer, popped, response, send, set_front, taken};
 use crate::plain_mux::Answer;
 use dns_message::Message;
-use dns_mux::{Arrival, DnsMultiplexer, DnsRequestSender, Draws, RequestId};
+use dns_mux::{Arrival, DnsMultiplexer, DnsRequestSender, RequestId};
 use dns_name::NoMemory;
 use std::alloc::Global;
 
 // Sends a request and takes its message out: its number and its id. None where it is refused.
-fn send_one<R: Draws + Drop>(
+fn send_one(
     alloc: Global,
-    mux: &mut DnsMultiplexer<R>,
+    mux: &mut DnsMultiplexer<FewIds>,
 ) -> Result<Option<(u64, u16)>, NoMemory> {
     let sent = send(alloc, mux, 0)?;
     match (sent, popped(mux)) {
@@ -22,9 +22,9 @@ fn send_one<R: Draws + Drop>(
 }
 
 // Sends so many requests: their ids.
-fn send_all<R: Draws + Drop>(
+fn send_all(
     alloc: Global,
-    mux: &mut DnsMultiplexer<R>,
+    mux: &mut DnsMultiplexer<FewIds>,
     live: u32,
     ids: &mut Vec<u16>,
 ) -> Result<(), NoMemory> {
@@ -37,9 +37,9 @@ fn send_all<R: Draws + Drop>(
 }
 
 // How many of so many requests are sent, each while so many others are live, of which the oldest is ended after it.
-fn sends<R: Draws + Drop>(
+fn sends(
     alloc: Global,
-    mux: &mut DnsMultiplexer<R>,
+    mux: &mut DnsMultiplexer<FewIds>,
     live: u32,
     times: u32,
 ) -> Result<u64, NoMemory> {
@@ -54,9 +54,9 @@ fn sends<R: Draws + Drop>(
 }
 
 // Whether a response waits, and is taken.
-fn is_taken<R: Draws + Drop>(
+fn is_taken(
     alloc: Global,
-    mux: &mut DnsMultiplexer<R>,
+    mux: &mut DnsMultiplexer<FewIds>,
     response: &[u8; 50],
 ) -> Result<bool, NoMemory> {
     match mux.arrive(alloc, response)? {
@@ -66,9 +66,9 @@ fn is_taken<R: Draws + Drop>(
 }
 
 // How many of so many responses are taken, that come under these ids in turn.
-fn arrivals<R: Draws + Drop>(
+fn arrivals(
     alloc: Global,
-    mux: &mut DnsMultiplexer<R>,
+    mux: &mut DnsMultiplexer<FewIds>,
     ids: &[u16],
     times: u32,
 ) -> Result<u64, NoMemory> {
@@ -89,11 +89,7 @@ fn arrivals<R: Draws + Drop>(
 }
 
 // Makes so many requests live, and then does what is asked for so many times: how often it went well.
-fn load_by<R: Draws + Drop>(
-    alloc: Global,
-    mux: &mut DnsMultiplexer<R>,
-    form: Form,
-) -> Result<u64, NoMemory> {
+fn load_by(alloc: Global, mux: &mut DnsMultiplexer<FewIds>, form: Form) -> Result<u64, NoMemory> {
     let mut ids = Vec::new(alloc);
     send_all(alloc, mux, form.first, &mut ids)?;
     match form.work {

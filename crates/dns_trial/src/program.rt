@@ -4,7 +4,7 @@ ghost use Rattle.std.specs.Io.KnownBytes.{Appends};
 ghost use Rattle.dns_io.specs.Runs.{KeepsSink};
 ghost use Rattle.dns_io.specs.Writing.{bad_words_text};
 
-use crate::cache_load::{worked_on_cache, worked_on_map};
+use crate::cache_load::worked_on;
 use crate::carried::carried;
 use crate::cuts::cut;
 use crate::form::{Form, Work, form_of};
@@ -45,8 +45,9 @@ fn done<T: Threads>(
         Work::All => cut(alloc, form.third),
         Work::Sends | Work::Arrivals => load(alloc, form),
         Work::Decoded => Ok(decoded(alloc, form.first)),
-        Work::Get | Work::Insert | Work::Copy => worked_on_cache(alloc, form),
-        Work::MapGet | Work::MapPut => worked_on_map(alloc, form),
+        Work::Get | Work::Insert | Work::Copy | Work::MapGet | Work::MapPut => worked_on(
+            alloc, form,
+        ),
         Work::Made | Work::Read | Work::Copied | Work::Written => carried(
             alloc, form.work, form.first,
         ),

@@ -3,7 +3,7 @@ use crate::form::Work;
 use crate::measured::request;
 use crate::server::{FRAME, serve};
 use dns_exchange::TcpExchange;
-use dns_handle::DnsHandle;
+use dns_handle::{DnsHandle, NetError};
 use dns_link::{Link, SocketDialer};
 use dns_mux::{Draws, RandDraws};
 use std::alloc::Global;
@@ -35,15 +35,26 @@ fn ask_all<L: Link + Drop, D: Draws + Drop>(
     answered
 }
 
+/// The same where an exchange was made.
+fn ask_by_made<L: Link + Drop, D: Draws + Drop>(
+    alloc: Global,
+    made: &mut Result<TcpExchange<L, D>, NetError>,
+    count: u32,
+) -> u64 {
+    match made {
+        Ok(exchange) => ask_all(alloc, exchange, count),
+        Err(_) => 0,
+    }
+}
+
 /// The same over a new connection.
 fn ask(rt: &HostRuntime, alloc: Global, server: SocketAddr, count: u32) -> u64 {
     let mut dial = SocketDialer::new(rt);
     let draws = RandDraws::from_seed(1);
-    let made = TcpExchange::connect(alloc, &mut dial, server, None, 5000, None, draws);
-    match made.ok() {
-        Some(mut exchange) => ask_all(alloc, &mut exchange, count),
-        None => 0,
-    }
+    let mut made = TcpExchange::connect(alloc, &mut dial, server, None, 5000, None, draws);
+    let answered = ask_by_made(alloc, &mut made, count);
+    drop(made);
+    answered
 }
 
 /// Writes and reads as many bytes by a plain stream.
