@@ -20,9 +20,9 @@ pub struct Lookups {
 }
 
 /// What is looked up again and again.
-#[derive(Drop)]
-struct Repeated {
-    query: Query,
+#[derive(Clone, Copy)]
+struct Repeated<'a> {
+    query: &'a Query,
     options: DnsRequestOptions,
     /// Seconds.
     moment: u64,
@@ -36,7 +36,7 @@ const CACHE_ENTRIES: usize = 65_536;
 // Looks it up.
 fn look_up(
     alloc: Global,
-    what: &Repeated,
+    what: Repeated,
     handle: &mut DnssecDnsHandle<Recorded, Listed>,
 ) -> Result<DnsResponse, NetError> {
     let query = what.query.try_clone()?;
@@ -61,7 +61,7 @@ fn with_reply(counts: Lookups, reply: &Result<DnsResponse, NetError>) -> Result<
 // Looks it up, and counts what came of it.
 fn count_one(
     alloc: Global,
-    what: &Repeated,
+    what: Repeated,
     handle: &mut DnssecDnsHandle<Recorded, Listed>,
     counts: Lookups,
 ) -> Result<Lookups, NoMemory> {
@@ -74,7 +74,7 @@ fn count_one(
 // The validator, with an empty cache where that is wanted.
 fn made_ready(
     alloc: Global,
-    what: &Repeated,
+    what: Repeated,
     handle: DnssecDnsHandle<Recorded, Listed>,
 ) -> Result<DnssecDnsHandle<Recorded, Listed>, NoMemory> {
     if what.anew {
@@ -87,7 +87,7 @@ fn made_ready(
 // Looks it up so many times. The validator is let go at one place, which is cheaper to prove than at each `?`.
 fn count_all(
     alloc: Global,
-    what: &Repeated,
+    what: Repeated,
     handle: DnssecDnsHandle<Recorded, Listed>,
     times: u32,
 ) -> Result<Lookups, NoMemory> {
@@ -122,12 +122,12 @@ pub(crate) fn count_lookups(
         moment,
     } = made;
     let what = Repeated {
-        query,
+        query: &query,
         options,
         moment,
         anew,
     };
-    let counts = count_all(alloc, &what, validator, times);
-    drop(what);
+    let counts = count_all(alloc, what, validator, times);
+    drop(query);
     counts
 }
