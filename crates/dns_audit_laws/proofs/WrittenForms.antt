@@ -91,12 +91,14 @@ set_by ws = after (codes "set") ws >>= set_in
 abbrev pub ending_words_in : Words → Option StepEnd
 ending_words_in ws = after (codes "ending") ws >>= ending_in
 
-section_after : (section : Section) (ws : Words) → after (section_word section) (section_word section ∷ ws) ≡ Some ws
+section_after : (section : Section) (ws : Words)
+    → after (section_word section) (section_word section ∷ ws) ≡ Some ws
 section_after Answer ws = refl
 section_after Authority ws = refl
 section_after Additional ws = refl
 
-pub code_reads : (code : ℕ) → is_u16 code ≡ true → code_line (joined (codes "code", decimal code ∷ [])) ≡ Some code
+pub code_reads : (code : ℕ) → is_u16 code ≡ true
+    → code_line (joined (codes "code", decimal code ∷ [])) ≡ Some code
 code_reads code h =
     let good : is_line (codes "code", decimal code ∷ []) ≡ true = rw (small_good code h) refl in
     ap code_by (line_words (codes "code", decimal code ∷ []) good) ∙ small_read code h
@@ -109,7 +111,8 @@ denial_words_read (denial.Expanded mark) = rw (mark_read mark) refl
 
 pub denial_reads : (d : Denial) → denial_line (joined (codes "denial", denial_words d)) ≡ Some d
 denial_reads d =
-    ap denial_words_by (line_words (codes "denial", denial_words d) (rw (denial_is_words d) refl)) ∙ denial_words_read d
+    ap denial_words_by (line_words (codes "denial", denial_words d) (rw (denial_is_words d) refl))
+    ∙ denial_words_read d
 
 pub record_reads : (section : Section) (r : Rr) → fitting_record r ≡ true → short_record r ≡ true
     → record_line section (joined (record_of section r)) ≡ Some r
@@ -156,7 +159,8 @@ link_reads (Anchored owner class key) h short =
 link_reads (Matched owner class key ds_link ds) h short =
     let f = fits_matched owner class key ds_link ds h in
     let sizes = and_parts (is_short key) (is_short ds) short in
-    ap link_words (line_words (link_of (Matched owner class key ds_link ds)) (link_good (Matched owner class key ds_link ds) h))
+    ap link_words (line_words (link_of (Matched owner class key ds_link ds))
+    (link_good (Matched owner class key ds_link ds) h))
     ∙ rw (
       name_read owner f.named,
       class_read class f.classed,
@@ -176,7 +180,8 @@ link_reads (Signed owner class rtype rdatas sig key_link key) h short =
     let f = fits_signed owner class rtype rdatas sig key_link key h in
     let a = and_parts (is_short key) (is_short sig && list_all is_short rdatas) short in
     let b = and_parts (is_short sig) (list_all is_short rdatas) a.1 in
-    ap link_words (line_words (link_of (Signed owner class rtype rdatas sig key_link key)) (link_good (Signed owner class rtype rdatas sig key_link key) h))
+    ap link_words (line_words (link_of (Signed owner class rtype rdatas sig key_link key))
+    (link_good (Signed owner class rtype rdatas sig key_link key) h))
     ∙ rw (
       name_read owner f.named,
       class_read class f.classed,
@@ -259,7 +264,8 @@ set_reads s h =
       asks_read s.asked f.asked,
     ) refl
 
-ending_words_read : (e : EndingValue) (asks : List AskRef) → fitting_ending e ≡ true → list_all fitting_ask asks ≡ true
+ending_words_read : (e : EndingValue) (asks : List AskRef) → fitting_ending e ≡ true
+    → list_all fitting_ask asks ≡ true
     → ending_words_in (codes "ending" ∷ (ending_words e ++ map ask_word asks))
     ≡ Some (record { ending = e; excuse = asks })
 unfolding ending_by plain_by
@@ -274,7 +280,8 @@ ending_words_read (Foreign owner class rtype) asks h asked =
 ending_words_read Failed asks h asked = rw (asks_read asks asked) refl
 ending_words_read Seen asks h asked = rw (asks_read asks asked) refl
 
-pub ending_reads : (e : EndingValue) (asks : List AskRef) → fitting_ending e ≡ true → list_all fitting_ask asks ≡ true
+pub ending_reads : (e : EndingValue) (asks : List AskRef) → fitting_ending e ≡ true
+    → list_all fitting_ask asks ≡ true
     → ending_line (joined (ending_of e asks)) ≡ Some (record { ending = e; excuse = asks })
 ending_reads e asks h asked =
     ap ending_words_in (line_words (ending_of e asks) (ending_line_good e asks h asked))

@@ -26,7 +26,8 @@ line_is l = ap (λ t. l.0 ++ t) (rest_is l.1) ∙ sym (append_assoc l.0 (spaced 
 
 lines_are : (ls : List Line) → flat_map text_of ls ≡ lines_text (map joined ls)
 lines_are [] = refl
-lines_are (l ∷ ls) = ap (λ t. t ++ flat_map text_of ls) (line_is l) ∙ ap (λ t. (joined l ++ 10 ∷ []) ++ t) (lines_are ls)
+lines_are (l ∷ ls) =
+    ap (λ t. t ++ flat_map text_of ls) (line_is l) ∙ ap (λ t. (joined l ++ 10 ∷ []) ++ t) (lines_are ls)
 
 -- ---- no LF within a line, and no space within a word
 
@@ -91,7 +92,8 @@ first_word (c ∷ cs) rest h =
     let ih : pieces 32 (cs ++ 32 ∷ rest) ≡ cs ∷ pieces 32 rest = first_word cs rest parts.1 in
     rw (other, ih) refl
 
-all_words : (w : List ℕ) (ws : Words) → is_word w ≡ true → list_all is_word ws ≡ true → pieces 32 (w ++ spaced ws) ≡ w ∷ ws
+all_words : (w : List ℕ) (ws : Words) → is_word w ≡ true → list_all is_word ws ≡ true
+    → pieces 32 (w ++ spaced ws) ≡ w ∷ ws
 all_words w [] h hs = ap (pieces 32) (append-nil w) ∙ one_word w h
 all_words w (v ∷ vs) h hs =
     let parts = and_parts (is_word v) (list_all is_word vs) hs in
@@ -105,12 +107,14 @@ line_words l h =
 -- ---- one line, at its place
 
 pub read_line : {X : Type 0} (form : List ℕ → Option X) (number : ℕ) (l : Line) (ls : List Line) (x : X)
-    → form (joined l) ≡ Some x → read_next form (place number (left_of (l ∷ ls))) ≡ Some (x, place (number + 1) (left_of ls))
+    → form (joined l) ≡ Some x
+    → read_next form (place number (left_of (l ∷ ls))) ≡ Some (x, place (number + 1) (left_of ls))
 read_line form number l [] x h = rw h refl
 read_line form number l (m ∷ ms) x h = rw h refl
 
 pub one_line_read : {X : Type 0} (form : List ℕ → Option X) (number : ℕ) (l : Line) (ls : List Line) (x : X)
-    → form (joined l) ≡ Some x → one form (place number (left_of (l ∷ ls))) ≡ Ok (x, place (number + 1) (left_of ls))
+    → form (joined l) ≡ Some x
+    → one form (place number (left_of (l ∷ ls))) ≡ Ok (x, place (number + 1) (left_of ls))
 unfolding one
 one_line_read form number l [] x h = rw h refl
 one_line_read form number l (m ∷ ms) x h = rw h refl
