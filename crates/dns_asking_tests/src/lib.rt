@@ -1,4 +1,4 @@
-//! Tests of what `run` alone uses: lookups over one server, in memory, and words that are addresses; a lookup below nested zones; and
+//! Tests of what `run` stands on: lookups over one server, in memory, and words that are addresses; a lookup below nested zones; and
 //! streams of std as sources and sinks; and the code of docs/LIBRARY.md, through the facades. `tools/run_asks` asks servers of a machine by
 //! the program.
 //!

@@ -56,7 +56,7 @@ pub(crate) fn name_of(rt: &impl Abort, alloc: Global, text: &str) -> Name {
 /// The rdata of these bytes. A row that is too long ends its test.
 pub(crate) fn rdata_of(rt: &impl Abort, alloc: Global, bytes: &[u8]) -> Rdata {
     if bytes.len() > 65535 {
-        rt.abort();
+        rt.panic("a long rdata");
     }
     Rdata::from_slice(alloc, bytes).expect(rt, "memory")
 }

@@ -100,9 +100,11 @@ fn copy_all(alloc: Global, link: &mut PairLink, buf: &mut [u8]) -> u64 {
 
 /// The same, or how many there are where they are left on the link.
 fn plain(alloc: Global, work: Work, link: &mut PairLink) -> Result<u64, NoMemory> {
-    let mut buf = frame(alloc)?;
     match work {
-        Work::Copied => Ok(copy_all(alloc, link, &mut buf)),
+        Work::Copied => {
+            let mut buf = frame(alloc)?;
+            Ok(copy_all(alloc, link, &mut buf))
+        }
         _ => Ok(u64::from(MESSAGES)),
     }
 }
