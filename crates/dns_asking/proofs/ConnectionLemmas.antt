@@ -22,11 +22,11 @@ use Rattle.dns_handle.specs.declared.io_kind.IoKind.TheVariants.{PermissionDenie
 use Rattle.dns_handle.specs.declared.protocol.Protocol.TheVariants.{Tcp}
 use Rattle.dns_link.specs.Counts.{CountsValue, no_counts, with_counts}
 use Rattle.dns_link.specs.Moved.{DatagramValue}
-use Rattle.dns_mux.specs.Draws.{Plays, request_bytes}
-use Rattle.dns_mux.specs.Events.{Send, last_drawn}
-use Rattle.dns_mux.specs.History.{put_out}
-use Rattle.dns_mux.specs.Machine.{State, send_reply}
-use Rattle.dns_mux.specs.Messages.{SerialMessageValue, with_id}
+use Rattle.dns_multiplexer.specs.Draws.{Plays, request_bytes}
+use Rattle.dns_multiplexer.specs.Events.{Send, last_drawn}
+use Rattle.dns_multiplexer.specs.History.{put_out}
+use Rattle.dns_multiplexer.specs.Machine.{State, send_reply}
+use Rattle.dns_multiplexer.specs.Messages.{SerialMessageValue, with_id}
 use Rattle.dns_transport.specs.Causes.{DrainCause, DrainFault, FeedCause, FeedFault, IsMisaddressed, IsOverlong}
 use Rattle.dns_transport.specs.declared.feed.Feed.{Feed}
 use Rattle.dns_transport.specs.declared.feed.Feed.TheVariants.{Closed}

@@ -13,7 +13,7 @@ use dns_evidence::Verifier;
 use dns_exchange::TcpExchange;
 use dns_handle::{DnsHandle, DnsResponse, NetError, Protocol};
 use dns_link::{Dialer, Link};
-use dns_mux::Draws;
+use dns_multiplexer::Draws;
 use dns_name::Name;
 use dns_record::Query;
 use dns_udp::{UdpClientStream, UdpExchange};

@@ -8,7 +8,7 @@ use dns_evidence::Listed;
 use dns_handle::{DnsResponse, IoKind, NetError, Protocol};
 use dns_link::{ListDialer, PairLink};
 use dns_model::Proof;
-use dns_mux::ListDraws;
+use dns_multiplexer::ListDraws;
 use dns_name::{Name, Octets};
 use dns_record::{DNSClass, Query, RecordType};
 use dns_trust::TrustAnchors;

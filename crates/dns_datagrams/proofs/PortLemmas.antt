@@ -1,7 +1,7 @@
 -- Ports that are drawn until one isn't avoided.
 use Rattle.std.proofs.Common.{◌≡◌, ℕ, ◌+◌, ◌<◌, ◌≤◌, ◌⊎◌, inl, inr, max, Bool, true, false, List, [], ◌∷◌, ◌++◌, length, refl, arith}
 use Rattle.std.specs.List.{list_all}
-use Rattle.dns_mux.specs.Draws.{Drawn}
+use Rattle.dns_multiplexer.specs.Draws.{Drawn}
 use Rattle.dns_datagrams.specs.Ports.{IsNextPort, most_attempts}
 
 module _ {R : Type 0} (draw : R → ℕ → R → Type 0) (is_avoided : ℕ → Bool) where

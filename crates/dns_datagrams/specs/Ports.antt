@@ -3,7 +3,7 @@ use Rattle.std.specs.Prelude.{ℕ, ◌≡◌, ◌<◌, ◌≤◌, ◌+◌, ◌�
 use Rattle.std.specs.List.{list_all}
 use Rattle.std.specs.Ordering.{nat_cmp}
 use Rattle.std.specs.BTreeSet.{BTreeSet, contains}
-use Rattle.dns_mux.specs.Draws.{Drawn}
+use Rattle.dns_multiplexer.specs.Draws.{Drawn}
 
 -- no more is drawn once so many ports were avoided, or binds refused
 abbrev pub most_attempts : ℕ

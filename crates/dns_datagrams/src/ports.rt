@@ -1,7 +1,7 @@
 ghost use Rattle.std.specs.Prelude.{◌≡◌, ◌≤◌, ◌⊎◌};
 ghost use Rattle.dns_datagrams.specs.Ports.{IsNextPort, is_avoided};
 
-use dns_mux::Draws;
+use dns_multiplexer::Draws;
 use std::collections::BTreeSet;
 
 /// So many attempts are made at most.

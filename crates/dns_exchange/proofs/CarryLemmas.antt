@@ -9,10 +9,10 @@ use Rattle.dns_handle.specs.Causes.{HasCause, faults_after}
 use Rattle.dns_handle.specs.Errors.{ErrorValue, Reply}
 use Rattle.dns_handle.specs.Replies.{error_of, reply_of}
 use Rattle.dns_handle.specs.Requests.{RequestValue}
-use Rattle.dns_mux.specs.Draws.{CoreValue, Drawn, IsSend, Plays, request_bytes}
-use Rattle.dns_mux.specs.Events.{Cancel, last_drawn}
-use Rattle.dns_mux.specs.Machine.{Request, State}
-use Rattle.dns_mux.specs.Messages.{SerialMessageValue}
+use Rattle.dns_multiplexer.specs.Draws.{CoreValue, Drawn, IsSend, Plays, request_bytes}
+use Rattle.dns_multiplexer.specs.Events.{Cancel, last_drawn}
+use Rattle.dns_multiplexer.specs.Machine.{Request, State}
+use Rattle.dns_multiplexer.specs.Messages.{SerialMessageValue}
 use Rattle.dns_transport.specs.Links.{LinkView}
 use Rattle.dns_transport.specs.Streams.{StreamValue}
 use Rattle.dns_exchange.specs.Exchanges.{Carried, WasWritten, DrainFailed, NoRoomToWrite, Exchanged, NoneRevived, Refused, Sent, Parts, Received, most_messages}

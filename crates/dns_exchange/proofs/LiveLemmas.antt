@@ -8,16 +8,16 @@ use Rattle.dns_message.specs.declared.decode_error.DecodeError.{DecodeError}
 use Rattle.dns_message.specs.MessageAt.{message_at}
 use Rattle.dns_handle.specs.declared.io_kind.IoKind.{IoKind}
 use Rattle.dns_handle.specs.Errors as seen
-use Rattle.dns_mux.specs.declared.arrival.Arrival.{Arrival}
-use Rattle.dns_mux.specs.declared.arrival.Arrival.TheVariants.{Full, Queued, Stranger, Undecodable}
-use Rattle.dns_mux.specs.Draws.{CoreValue, IsSend, Plays}
-use Rattle.dns_mux.specs.Events.{TakenValue, Send, Arrive, Take, Cancel, Close, last_drawn}
-use Rattle.dns_mux.specs.Machine.{Settings, Request, State, after_arrival, cancelled, changed_at, closed, is_busy, is_taken_id, sent_under, with_item, without_first}
-use Rattle.dns_mux.specs.Messages.{answered_by}
-use Rattle.dns_mux.specs.Runs.{life_at, life_of}
-use Rattle.dns_mux.proofs.HistoryLemmas.{accepted-case}
-use Rattle.dns_mux.proofs.ListLemmas.{choose_here, choose_other, get-changed_at}
-use Rattle.dns_mux.proofs.MachineStepLemmas.{slice_get-append}
+use Rattle.dns_multiplexer.specs.declared.arrival.Arrival.{Arrival}
+use Rattle.dns_multiplexer.specs.declared.arrival.Arrival.TheVariants.{Full, Queued, Stranger, Undecodable}
+use Rattle.dns_multiplexer.specs.Draws.{CoreValue, IsSend, Plays}
+use Rattle.dns_multiplexer.specs.Events.{TakenValue, Send, Arrive, Take, Cancel, Close, last_drawn}
+use Rattle.dns_multiplexer.specs.Machine.{Settings, Request, State, after_arrival, cancelled, changed_at, closed, is_busy, is_taken_id, sent_under, with_item, without_first}
+use Rattle.dns_multiplexer.specs.Messages.{answered_by}
+use Rattle.dns_multiplexer.specs.Runs.{life_at, life_of}
+use Rattle.dns_multiplexer.proofs.HistoryLemmas.{accepted-case}
+use Rattle.dns_multiplexer.proofs.ListLemmas.{choose_here, choose_other, get-changed_at}
+use Rattle.dns_multiplexer.proofs.MachineStepLemmas.{slice_get-append}
 use Rattle.dns_exchange.specs.Exchanges.{NoneRevived}
 use Rattle.dns_exchange.specs.Steps.{IsGoingOn}
 

@@ -12,19 +12,19 @@ use Rattle.dns_handle.specs.declared.error.NetError.{NetError}
 use Rattle.dns_handle.specs.Errors as seen
 use Rattle.dns_handle.specs.Errors.{Reply}
 use Rattle.dns_handle.specs.Replies.{reply_of}
-use Rattle.dns_mux.specs.declared.arrival.Arrival.{Arrival}
-use Rattle.dns_mux.specs.declared.arrival.Arrival.TheVariants.{Full, Queued}
-use Rattle.dns_mux.specs.declared.taken.Taken.{Taken}
-use Rattle.dns_mux.specs.declared.taken.Taken.TheVariants as rust
-use Rattle.dns_mux.specs.Draws.{IsSend, Plays}
-use Rattle.dns_mux.specs.Events.{TakenValue, Item, Pending, Ended, Send, Arrive, Take, last_drawn}
-use Rattle.dns_mux.specs.Machine.{Settings, Request, State, after_arrival, arrival_reply, changed_at, has_id, has_room, is_busy, is_taken_id, lives_under, reply_at, sent_under, taken_from, waiting_of, with_item, without_first}
-use Rattle.dns_mux.specs.Messages.{SerialMessageValue, answered_by}
-use Rattle.dns_mux.specs.Runs.{life_of}
-use Rattle.dns_mux.specs.Views.{taken_of}
-use Rattle.dns_mux.proofs.HistoryLemmas.{accepted-case, untaken-id}
-use Rattle.dns_mux.proofs.ListLemmas.{choose_here, choose_other, get-changed_at, position_is}
-use Rattle.dns_mux.proofs.MachineStepLemmas.{found_at, slice_get-append, unfound}
+use Rattle.dns_multiplexer.specs.declared.arrival.Arrival.{Arrival}
+use Rattle.dns_multiplexer.specs.declared.arrival.Arrival.TheVariants.{Full, Queued}
+use Rattle.dns_multiplexer.specs.declared.taken.Taken.{Taken}
+use Rattle.dns_multiplexer.specs.declared.taken.Taken.TheVariants as rust
+use Rattle.dns_multiplexer.specs.Draws.{IsSend, Plays}
+use Rattle.dns_multiplexer.specs.Events.{TakenValue, Item, Pending, Ended, Send, Arrive, Take, last_drawn}
+use Rattle.dns_multiplexer.specs.Machine.{Settings, Request, State, after_arrival, arrival_reply, changed_at, has_id, has_room, is_busy, is_taken_id, lives_under, reply_at, sent_under, taken_from, waiting_of, with_item, without_first}
+use Rattle.dns_multiplexer.specs.Messages.{SerialMessageValue, answered_by}
+use Rattle.dns_multiplexer.specs.Runs.{life_of}
+use Rattle.dns_multiplexer.specs.Views.{taken_of}
+use Rattle.dns_multiplexer.proofs.HistoryLemmas.{accepted-case, untaken-id}
+use Rattle.dns_multiplexer.proofs.ListLemmas.{choose_here, choose_other, get-changed_at, position_is}
+use Rattle.dns_multiplexer.proofs.MachineStepLemmas.{found_at, slice_get-append, unfound}
 use Rattle.dns_exchange.specs.Exchanges.{answers, has_message_id}
 use Rattle.dns_exchange.specs.Steps.{IsOurs, Offered}
 use Rattle.dns_exchange.proofs.LiveLemmas.{life_kept}

@@ -9,7 +9,7 @@ use Rattle.dns_handle.specs.declared.error.NetError.{NetError}
 use Rattle.dns_handle.specs.declared.io_kind.IoKind.{IoKind}
 use Rattle.dns_link.specs.Counts.{CountsValue, with_got}
 use Rattle.dns_link.specs.Moved.{and_then}
-use Rattle.dns_mux.specs.Messages.{SerialMessageValue}
+use Rattle.dns_multiplexer.specs.Messages.{SerialMessageValue}
 use Rattle.dns_transport.specs.declared.feed.Feed.{Feed}
 use Rattle.dns_transport.specs.declared.feed.Feed.TheVariants.{More, Message}
 use Rattle.dns_transport.specs.Feeding.{Feeds, NoRoom, HadFailed, Read, IsFramed, after_feed, after_feed_reply, end_reply, feed_reply, message_reply, part_after, unused}

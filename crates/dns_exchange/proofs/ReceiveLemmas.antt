@@ -12,7 +12,7 @@ use Rattle.dns_handle.specs.Errors.{Reply}
 use Rattle.dns_handle.specs.Replies.{error_of}
 use Rattle.dns_handle.specs.declared.io_kind.IoKind.TheVariants.{UnexpectedEof}
 use Rattle.dns_link.specs.Moved.{and_then}
-use Rattle.dns_mux.specs.Messages.{answered_by}
+use Rattle.dns_multiplexer.specs.Messages.{answered_by}
 use Rattle.dns_transport.specs.declared.feed.Feed.{Feed}
 use Rattle.dns_transport.specs.declared.feed.Feed.TheVariants.{Closed}
 use Rattle.dns_transport.specs.Frames.{HasFrame, frame, frames}

@@ -1,7 +1,7 @@
 -- What a link gave and took, and what has changed of a stream, from one moment to a later one.
 use Rattle.std.proofs.Common.{◌≡◌, ℕ, List, [], ◌++◌, Option, None, Some, refl, sym, ap, ◌∙◌, append_assoc, append-nil}
 use Rattle.dns_link.specs.Moved.{and_then}
-use Rattle.dns_mux.specs.Messages.{SerialMessageValue}
+use Rattle.dns_multiplexer.specs.Messages.{SerialMessageValue}
 use Rattle.dns_transport.specs.Streams.{StreamValue}
 
 pub and_then-none : (told : Option (List ℕ)) → told ≡ and_then told []

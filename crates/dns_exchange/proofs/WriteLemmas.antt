@@ -10,10 +10,10 @@ use Rattle.dns_handle.specs.declared.io_kind.IoKind.TheVariants.{Other}
 use Rattle.dns_handle.specs.declared.notice.Notice.TheVariants.{SendQueueFull}
 use Rattle.dns_link.specs.Counts.{after_write}
 use Rattle.dns_link.specs.Moved.{and_then}
-use Rattle.dns_mux.specs.Draws.{CoreValue, IsPop}
-use Rattle.dns_mux.specs.Machine.{Settings, State}
-use Rattle.dns_mux.specs.Messages.{SerialMessageValue}
-use Rattle.dns_mux.specs.Queues.{IsPut, addressed}
+use Rattle.dns_multiplexer.specs.Draws.{CoreValue, IsPop}
+use Rattle.dns_multiplexer.specs.Machine.{Settings, State}
+use Rattle.dns_multiplexer.specs.Messages.{SerialMessageValue}
+use Rattle.dns_multiplexer.specs.Queues.{IsPut, addressed}
 use Rattle.dns_transport.specs.Causes.{IsWritten, pending}
 use Rattle.dns_transport.specs.Draining.{Drains, NoRoom, HadFailed, Idle, Refused, Written, IsLoaded, Begun, Next, after_drain, drain_reply, is_drained, is_nil, sent}
 use Rattle.dns_transport.specs.Frames.{frame}

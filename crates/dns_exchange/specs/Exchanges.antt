@@ -9,11 +9,11 @@ use Rattle.dns_handle.specs.declared.io_kind.IoKind.TheVariants.{UnexpectedEof}
 use Rattle.dns_handle.specs.Errors.{ErrorValue, Io, NoConnections, NoMemory, Reply, Timeout}
 use Rattle.dns_handle.specs.Replies.{error_of}
 use Rattle.dns_handle.specs.Requests.{RequestValue, first_question}
-use Rattle.dns_mux.specs.Draws.{CoreValue, Drawn, IsSend, request_bytes}
-use Rattle.dns_mux.specs.Events.{last_drawn}
-use Rattle.dns_mux.specs.Machine.{State}
-use Rattle.dns_mux.specs.Messages.{SerialMessageValue, answered_by}
-use Rattle.dns_mux.specs.Runs.{life_at}
+use Rattle.dns_multiplexer.specs.Draws.{CoreValue, Drawn, IsSend, request_bytes}
+use Rattle.dns_multiplexer.specs.Events.{last_drawn}
+use Rattle.dns_multiplexer.specs.Machine.{State}
+use Rattle.dns_multiplexer.specs.Messages.{SerialMessageValue, answered_by}
+use Rattle.dns_multiplexer.specs.Runs.{life_at}
 use Rattle.dns_transport.specs.declared.feed.Feed.TheVariants.{Closed}
 use Rattle.dns_transport.specs.Links.{LinkView}
 use Rattle.dns_transport.specs.Streams.{StreamValue}

@@ -2,7 +2,7 @@
 use Rattle.std.specs.Prelude.{ℕ}
 use Rattle.dns_transport.specs.StreamViews.{link_of, state_of}
 use Rattle.dns_exchange.specs.declared.tcp_exchange.TcpExchange.{TcpExchange}
-use Rattle.dns_mux.specs.Multiplexers.{machine_of, draws_of}
+use Rattle.dns_multiplexer.specs.Multiplexers.{machine_of, draws_of}
 use Rattle.dns_exchange.specs.Exchanges.{Parts}
 
 abbrev pub parts_of : {L R : Type 0} → TcpExchange L R → Parts L R

@@ -8,10 +8,10 @@ use Rattle.dns_handle.specs.declared.error.NetError.TheVariants as errors
 use Rattle.dns_handle.specs.Errors.{Reply}
 use Rattle.dns_handle.specs.Replies.{reply_of}
 use Rattle.dns_link.specs.Moved.{and_then}
-use Rattle.dns_mux.specs.Draws.{CoreValue}
-use Rattle.dns_mux.specs.Machine.{Request, lives_under, sent_under}
-use Rattle.dns_mux.specs.Messages.{SerialMessageValue, answered_by}
-use Rattle.dns_mux.specs.Runs.{life_of}
+use Rattle.dns_multiplexer.specs.Draws.{CoreValue}
+use Rattle.dns_multiplexer.specs.Machine.{Request, lives_under, sent_under}
+use Rattle.dns_multiplexer.specs.Messages.{SerialMessageValue, answered_by}
+use Rattle.dns_multiplexer.specs.Runs.{life_of}
 use Rattle.dns_model.specs.SoundAnswers.{ResponseValue}
 use Rattle.dns_transport.specs.declared.feed.Feed.TheVariants.{Closed}
 use Rattle.dns_transport.specs.Links.{LinkView}

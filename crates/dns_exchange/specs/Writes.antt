@@ -3,7 +3,7 @@ use Rattle.std.specs.Prelude.{ℕ, ◌≡◌, false, List, [], ◌∷◌, ◌++�
 use Rattle.std.specs.declared.net.socket_addr.SocketAddr.{SocketAddr}
 use Rattle.dns_handle.specs.declared.error.NetError.{NetError}
 use Rattle.dns_link.specs.Moved.{and_then}
-use Rattle.dns_mux.specs.Messages.{SerialMessageValue}
+use Rattle.dns_multiplexer.specs.Messages.{SerialMessageValue}
 use Rattle.dns_transport.specs.Causes.{pending}
 use Rattle.dns_transport.specs.Draining.{Drains}
 use Rattle.dns_transport.specs.Frames.{frames}

@@ -2,7 +2,7 @@ ghost use Rattle.std.specs.Prelude.{◌≡◌};
 ghost use Rattle.dns_handle.specs.Replies.{reply_of};
 ghost use Rattle.dns_transport.specs.Links.{link_view};
 ghost use Rattle.dns_transport.specs.StreamViews.{link_of, state_of};
-ghost use Rattle.dns_mux.specs.Multiplexers.{machine_of, draws_of};
+ghost use Rattle.dns_multiplexer.specs.Multiplexers.{machine_of, draws_of};
 ghost use Rattle.dns_exchange.specs.Steps.{Carries, IsGoingOn, Receives};
 ghost use Rattle.dns_exchange.specs.Exchanges.{Exchanged, NoneRevived};
 
@@ -11,7 +11,7 @@ use crate::offering::offer;
 use crate::writing::write_out;
 use dns_handle::{DnsRequest, DnsResponse, IoKind, NetError};
 use dns_link::Link;
-use dns_mux::{DnsMultiplexer, DnsRequestSender, Draws, RequestId};
+use dns_multiplexer::{DnsMultiplexer, DnsRequestSender, Draws, RequestId};
 use dns_transport::TcpStream;
 use std::alloc::Global;
 

@@ -1,9 +1,9 @@
 ghost use Rattle.std.specs.Prelude.{◌≡◌, ◌<◌, ◌^◌, IfOk, OnErr, length};
-ghost use Rattle.dns_mux.specs.Multiplexers.{machine_of, draws_of};
+ghost use Rattle.dns_multiplexer.specs.Multiplexers.{machine_of, draws_of};
 ghost use Rattle.dns_exchange.specs.Steps.{IsGoingOn, Offers};
 
 use dns_handle::{DnsResponse, NetError};
-use dns_mux::{DnsMultiplexer, DnsRequestSender, Draws, RequestId, Taken};
+use dns_multiplexer::{DnsMultiplexer, DnsRequestSender, Draws, RequestId, Taken};
 use dns_name::NoMemory;
 use std::alloc::Global;
 

@@ -8,7 +8,7 @@ ghost use Rattle.dns_exchange.specs.Making.{maximum_of, new_parts};
 use crate::carrying::exchange;
 use dns_handle::{DnsHandle, DnsRequest, DnsResponse, NetError, faults_after};
 use dns_link::{Dialer, Link};
-use dns_mux::{BufDnsStreamHandle, DnsMultiplexer, Draws};
+use dns_multiplexer::{BufDnsStreamHandle, DnsMultiplexer, Draws};
 use dns_transport::TcpStream;
 use std::alloc::Global;
 use std::net::SocketAddr;

@@ -1,5 +1,5 @@
 ghost use Rattle.std.specs.Prelude.{◌≡◌};
-ghost use Rattle.dns_mux.specs.Multiplexers.{machine_of, draws_of};
+ghost use Rattle.dns_multiplexer.specs.Multiplexers.{machine_of, draws_of};
 ghost use Rattle.dns_transport.specs.Links.{link_view};
 ghost use Rattle.dns_transport.specs.StreamViews.{link_of, state_of};
 ghost use Rattle.dns_exchange.specs.Steps.{DrainsAll, IsPopped, WritesMessage, WritesOut};
@@ -7,7 +7,7 @@ ghost use Rattle.dns_exchange.specs.Writes.{IsIdle};
 
 use dns_handle::NetError;
 use dns_link::Link;
-use dns_mux::{BufDnsStreamHandle, DnsMultiplexer, Draws, SerialMessage};
+use dns_multiplexer::{BufDnsStreamHandle, DnsMultiplexer, Draws, SerialMessage};
 use dns_transport::TcpStream;
 use std::alloc::Global;
 

@@ -5,7 +5,7 @@ use crate::stream_parts::{pieces_of, stream_over};
 use dns_exchange::TcpExchange;
 use dns_handle::IoKind;
 use dns_link::PairLink;
-use dns_mux::ListDraws;
+use dns_multiplexer::ListDraws;
 use std::alloc::Global;
 use std::process::Abort;
 

@@ -5,7 +5,7 @@ use crate::stream_heard::{read_next, write_all};
 use crate::stream_parts::put;
 use dns_exchange::TcpExchange;
 use dns_link::{Link, SocketDialer, SocketLink};
-use dns_mux::RandDraws;
+use dns_multiplexer::RandDraws;
 use dns_transport::TcpStream;
 use std::alloc::Global;
 use std::net::{Net, SocketAddr, TcpListener};

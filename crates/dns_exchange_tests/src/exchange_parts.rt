@@ -3,7 +3,7 @@ use crate::parts::{query, response_bytes};
 use dns_exchange::TcpExchange;
 use dns_handle::DnsHandle;
 use dns_link::Link;
-use dns_mux::Draws;
+use dns_multiplexer::Draws;
 use std::alloc::Global;
 use std::process::Abort;
 

@@ -7,7 +7,7 @@ use crate::stream_heard::{heard_drain, heard_feed, read_next, write_all};
 use crate::stream_parts::{behind, message_of, pieces_of, put};
 use dns_handle::IoKind;
 use dns_link::{ListDialer, PairLink};
-use dns_mux::BufDnsStreamHandle;
+use dns_multiplexer::BufDnsStreamHandle;
 use dns_transport::{TcpClientStream, TcpStream};
 use std::alloc::Global;
 use std::process::Abort;

@@ -3,7 +3,7 @@ ghost use Rattle.std.specs.Prelude.{◌≡◌, true};
 
 use dns_handle::{DnsRequest, DnsRequestOptions};
 use dns_message::Message;
-use dns_mux::ListDraws;
+use dns_multiplexer::ListDraws;
 use std::alloc::Global;
 use std::net::{IpAddr, Ipv4Addr, SocketAddr};
 use std::process::Abort;

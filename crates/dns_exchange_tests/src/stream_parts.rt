@@ -3,7 +3,7 @@ ghost use Rattle.std.specs.Prelude.{◌≢◌, [], All};
 use crate::heard::{Heard, heard_made};
 use crate::parts::{check, server};
 use dns_link::{Link, PairLink};
-use dns_mux::{BufDnsStreamHandle, SerialMessage};
+use dns_multiplexer::{BufDnsStreamHandle, SerialMessage};
 use dns_name::Octets;
 use dns_transport::TcpStream;
 use std::alloc::Global;

@@ -5,7 +5,7 @@ use crate::stream_heard::{drain, feed, write_all};
 use crate::stream_parts::{link_of, put, put_by, put_to, stream_over};
 use dns_handle::IoKind;
 use dns_link::PairLink;
-use dns_mux::BufDnsStreamHandle;
+use dns_multiplexer::BufDnsStreamHandle;
 use dns_transport::TcpStream;
 use std::alloc::Global;
 use std::net::{IpAddr, Ipv4Addr, SocketAddr};

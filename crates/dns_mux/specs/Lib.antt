@@ -1,11 +1,4 @@
-pub mod Draws
-pub mod Events
-pub mod History
-pub mod Laws
-pub mod Machine
-pub mod Messages
-pub mod Multiplexers
-pub mod Queues
-pub mod Runs
-pub mod Tables
-pub mod Views
+pub mod FirstAnswers
+pub mod Receivers
+pub mod RequestQueues
+pub mod Streams

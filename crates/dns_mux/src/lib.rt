@@ -1,31 +1,19 @@
-//! The multiplexer: many requests over one connection, each response to its own (RFC 1035, 4.2; RFC 7766, 6.2.1). The layer
-//! above may use `DnsMultiplexer` as the machine of `specs/Machine.antt`, and of each history what `specs/History.antt` says. It
-//! gives the names of `dns_requests` again: requests that wait, and what comes for them.
+//! Requests and their responses on the way between a caller and what sends for it: a queue of requests, and polled states over
+//! `futures` for what comes back. The layer above may use each as the list of `specs/` that it is. A caller finds the names of
+//! `dns_multiplexer` here too, so all of the subject.
 #![tactic(auto)]
 
-mod arrival;
-mod draws;
-mod item_queue;
-mod laws;
-mod multiplexer;
-mod multiplexer_core;
-mod request_id;
-mod request_table;
-mod sender;
-mod serial_message;
-mod stream_handle;
-mod taken;
+mod first_answer;
+mod request_queue;
+mod response_receiver;
+mod response_stream;
 
-pub use arrival::Arrival;
-pub use dns_requests::{
-    BufDnsRequestStreamHandle, DnsResponseReceiver, DnsResponseStream, FirstAnswer,
-    FirstAnswerFuture, OneshotDnsRequest,
+pub use dns_multiplexer::{
+    Arrival, BufDnsStreamHandle, DnsMultiplexer, DnsRequestSender, DnsStreamHandle, Draws,
+    ListDraws, RandDraws, RequestId, SerialMessage, StreamReceiver, Taken, calls_are_events,
+    replies_are_what_histories_say, states_are_what_histories_say,
 };
-pub use draws::{Draws, ListDraws, RandDraws};
-pub use laws::{calls_are_events, replies_are_what_histories_say, states_are_what_histories_say};
-pub use multiplexer::DnsMultiplexer;
-pub use request_id::RequestId;
-pub use sender::DnsRequestSender;
-pub use serial_message::SerialMessage;
-pub use stream_handle::{BufDnsStreamHandle, DnsStreamHandle, StreamReceiver};
-pub use taken::Taken;
+pub use first_answer::{FirstAnswer, FirstAnswerFuture};
+pub use request_queue::{BufDnsRequestStreamHandle, OneshotDnsRequest};
+pub use response_receiver::DnsResponseReceiver;
+pub use response_stream::DnsResponseStream;

@@ -1,5 +1,5 @@
 //! Tests of the multiplexer, of its queue and of its draws; of requests that wait, of what is polled for them, of sends that are
-//! made again, and of replies by turn: by what `dns_mux`, `dns_requests`, `dns_retry` and `dns_recorded` give.
+//! made again, and of replies by turn: by what `dns_mux`, `dns_retry` and `dns_recorded` give.
 //!
 //! They stand apart, since a crate with tests of its own is proved twice.
 #![tactic(auto)]

@@ -1,6 +1,6 @@
 use crate::parts::{check, query};
 use dns_handle::NetError;
-use dns_requests::{BufDnsRequestStreamHandle, DnsResponseReceiver, OneshotDnsRequest};
+use dns_mux::{BufDnsRequestStreamHandle, DnsResponseReceiver, OneshotDnsRequest};
 use std::alloc::Global;
 
 /// What a queue tells whoever sends a request.

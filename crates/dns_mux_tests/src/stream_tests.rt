@@ -1,7 +1,7 @@
 use crate::replies::{Said, reply, said_by};
 use crate::waiting::{Waiting, check_waiting, said_in};
 use dns_handle::{DnsResponse, NetError};
-use dns_requests::{DnsResponseReceiver, DnsResponseStream, FirstAnswer};
+use dns_mux::{DnsResponseReceiver, DnsResponseStream, FirstAnswer};
 use futures::task::Poll;
 use futures::test::MockTask;
 use futures::{Future, Stream};

@@ -16,7 +16,7 @@ use dns_exchange::TcpExchange;
 use dns_handle::DnsHandle;
 use dns_io::{Sink, Source};
 use dns_link::{Clock, Dialer, Link};
-use dns_mux::RandDraws;
+use dns_multiplexer::RandDraws;
 use dns_udp::UdpExchange;
 use std::alloc::Global;
 

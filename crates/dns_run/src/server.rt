@@ -19,7 +19,7 @@ use dns_handle::{DnsHandle, DnsResponse, NetError, Protocol};
 use dns_io::status::{self, read_status, refuse_long, write_text};
 use dns_io::{ReadStop, Sink, Source, read_all};
 use dns_link::{Clock, Dialer, Link};
-use dns_mux::RandDraws;
+use dns_multiplexer::RandDraws;
 use dns_name::NoMemory;
 use dns_report::{Parts, write_fault, write_report};
 use dns_session::{Session, SessionStop, bad_line_text, read_session};

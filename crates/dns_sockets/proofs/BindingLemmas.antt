@@ -5,7 +5,7 @@ use Rattle.std.specs.Net.Socket.{socket_ip, socket_port}
 use Rattle.dns_handle.specs.declared.io_kind.IoKind.{IoKind}
 use Rattle.dns_link.specs.Counts.{CountsValue, with_fault}
 use Rattle.dns_link.specs.Moved.{DatagramValue, IsNew}
-use Rattle.dns_mux.specs.Draws.{Drawn}
+use Rattle.dns_multiplexer.specs.Draws.{Drawn}
 use Rattle.dns_datagrams.specs.Ports.{IsNextPort, is_avoided}
 use Rattle.dns_sockets.specs.Met.{DialerView, Meets}
 use Rattle.dns_sockets.specs.Bindings.{AreTried, BindingValue, DrawsPorts, IsMadeAfter, IsNextLocalBy, all_refused, draws_ports, is_tried_again, only_faults}

@@ -6,7 +6,7 @@ use Rattle.dns_handle.specs.Conversions.{outside_failed}
 use Rattle.dns_handle.specs.declared.error.NetError.{NetError}
 use Rattle.dns_link.specs.Counts.{CountsValue, after_receive}
 use Rattle.dns_link.specs.Moved.{DatagramValue, and_then, received_by}
-use Rattle.dns_mux.specs.Messages.{SerialMessageValue}
+use Rattle.dns_multiplexer.specs.Messages.{SerialMessageValue}
 use Rattle.dns_sockets.specs.Streams.{AreSentOnce, HasCome, IsSentOnce}
 
 -- the first message that waits is sent, and then the others

@@ -8,7 +8,7 @@ use Rattle.dns_handle.specs.declared.io_kind.IoKind.{IoKind}
 use Rattle.dns_handle.specs.declared.io_kind.IoKind.TheVariants.{PermissionDenied, AddrInUse}
 use Rattle.dns_link.specs.Counts.{CountsValue}
 use Rattle.dns_link.specs.Moved.{DatagramValue, IsNew}
-use Rattle.dns_mux.specs.Draws.{Drawn}
+use Rattle.dns_multiplexer.specs.Draws.{Drawn}
 use Rattle.dns_datagrams.specs.Ports.{IsNextPort, is_avoided}
 use Rattle.dns_sockets.specs.Met.{DialerView, Meets}
 

@@ -1,6 +1,6 @@
 -- What contracts see of a datagram stream.
 use Rattle.std.specs.Prelude.{List}
-use Rattle.dns_mux.specs.Messages.{SerialMessageValue}
+use Rattle.dns_multiplexer.specs.Messages.{SerialMessageValue}
 use Rattle.dns_sockets.specs.declared.udp_stream.UdpStream.{UdpStream}
 
 -- the socket that carries it

@@ -7,8 +7,8 @@ use Rattle.dns_handle.specs.Conversions.{outside_failed}
 use Rattle.dns_handle.specs.declared.error.NetError.{NetError}
 use Rattle.dns_link.specs.Counts.{CountsValue, after_send, with_fault, with_got, with_quiet}
 use Rattle.dns_link.specs.Moved.{DatagramValue, and_then}
-use Rattle.dns_mux.specs.Messages.{SerialMessageValue}
-use Rattle.dns_mux.specs.Queues.{StreamHandleValue}
+use Rattle.dns_multiplexer.specs.Messages.{SerialMessageValue}
+use Rattle.dns_multiplexer.specs.Queues.{StreamHandleValue}
 use Rattle.dns_sockets.specs.Bindings.{BindingValue, IsBound, IsBoundAt}
 use Rattle.dns_sockets.specs.Met.{DialerView}
 use Rattle.dns_sockets.specs.StreamViews.{socket_of, queue_of}

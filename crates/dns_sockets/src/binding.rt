@@ -6,7 +6,7 @@ ghost use Rattle.dns_sockets.specs.Met.{dialer_view};
 use dns_datagrams::next_port;
 use dns_handle::IoKind;
 use dns_link::Dialer;
-use dns_mux::Draws;
+use dns_multiplexer::Draws;
 use std::collections::BTreeSet;
 use std::marker::Model;
 use std::net::{IpAddr, Ipv4Addr, Ipv6Addr, SocketAddr};

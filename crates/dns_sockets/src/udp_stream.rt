@@ -1,6 +1,6 @@
 ghost use Rattle.std.specs.Prelude.{◌≡◌, ◌≢◌, ◌≤◌, ◌⊎◌, Err, [], IfErr, IfOk, IfSome, length, replicate};
 ghost use Rattle.dns_handle.specs.declared.error.NetError.TheVariants as errors;
-ghost use Rattle.dns_mux.specs.Queues.{IsPut};
+ghost use Rattle.dns_multiplexer.specs.Queues.{IsPut};
 ghost use Rattle.dns_sockets.specs.Bindings.{DrawsPorts};
 ghost use Rattle.dns_sockets.specs.Met.{dialer_view};
 ghost use Rattle.dns_sockets.specs.StreamViews.{queue_of, socket_of};
@@ -9,7 +9,7 @@ ghost use Rattle.dns_sockets.specs.Streams.{AreSentOnce, HasCome, HasReceived, I
 use crate::binding::{Binding, any_address};
 use dns_handle::NetError;
 use dns_link::{Datagrams, Dialer};
-use dns_mux::{BufDnsStreamHandle, DnsStreamHandle, Draws, SerialMessage, StreamReceiver};
+use dns_multiplexer::{BufDnsStreamHandle, DnsStreamHandle, Draws, SerialMessage, StreamReceiver};
 use dns_name::{NoMemory, Octets};
 use std::alloc::Global;
 use std::collections::BTreeSet;

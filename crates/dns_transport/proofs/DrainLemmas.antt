@@ -10,7 +10,7 @@ use Rattle.dns_handle.specs.declared.io_kind.IoKind.{IoKind}
 use Rattle.dns_handle.specs.declared.io_kind.IoKind.TheVariants.{InvalidData, NotConnected, Other, RequestTooLong, TimedOut}
 use Rattle.dns_link.specs.Counts.{CountsValue, after_write, with_end, with_fault}
 use Rattle.dns_link.specs.Moved.{moved_by}
-use Rattle.dns_mux.specs.Messages.{SerialMessageValue}
+use Rattle.dns_multiplexer.specs.Messages.{SerialMessageValue}
 use Rattle.dns_transport.specs.Causes.{DrainAnswer, DrainCause, IsMisaddressed, IsOverlong, IsWritten, pending}
 use Rattle.dns_transport.specs.Draining.{Drains, NoRoom, HadFailed, Idle, Refused, Written, IsLoaded, Begun, Next, IsRefused, Misaddressed, TooLong, after_drain, drain_reply, is_drained, is_nil, sent}
 use Rattle.dns_transport.specs.Frames.{frame, frames}

@@ -2,7 +2,7 @@
 use Rattle.std.proofs.Common.{◌≡◌, ℕ, ◌≤◌, false, true, Bool, List, [], ◌∷◌, drop, length, slice_get, None, Some, Result, Ok, Err, refl, ap, ◌∙◌, inl, inr}
 use Rattle.dns_handle.specs.declared.error.NetError.{NetError}
 use Rattle.dns_handle.specs.declared.io_kind.IoKind.{IoKind}
-use Rattle.dns_mux.specs.Messages.{SerialMessageValue}
+use Rattle.dns_multiplexer.specs.Messages.{SerialMessageValue}
 use Rattle.dns_transport.specs.declared.feed.Feed.{Feed}
 use Rattle.dns_transport.specs.Draining.{Drains, NoRoom, Idle, Refused, Written, IsLoaded, Next, IsRefused, Misaddressed, TooLong, drain_reply, sent}
 use Rattle.dns_transport.specs.Feeding as feeding

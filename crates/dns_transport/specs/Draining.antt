@@ -5,7 +5,7 @@ use Rattle.dns_handle.specs.declared.error.NetError.{NetError}
 use Rattle.dns_handle.specs.declared.error.NetError.TheVariants.{Io, NoMemory}
 use Rattle.dns_handle.specs.declared.io_kind.IoKind.{IoKind}
 use Rattle.dns_handle.specs.declared.io_kind.IoKind.TheVariants.{InvalidData, NotConnected, Other, RequestTooLong}
-use Rattle.dns_mux.specs.Messages.{SerialMessageValue}
+use Rattle.dns_multiplexer.specs.Messages.{SerialMessageValue}
 use Rattle.dns_transport.specs.Frames.{frame, most_framed}
 use Rattle.dns_transport.specs.Links.{LinkView, WritesOnce}
 use Rattle.dns_transport.specs.Streams.{StreamValue, after_reply, with_fault}

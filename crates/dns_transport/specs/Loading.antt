@@ -5,7 +5,7 @@ use Rattle.dns_handle.specs.declared.error.NetError.{NetError}
 use Rattle.dns_handle.specs.declared.error.NetError.TheVariants.{Io, NoMemory}
 use Rattle.dns_handle.specs.declared.io_kind.IoKind.{IoKind}
 use Rattle.dns_handle.specs.declared.io_kind.IoKind.TheVariants.{InvalidData, RequestTooLong}
-use Rattle.dns_mux.specs.Messages.{SerialMessageValue}
+use Rattle.dns_multiplexer.specs.Messages.{SerialMessageValue}
 use Rattle.dns_transport.specs.declared.feed.Feed.{Feed}
 use Rattle.dns_transport.specs.Draining.{IsLoaded, IsRefused, drain_reply, sent}
 use Rattle.dns_transport.specs.Feeding.{feed_reply, part_after}

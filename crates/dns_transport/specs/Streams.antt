@@ -4,7 +4,7 @@ use Rattle.std.specs.declared.net.socket_addr.SocketAddr.{SocketAddr}
 use Rattle.dns_model.specs.Counts.{one_more}
 use Rattle.dns_handle.specs.declared.error.NetError.{NetError}
 use Rattle.dns_handle.specs.declared.error.NetError.TheVariants.{NoMemory}
-use Rattle.dns_mux.specs.Messages.{SerialMessageValue}
+use Rattle.dns_multiplexer.specs.Messages.{SerialMessageValue}
 
 pub record StreamValue : Type 0 where
   -- the other side

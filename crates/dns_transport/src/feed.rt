@@ -1,4 +1,4 @@
-use dns_mux::SerialMessage;
+use dns_multiplexer::SerialMessage;
 
 /// What one read brought.
 #[derive(Drop)]

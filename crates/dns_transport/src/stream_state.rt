@@ -1,5 +1,5 @@
 ghost use Rattle.std.specs.Prelude.{◌≡◌, ◌↔◌, ◌≢◌, ◌<◌, ◌≤◌, ◌++◌, [], false, IsTrue, OnOk, length, nat_le};
-ghost use Rattle.dns_mux.specs.Queues.{IsPut};
+ghost use Rattle.dns_multiplexer.specs.Queues.{IsPut};
 ghost use Rattle.dns_transport.specs.Draining.{Drains, drain_reply, is_drained, sent};
 ghost use Rattle.dns_transport.specs.Feeding.{Feeds, GivesFrame, IsFramed, after_feed_reply, frame_given, frame_reply, message_reply, unused};
 ghost use Rattle.dns_transport.specs.Frames.{lacking};
@@ -12,7 +12,7 @@ use crate::frame_reader::FrameReader;
 use crate::frame_writer::FrameWriter;
 use dns_handle::{IoKind, NetError};
 use dns_link::Link;
-use dns_mux::{BufDnsStreamHandle, DnsStreamHandle, SerialMessage, StreamReceiver};
+use dns_multiplexer::{BufDnsStreamHandle, DnsStreamHandle, SerialMessage, StreamReceiver};
 use dns_name::Octets;
 use std::alloc::Global;
 use std::marker::Model;

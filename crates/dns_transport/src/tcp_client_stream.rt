@@ -1,7 +1,7 @@
 ghost use Rattle.std.specs.Prelude.{◌≡◌, ◌≢◌, ◌<◌, ◌≤◌, [], false, IfOk, OnOk, length, nat_le};
 ghost use Rattle.std.specs.declared.net.socket_addr.SocketAddr.{SocketAddr};
 ghost use Rattle.dns_link.specs.Moved.{IsNew};
-ghost use Rattle.dns_mux.specs.Queues.{IsPut};
+ghost use Rattle.dns_multiplexer.specs.Queues.{IsPut};
 ghost use Rattle.dns_transport.specs.Causes.{DrainAnswer, FeedAnswer, IsWritten};
 ghost use Rattle.dns_transport.specs.Dialing.{IsDialed};
 ghost use Rattle.dns_transport.specs.Draining.{Drains};
@@ -13,7 +13,7 @@ ghost use Rattle.dns_transport.specs.Streams.{new_stream};
 use crate::{Feed, TcpStream};
 use dns_handle::NetError;
 use dns_link::{Dialer, Link};
-use dns_mux::{BufDnsStreamHandle, SerialMessage};
+use dns_multiplexer::{BufDnsStreamHandle, SerialMessage};
 use std::alloc::Global;
 use std::net::SocketAddr;
 

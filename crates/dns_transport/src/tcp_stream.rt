@@ -1,6 +1,6 @@
 ghost use Rattle.std.specs.Prelude.{◌≡◌, ◌≢◌, ◌<◌, ◌≤◌, [], false, IfOk, OnOk, length, nat_le};
 ghost use Rattle.dns_link.specs.Moved.{IsNew};
-ghost use Rattle.dns_mux.specs.Queues.{IsPut};
+ghost use Rattle.dns_multiplexer.specs.Queues.{IsPut};
 ghost use Rattle.dns_transport.specs.Causes.{DrainAnswer, FeedAnswer, IsWritten};
 ghost use Rattle.dns_transport.specs.Dialing.{IsDialed};
 ghost use Rattle.dns_transport.specs.Draining.{Drains};
@@ -13,7 +13,7 @@ use crate::Feed;
 use crate::stream_state::StreamState;
 use dns_handle::NetError;
 use dns_link::{Dialer, Link};
-use dns_mux::{BufDnsStreamHandle, SerialMessage, StreamReceiver};
+use dns_multiplexer::{BufDnsStreamHandle, SerialMessage, StreamReceiver};
 use std::alloc::Global;
 use std::net::SocketAddr;
 

@@ -3,7 +3,7 @@
 use crate::entries::{keys_of, plain_entry, value_in};
 use crate::plain_cache::Plain;
 use dns_cache::{CacheKey, ListCache, LruValidationCache, ValidationCache};
-use dns_mux::{Draws, RandDraws};
+use dns_multiplexer::{Draws, RandDraws};
 use dns_name::NoMemory;
 use std::alloc::Global;
 

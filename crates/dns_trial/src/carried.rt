@@ -5,7 +5,7 @@ use crate::form::Work;
 use crate::measured::server;
 use dns_handle::NetError;
 use dns_link::{Link, PairLink};
-use dns_mux::{BufDnsStreamHandle, SerialMessage};
+use dns_multiplexer::{BufDnsStreamHandle, SerialMessage};
 use dns_name::{NoMemory, Octets};
 use dns_transport::{Feed, TcpStream};
 use std::alloc::Global;

@@ -3,7 +3,7 @@
 use crate::few_ids::FewIds;
 use crate::measured::{answer, multiplexer, response};
 use crate::plain_mux::{Event, MAXIMUM, Plain};
-use dns_mux::{DnsMultiplexer, Draws, RandDraws};
+use dns_multiplexer::{DnsMultiplexer, Draws, RandDraws};
 use dns_name::NoMemory;
 use std::alloc::Global;
 

@@ -1,4 +1,4 @@
-use dns_mux::{Draws, RandDraws};
+use dns_multiplexer::{Draws, RandDraws};
 
 /// Draws ids from 0 up to the greatest alone. Where that is 3, live ids are often drawn.
 #[derive(Drop)]

@@ -4,7 +4,7 @@ use crate::few_ids::FewIds;
 use crate::plain_mux::{Answer, Event, SIZE, TIMEOUT};
 use dns_handle::{DnsRequest, DnsRequestOptions, IoKind, NetError, Notice};
 use dns_message::Message;
-use dns_mux::{
+use dns_multiplexer::{
     BufDnsStreamHandle, DnsMultiplexer, DnsRequestSender, RequestId, SerialMessage, Taken,
 };
 use dns_name::NoMemory;

@@ -5,7 +5,7 @@ use crate::form::{Form, Work};
 use crate::measured::{multiplexer, popped, response, send, set_front, taken};
 use crate::plain_mux::Answer;
 use dns_message::Message;
-use dns_mux::{Arrival, DnsMultiplexer, DnsRequestSender, RequestId};
+use dns_multiplexer::{Arrival, DnsMultiplexer, DnsRequestSender, RequestId};
 use dns_name::NoMemory;
 use std::alloc::Global;
 

@@ -2,7 +2,7 @@
 ghost use Rattle.std.specs.Prelude.{◌<◌, length, IfSome};
 
 use crate::few_ids::FewIds;
-use dns_mux::{Arrival, Draws, RequestId};
+use dns_multiplexer::{Arrival, Draws, RequestId};
 use dns_name::NoMemory;
 use std::alloc::Global;
 

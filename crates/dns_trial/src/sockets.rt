@@ -5,7 +5,7 @@ use crate::server::{FRAME, serve};
 use dns_exchange::TcpExchange;
 use dns_handle::{DnsHandle, NetError};
 use dns_link::{Link, SocketDialer};
-use dns_mux::{Draws, RandDraws};
+use dns_multiplexer::{Draws, RandDraws};
 use std::alloc::Global;
 use std::io::{Read, Write};
 use std::net::{SocketAddr, TcpListener, TcpStream};

@@ -9,7 +9,7 @@ use Rattle.dns_handle.specs.declared.error.ProtoError.TheVariants.{Decode, TooLo
 use Rattle.dns_handle.specs.declared.notice.Notice.TheVariants.{NotAllBytesSent}
 use Rattle.dns_link.specs.Counts.{CountsValue}
 use Rattle.dns_link.specs.Moved.{DatagramValue}
-use Rattle.dns_mux.specs.Draws.{Drawn}
+use Rattle.dns_multiplexer.specs.Draws.{Drawn}
 use Rattle.dns_datagrams.specs.declared.acceptance.Accepted.{Accepted}
 use Rattle.dns_datagrams.specs.declared.acceptance.Accepted.TheVariants.{Undecodable, CaseMismatch, Answer}
 use Rattle.dns_sockets.specs.Met.{DialerView, HasMet}

@@ -5,7 +5,7 @@ use Rattle.dns_model.specs.Records.{EdnsValue, MessageValue, Question, question_
 use Rattle.dns_model.specs.SoundAnswers.{ResponseValue}
 use Rattle.dns_handle.specs.Requests.{RequestValue}
 use Rattle.dns_link.specs.Moved.{DatagramValue}
-use Rattle.dns_mux.specs.Messages.{plain_response}
+use Rattle.dns_multiplexer.specs.Messages.{plain_response}
 use Rattle.dns_datagrams.specs.Acceptance.{accepted}
 use Rattle.dns_datagrams.specs.declared.acceptance.Accepted.{Accepted}
 use Rattle.dns_datagrams.specs.declared.acceptance.Accepted.TheVariants.{Ignored}

@@ -5,7 +5,7 @@ ghost use Rattle.dns_udp.specs.Exchanges.{IsExchangeOf};
 use crate::client_stream::UdpClientStream;
 use crate::exchange::UdpExchange;
 use dns_link::Dialer;
-use dns_mux::Draws;
+use dns_multiplexer::Draws;
 use dns_sockets::{Binding, any_address};
 use std::alloc::Global;
 use std::collections::BTreeSet;

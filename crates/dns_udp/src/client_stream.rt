@@ -17,7 +17,7 @@ use dns_datagrams::Retries;
 use dns_handle::{DnsRequest, DnsResponse, NetError};
 use dns_link::Dialer;
 use dns_message::Edns;
-use dns_mux::Draws;
+use dns_multiplexer::Draws;
 use dns_sockets::{Binding, MAX_RECEIVE_BUFFER_SIZE, receive_buffer};
 use std::alloc::Global;
 use std::fmt;

@@ -5,7 +5,7 @@ ghost use Rattle.dns_udp.specs.Exchanges.{Exchanged, faults_of, parts_of, sends_
 use crate::client_stream::UdpClientStream;
 use dns_handle::{DnsHandle, DnsRequest, DnsResponse, NetError, faults_after};
 use dns_link::Dialer;
-use dns_mux::Draws;
+use dns_multiplexer::Draws;
 use std::alloc::Global;
 
 /// A handle that sends each request by datagrams, under an id that is drawn. An error that it answers, other than that there are

@@ -9,7 +9,7 @@ ghost use Rattle.dns_udp.specs.Waiting.{IsSentOn, Opens};
 
 use dns_handle::{IoKind, NetError, Notice};
 use dns_link::{Datagrams, Dialer};
-use dns_mux::Draws;
+use dns_multiplexer::Draws;
 use dns_sockets::Binding;
 use std::collections::VecDeque;
 use std::net::SocketAddr;

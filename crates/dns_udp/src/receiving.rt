@@ -1,5 +1,5 @@
 ghost use Rattle.std.specs.Prelude.{◌≡◌, ◌<◌, ◌≤◌, ◌^◌, IfOk, OnOk, length, map, take};
-ghost use Rattle.dns_mux.specs.Messages.{plain_response};
+ghost use Rattle.dns_multiplexer.specs.Messages.{plain_response};
 ghost use Rattle.dns_udp.specs.Encodings.{IsEncoded};
 ghost use Rattle.dns_udp.specs.Requests.{put_back, questions_put_back, response_by};
 ghost use Rattle.dns_udp.specs.Waiting.{Judges};

@@ -14,7 +14,7 @@ use crate::receiving::judge_front;
 use dns_datagrams::Retries;
 use dns_handle::{DnsRequest, DnsResponse, NetError};
 use dns_link::Dialer;
-use dns_mux::Draws;
+use dns_multiplexer::Draws;
 use dns_sockets::Binding;
 use std::alloc::Global;
 use std::net::SocketAddr;

@@ -5,7 +5,7 @@ use crate::parts::{check, server};
 use crate::watching::Watching;
 use dns_handle::IoKind;
 use dns_link::Dialer;
-use dns_mux::ListDraws;
+use dns_multiplexer::ListDraws;
 use dns_sockets::{UdpSocket, UdpStream};
 use std::alloc::Global;
 use std::collections::BTreeSet;

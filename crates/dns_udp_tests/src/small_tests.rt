@@ -2,7 +2,7 @@ use crate::parts::check;
 use dns_datagrams::{Retries, next_port};
 use dns_handle::IoKind;
 use dns_link::{Clock, Dialer, FixedClock, SocketDialer, SystemClock};
-use dns_mux::ListDraws;
+use dns_multiplexer::ListDraws;
 use dns_name::NoMemory;
 use std::alloc::Global;
 use std::collections::BTreeSet;

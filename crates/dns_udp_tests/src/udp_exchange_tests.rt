@@ -6,7 +6,7 @@ use crate::parts::{ANSWER, ASKED, check, draws_of, request_of, server};
 use crate::watching::NoLink;
 use dns_handle::{DnsHandle, DnsRequest, IoKind};
 use dns_link::{Counts, Datagrams, Dialer};
-use dns_mux::ListDraws;
+use dns_multiplexer::ListDraws;
 use dns_udp::UdpClientStream;
 use std::alloc::Global;
 use std::net::SocketAddr;

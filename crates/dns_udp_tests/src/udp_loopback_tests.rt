@@ -3,7 +3,7 @@ ghost use Rattle.std.specs.Prelude.{◌≤◌, length};
 use crate::parts::{ASKED, check, request_of};
 use dns_handle::{DnsResponse, NetError};
 use dns_link::SocketDialer;
-use dns_mux::RandDraws;
+use dns_multiplexer::RandDraws;
 use dns_udp::UdpClientStream;
 use std::alloc::Global;
 use std::net::{Net, SocketAddr, UdpSocket};

@@ -3,7 +3,7 @@ use crate::heard::{Heard, heard_error, heard_made};
 use crate::parts::{check, server};
 use dns_handle::NetError;
 use dns_link::{Datagrams, ListDatagrams};
-use dns_mux::{BufDnsStreamHandle, SerialMessage};
+use dns_multiplexer::{BufDnsStreamHandle, SerialMessage};
 use dns_name::Octets;
 use dns_sockets::UdpStream;
 use std::alloc::Global;

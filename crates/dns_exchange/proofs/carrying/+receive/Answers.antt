@@ -1,6 +1,6 @@
 use Rattle.std.proofs.Common.{◌≡◌, ◌<◌, ◌+◌, ◌-◌, ap, ◌∙◌, arith}
 use Rattle.std.proofs.lemmas.Result.{err_from_is_err_and}
-use Rattle.dns_mux.specs.Draws.{CoreValue}
+use Rattle.dns_multiplexer.specs.Draws.{CoreValue}
 use Rattle.dns_exchange.proofs.LiveLemmas.{going_close, going_none, going_on}
 use Rattle.dns_exchange.proofs.ReceiveLemmas.{receive_end, receive_failed, receive_first, receive_lost, receive_more, receive_none}
 use Rattle.dns_exchange.proofs.carrying.+receive.Goals as goal

@@ -1,6 +1,6 @@
 use Rattle.std.proofs.Common.{◌∙◌}
 use Rattle.std.proofs.lemmas.Result.{err_from_is_err_and}
-use Rattle.dns_mux.specs.Multiplexers.{machine_of}
+use Rattle.dns_multiplexer.specs.Multiplexers.{machine_of}
 use Rattle.dns_transport.specs.StreamViews.{state_of}
 use Rattle.dns_exchange.proofs.CarryLemmas.{carry_failed, carry_on, ours_at}
 use Rattle.dns_exchange.proofs.LiveLemmas.{lives_on, same_lives}

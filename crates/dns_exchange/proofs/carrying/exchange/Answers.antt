@@ -1,6 +1,6 @@
 use Rattle.std.proofs.Common.{refl, sym, ◌∙◌}
 use Rattle.std.proofs.lemmas.Result.{err_from_is_err_and}
-use Rattle.dns_mux.specs.Multiplexers.{machine_of}
+use Rattle.dns_multiplexer.specs.Multiplexers.{machine_of}
 use Rattle.dns_exchange.specs.Exchanges.{Unconnected}
 use Rattle.dns_exchange.proofs.CarryLemmas.{exchanged_refused, exchanged_sent}
 use Rattle.dns_exchange.proofs.carrying.exchange.Goals as goal

@@ -1,6 +1,6 @@
 use Rattle.std.proofs.Common.{ap, arith}
 use Rattle.std.proofs.lemmas.Result.{err_from_is_err_and}
-use Rattle.dns_mux.specs.Messages.{SerialMessageValue}
+use Rattle.dns_multiplexer.specs.Messages.{SerialMessageValue}
 use Rattle.dns_exchange.proofs.ReadLemmas.{fed_at, last_read, more_read, reading_last, reading_more}
 use Rattle.dns_exchange.proofs.messages.next_message.Goals as goal
 

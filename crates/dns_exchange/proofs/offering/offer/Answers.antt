@@ -1,5 +1,5 @@
 use Rattle.std.proofs.Common.{sym, ap, ◌∙◌}
-use Rattle.dns_mux.specs.Draws.{CoreValue}
+use Rattle.dns_multiplexer.specs.Draws.{CoreValue}
 use Rattle.dns_exchange.proofs.LiveLemmas.{going_none, going_offer}
 use Rattle.dns_exchange.proofs.OursLemmas.{none_of, offered_none, offered_some}
 use Rattle.dns_exchange.proofs.offering.offer.Goals as goal

@@ -1,5 +1,5 @@
 use Rattle.std.proofs.Common.{◌≡◌, Bool, true, false, [], ap, sym, subst}
-use Rattle.dns_mux.specs.Messages.{SerialMessageValue}
+use Rattle.dns_multiplexer.specs.Messages.{SerialMessageValue}
 use Rattle.dns_transport.specs.Links.{link_view}
 use Rattle.dns_transport.specs.StreamViews.{link_of, state_of}
 use Rattle.dns_exchange.specs.Reads.{sight}

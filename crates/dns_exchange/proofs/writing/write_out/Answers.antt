@@ -1,7 +1,7 @@
 use Rattle.std.proofs.Common.{[], ◌∷◌, ◌++◌, Some, ap, ◌∙◌}
 use Rattle.std.proofs.lemmas.Result.{err_from_is_err_and}
-use Rattle.dns_mux.specs.Multiplexers.{machine_of}
-use Rattle.dns_mux.specs.Queues.{StreamHandleValue}
+use Rattle.dns_multiplexer.specs.Multiplexers.{machine_of}
+use Rattle.dns_multiplexer.specs.Queues.{StreamHandleValue}
 use Rattle.dns_transport.specs.Links.{link_view}
 use Rattle.dns_transport.specs.StreamViews.{link_of, state_of}
 use Rattle.dns_exchange.proofs.WriteLemmas.{out_failed, out_more, parted_on, pop_first, pop_one, popped_on}

@@ -1,6 +1,6 @@
 use Rattle.std.proofs.Common.{◌≡◌, List, ◌++◌, length}
-use Rattle.dns_mux.specs.Messages.{SerialMessageValue}
-use Rattle.dns_mux.specs.Multiplexers.{machine_of, draws_of}
+use Rattle.dns_multiplexer.specs.Messages.{SerialMessageValue}
+use Rattle.dns_multiplexer.specs.Multiplexers.{machine_of, draws_of}
 use Rattle.dns_transport.specs.Links.{link_view}
 use Rattle.dns_transport.specs.StreamViews.{link_of, state_of}
 use Rattle.dns_exchange.specs.Reads.{sight}

@@ -1,6 +1,6 @@
 use Rattle.std.proofs.Common.{◌++◌, List, ℕ, ap, sym, ◌∙◌}
 use Rattle.std.proofs.lemmas.Result.{err_from_is_err_and}
-use Rattle.dns_mux.specs.Messages.{SerialMessageValue}
+use Rattle.dns_multiplexer.specs.Messages.{SerialMessageValue}
 use Rattle.dns_transport.specs.StreamViews.{link_of}
 use Rattle.dns_transport.proofs.SureLemmas.{closed_end, err_told, more_moves, next_used}
 use Rattle.dns_transport.proofs.frame_law.next_message.Goals as goal

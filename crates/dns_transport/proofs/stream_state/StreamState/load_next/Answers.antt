@@ -1,5 +1,5 @@
 use Rattle.std.proofs.Common.{ap, sym, ◌∙◌, refl, inr}
-use Rattle.dns_mux.specs.Messages.{SerialMessageValue}
+use Rattle.dns_multiplexer.specs.Messages.{SerialMessageValue}
 use Rattle.dns_transport.specs.Frames.{frame}
 use Rattle.dns_transport.specs.Streams.{StreamValue}
 use Rattle.dns_transport.proofs.StepLemmas.{loaded_next, none_first, refused_by, some_first}

@@ -1,0 +1,10 @@
+pub mod CoreLemmas
+pub mod HistoryLemmas
+pub mod HistoryWordLemmas
+pub mod LawLemmas
+pub mod ListLemmas
+pub mod LiveCountLemmas
+pub mod MachineStepLemmas
+pub mod TableCallLemmas
+pub mod TableEndLemmas
+pub mod TableLemmas

@@ -1,0 +1,11 @@
+pub mod Draws
+pub mod Events
+pub mod History
+pub mod Laws
+pub mod Machine
+pub mod Messages
+pub mod Multiplexers
+pub mod Queues
+pub mod Runs
+pub mod Tables
+pub mod Views

@@ -1,5 +1,0 @@
-use Rattle.dns_mux.proofs.LawLemmas.{event_more}
-use Rattle.dns_mux.proofs.laws.calls_are_events.Goals as goal
-
-pub returns : goal.returns
-returns c = event_more

@@ -1,4 +1,0 @@
-use Rattle.dns_mux.proofs.multiplexer_core.+draw_free.Given as goal
-
-abbrev pub decreases-draw_free : goal.decreases-draw_free
-decreases-draw_free g l = l.left

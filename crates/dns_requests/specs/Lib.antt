@@ -1,4 +1,0 @@
-pub mod FirstAnswers
-pub mod Receivers
-pub mod RequestQueues
-pub mod Streams
