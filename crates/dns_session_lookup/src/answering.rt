@@ -4,8 +4,8 @@ ghost use Rattle.dns_model.specs.Keys.{anchored};
 ghost use Rattle.dns_handle.specs.Replies.{reply_of};
 ghost use Rattle.dns_handle.specs.Requests.{plain_options};
 ghost use Rattle.dns_evidence.specs.Listing.{answers_of};
-ghost use Rattle.dns_lookup.specs.Calls.{inner_of, anchors_of, verifier_of, iterations_of, cache_of};
-ghost use Rattle.dns_lookup.specs.Limiting.{default_iterations, default_entries};
+ghost use Rattle.dns_lookup.specs.Calls.{inner_of, anchors_of, verifier_of, iterations_of, cache_of, ranges_of};
+ghost use Rattle.dns_lookup.specs.Limiting.{default_iterations, default_entries, default_ranges};
 ghost use Rattle.dns_lookup.specs.LookupAnswers.{UnlessNoMemory};
 ghost use Rattle.dns_session_lookup.specs.Adding.{with_algorithms, with_accepts};
 ghost use Rattle.dns_session_lookup.specs.Answering.{recorded_by, session_depth};
@@ -59,7 +59,8 @@ pub fn session_lookup(alloc: Global, session: Session) -> Result<SessionLookup, 
     ensures verifier { IfOk result (λ l. answers_of (verifier_of l.validator)
         ≡ answers_of (listing session.algorithms session.accepts)) }
     ensures iterations { IfOk result (λ l. iterations_of l.validator ≡ default_iterations) }
-    ensures cache { IfOk result (λ l. (cache_of l.validator).list ≡ default_entries) }
+    ensures cache { IfOk result (λ l. cache_of l.validator ≡ record { list = default_entries; hits = 0 }) }
+    ensures ranges { IfOk result (λ l. ranges_of l.validator ≡ default_ranges) }
     ensures query { IfOk result (λ l. l.query ≡ session.query) }
     ensures options { IfOk result (λ l. l.options
         ≡ record plain_options { max_request_depth = session_depth session }) }

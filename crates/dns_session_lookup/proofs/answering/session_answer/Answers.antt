@@ -1,4 +1,4 @@
-use Rattle.std.proofs.Common.{Some, refl}
+use Rattle.std.proofs.Common.{Some, ap, refl}
 use Rattle.dns_cache.specs.CacheLists.{CountedList}
 use Rattle.dns_cache.specs.declared.validation_cache.ValidationCache as cache
 use Rattle.dns_recorded.specs.contracts.recorded.RecordedDnsHandle.TheImpl as upstream
@@ -16,7 +16,7 @@ returns c =
     let is = c.in_ok-made.ensures in
     answers_looked upstream.ghosts tests.ghosts kept c.args.session made.validator c.lookup-answer.new.self made.query
     made.options made.moment c.lookup-answer.result refl refl is.upstream is.anchors is.verifier is.query
-    is.iterations is.options is.moment refl is.cache
+    is.iterations is.options is.moment refl (ap (λ (c : CountedList). c.list) is.cache)
     (record {
       sound = c.lookup-answer.ensures.sound;
       trail = c.lookup-answer.ensures.trail;

@@ -13,6 +13,7 @@ returns c =
           ∙ ap (λ algorithms. answers_of (listing algorithms c.session.inside.accepts.items)) c.deref.ensures.value;
       iterations = search rules;
       cache = search rules;
+      ranges = search rules;
       query = search rules;
       options = search rules;
       moment = search rules;
