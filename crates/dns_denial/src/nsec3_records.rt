@@ -1,5 +1,5 @@
 //! Which NSEC3 records count, and how the names of their zone are hashed (RFC 5155, 3.1, 8.1 and 8.2).
-ghost use Rattle.std.specs.Prelude.{◌≡◌, ◌||◌, not, Some, length};
+ghost use Rattle.std.specs.Prelude.{◌≡◌, Some, length};
 ghost use Rattle.std.specs.List.{find};
 ghost use Rattle.std.specs.Option.{option_copied};
 ghost use Rattle.dns_model.specs.Nsec3Hash.{base32hex_decode as decoded};
@@ -69,7 +69,12 @@ pub(crate) fn matches(hash: &HashText, nsec3: &Nsec3Record) -> bool
 pub(crate) fn matching<'a>(hash: &HashText, nsec3s: &'a [Nsec3Record]) -> Option<&'a Nsec3Record>
     ensures { option_copied result ≡ find (matches_in hash.now) nsec3s.now }
 {
-    nsec3s.iter().find(|nsec3| matches(hash, nsec3))
+    for nsec3 in nsec3s {
+        if matches(hash, nsec3) {
+            return Some(nsec3);
+        }
+    }
+    None
 }
 
 /// Whether the record stands right below the zone's apex (RFC 5155, 3).
@@ -113,18 +118,16 @@ impl<'a> Parameters<'a> {
         *nsec3.salt.as_slice() == *self.salt && nsec3.iterations == self.iterations
     }
 
-    /// Whether the record has these, or is ignored.
-    fn are_of_considered(&self, nsec3: &Nsec3Record) -> bool
-        ensures { result ≡ (not (is_considered_in nsec3.now) || has_parameters self.now nsec3.now) }
-    {
-        !is_considered(nsec3) || self.are_of(nsec3)
-    }
-
     /// Whether each record that isn't ignored has these.
     fn are_shared(&self, nsec3s: &[Nsec3Record]) -> bool
         ensures { result ≡ is_shared_in nsec3s.now self.now }
     {
-        nsec3s.iter().all(|nsec3| self.are_of_considered(nsec3))
+        for nsec3 in nsec3s {
+            if is_considered(nsec3) && !self.are_of(nsec3) {
+                return false;
+            }
+        }
+        true
     }
 
     /// The hash of a name in the zone.
@@ -152,5 +155,10 @@ pub(crate) fn parameters_of<'a>(nsec3s: &'a [Nsec3Record]) -> Option<Parameters<
 fn first_considered<'a>(nsec3s: &'a [Nsec3Record]) -> Option<&'a Nsec3Record>
     ensures { option_copied result ≡ find is_considered_in nsec3s.now }
 {
-    nsec3s.iter().find(|nsec3| is_considered(nsec3))
+    for nsec3 in nsec3s {
+        if is_considered(nsec3) {
+            return Some(nsec3);
+        }
+    }
+    None
 }

@@ -77,7 +77,12 @@ fn nsec3_verdict(
 pub(crate) fn are_of_zone(zone: &NameRef<'_>, nsec3s: &[Nsec3Record]) -> bool
     ensures { result ≡ list_all (is_of_zone_in zone.now) nsec3s.now }
 {
-    nsec3s.iter().all(|nsec3| is_of_zone(zone, nsec3))
+    for nsec3 in nsec3s {
+        if !is_of_zone(zone, nsec3) {
+            return false;
+        }
+    }
+    true
 }
 
 /// The verdict, by how the names of the zone are hashed.
@@ -282,9 +287,12 @@ fn no_data_below(
 fn wildcard_denies(wildcard: &HashText, record_type: RecordType, nsec3s: &[Nsec3Record]) -> bool
     ensures { result ≡ list_any (λ nsec3. matches_in wildcard.now nsec3 && wildcard_lacks_in record_type.0 nsec3.fields.types) nsec3s.now }
 {
-    nsec3s
-        .iter()
-        .any(|nsec3| is_denied_wildcard(wildcard, record_type, nsec3))
+    for nsec3 in nsec3s {
+        if is_denied_wildcard(wildcard, record_type, nsec3) {
+            return true;
+        }
+    }
+    false
 }
 
 /// Whether a record is the wildcard's, and shows that it has no data of the type.

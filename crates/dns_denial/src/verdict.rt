@@ -98,7 +98,12 @@ fn is_proved(query: &Query, code: ResponseCode, answered: Answered, nsecs: &[Nse
 fn owned_by<'a>(name: &NameRef<'_>, nsecs: &'a [NsecRecord]) -> Option<&'a NsecRecord>
     ensures { option_copied result ≡ find (is_owned_by_in name.now) nsecs.now }
 {
-    nsecs.iter().find(|nsec| is_owned_by(name, nsec))
+    for nsec in nsecs {
+        if is_owned_by(name, nsec) {
+            return Some(nsec);
+        }
+    }
+    None
 }
 
 fn is_owned_by(name: &NameRef<'_>, nsec: &NsecRecord) -> bool
@@ -172,9 +177,12 @@ fn denies_wildcard(
 fn lacks_at_wildcard(wildcard: &NameRef<'_>, record_type: RecordType, nsecs: &[NsecRecord]) -> bool
     ensures { result ≡ wildcard_denies_in record_type.0 wildcard.now nsecs.now }
 {
-    nsecs
-        .iter()
-        .any(|nsec| is_denied_wildcard(wildcard, record_type, nsec))
+    for nsec in nsecs {
+        if is_denied_wildcard(wildcard, record_type, nsec) {
+            return true;
+        }
+    }
+    false
 }
 
 /// Whether a record is the wildcard's, and shows that it has no data of the type.
