@@ -16,7 +16,12 @@ use dns_record::RecordType;
 pub fn has_denying(record_type: RecordType, sets: &[ChainedSet]) -> bool
     ensures { result ≡ list_any (λ c. is_denying_as record_type.0 c.judged) sets.now }
 {
-    sets.iter().any(|set| is_denying(record_type, &set.judged))
+    for set in sets {
+        if is_denying(record_type, &set.judged) {
+            return true;
+        }
+    }
+    false
 }
 
 // Whether a set is of this type and of the authority section, and Secure.
@@ -45,7 +50,12 @@ pub fn one_signer(record_type: RecordType, sets: &[ChainedSet]) -> Option<NameRe
 fn first_denying<'a>(record_type: RecordType, sets: &'a [ChainedSet]) -> Option<&'a ChainedSet>
     ensures { option_copied result ≡ find (λ c. is_denying_as record_type.0 c.judged) sets.now }
 {
-    sets.iter().find(|set| is_denying(record_type, &set.judged))
+    for set in sets {
+        if is_denying(record_type, &set.judged) {
+            return Some(set);
+        }
+    }
+    None
 }
 
 // Whether a zone made all sets of a type that deny existence.
@@ -53,7 +63,12 @@ fn are_made_by(record_type: RecordType, zone: &NameRef<'_>, sets: &[ChainedSet])
     ensures { result ≡ list_all
         (λ c. not (is_denying_as record_type.0 c.judged) || is_made_by_zone zone.now c.judged) sets.now }
 {
-    sets.iter().all(|set| !is_denying(record_type, &set.judged) || is_made_by(zone, &set.judged))
+    for set in sets {
+        if is_denying(record_type, &set.judged) && !is_made_by(zone, &set.judged) {
+            return false;
+        }
+    }
+    true
 }
 
 // Whether a zone made the signature that decided.
