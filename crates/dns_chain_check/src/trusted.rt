@@ -33,7 +33,12 @@ fn are_trusted(anchors: &TrustAnchors, now: u64, links: &[Link]) -> bool
 fn each_trusted(anchors: &TrustAnchors, now: u64, links: &[Link]) -> bool
     ensures { result ≡ list_all (λ l. is_trusted_link anchors.now now (link_value l)) links.now }
 {
-    links.iter().all(|link| is_link_trusted(anchors, now, link))
+    for link in links {
+        if !is_link_trusted(anchors, now, link) {
+            return false;
+        }
+    }
+    true
 }
 
 // A key that starts a chain is an anchor, and a signature counts at the moment.
