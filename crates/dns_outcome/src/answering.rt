@@ -18,7 +18,12 @@ use dns_record::{Query, Record, RecordType};
 pub(crate) fn has_answer(query: &Query, answers: &[Record]) -> bool
     ensures { result ≡ list_any (answers_asked query.now) answers.now }
 {
-    answers.iter().any(|found| answers_query(query, found))
+    for found in answers {
+        if answers_query(query, found) {
+            return true;
+        }
+    }
+    false
 }
 
 fn answers_query(query: &Query, found: &Record) -> bool
@@ -32,7 +37,12 @@ fn answers_query(query: &Query, found: &Record) -> bool
 pub(crate) fn has_wildcard_signature(records: &[Record]) -> bool
     ensures { result ≡ list_any is_wildcard_signature records.now }
 {
-    records.iter().any(is_expanded)
+    for signature in records {
+        if is_expanded(signature) {
+            return true;
+        }
+    }
+    false
 }
 
 // Whether a record is a readable signature that has fewer labels than its owner.
@@ -49,7 +59,12 @@ fn is_expanded(signature: &Record) -> bool
 pub(crate) fn has_expanded_answer(sets: &[ChainedSet]) -> bool
     ensures { result ≡ list_any (λ c. is_expanded_in c.judged) sets.now }
 {
-    sets.iter().any(|set| is_expanded_answer(&set.judged))
+    for set in sets {
+        if is_expanded_answer(&set.judged) {
+            return true;
+        }
+    }
+    false
 }
 
 // Whether a set is of the answer section, and Secure by a signature that has fewer labels than its owner.

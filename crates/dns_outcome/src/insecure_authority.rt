@@ -45,7 +45,12 @@ fn is_signature(found: &Record) -> bool
 fn has_unsigned(records: &[Record]) -> bool
     ensures { result ≡ list_any (λ r. not (is_signature_record r)) records.now }
 {
-    records.iter().any(|found| !is_signature(found))
+    for found in records {
+        if !is_signature(found) {
+            return true;
+        }
+    }
+    false
 }
 
 // Whether each record that is no signature is Insecure, with an owner at or above the name that is asked.

@@ -1,10 +1,10 @@
-ghost use Rattle.std.specs.Prelude.{◌≡◌, IfOk};
+ghost use Rattle.std.specs.Prelude.{◌≡◌, ◌&&◌, not, IfOk};
 ghost use Rattle.std.specs.Option.{option_copied};
 ghost use Rattle.dns_model.specs.SoundAnswers.{told_by};
 ghost use Rattle.dns_rules.specs.ChainedSets.{bare};
 ghost use Rattle.dns_rules.specs.Delegations.{ZoneVerdict, is_insecure};
 ghost use Rattle.dns_rules.specs.Unsigned.{unsigned_mark};
-ghost use Rattle.dns_rules.specs.Outcome.{outcome_of as told_outcome, outcome_by_zone as told_by_zone, insecure_answer as told_insecure, foreign_record as foreign_in};
+ghost use Rattle.dns_rules.specs.Outcome.{outcome_of as told_outcome, outcome_by_zone as told_by_zone, is_insecure_authority as is_told_insecure, insecure_answer as told_insecure, foreign_record as foreign_in};
 ghost use Rattle.dns_outcome.specs.Outcome.{outcome_value};
 
 use crate::answering::{has_answer, has_expanded_answer, has_wildcard_signature};
@@ -42,8 +42,7 @@ pub fn outcome_of(
     ensures { IfOk result (λ o. outcome_value o ≡ told_outcome limits.now query.now (told_by message.now) (bare sets.now)) }
 {
     let from_wildcard = has_wildcard_signature(&message.answers);
-    // the zone above the name is Insecure, and nothing is said to come from a wildcard (RFC 4035, 4.3)
-    if !from_wildcard && is_insecure_authority(alloc, query, message, sets)? {
+    if is_excused(alloc, query, message, sets, from_wildcard)? {
         return Ok(insecure_answer(query, message));
     }
     let by_hash = has_denying(RecordType::NSEC3, sets);
@@ -68,6 +67,22 @@ pub fn outcome_of(
     }
     // a signed zone would have denied (RFC 4035, 3.1.3)
     Ok(Outcome::NeedsZone)
+}
+
+// Whether the zone above the name is Insecure, and nothing is said to come from a wildcard (RFC 4035, 4.3).
+fn is_excused(
+    alloc: Global,
+    query: &Query,
+    message: &Message,
+    sets: &[ChainedSet],
+    from_wildcard: bool,
+) -> Result<bool, NoMemory>
+    ensures { IfOk result (λ b. b ≡ (is_told_insecure query.now (told_by message.now) (bare sets.now) && not from_wildcard)) }
+{
+    if from_wildcard {
+        return Ok(false);
+    }
+    is_insecure_authority(alloc, query, message, sets)
 }
 
 /// How a step ends whose query's zone was searched, by the mark that the zone leaves to what is unsigned: where it is Insecure,
