@@ -146,7 +146,12 @@ impl TrustAnchors {
 fn is_at(anchors: &[TrustAnchor], places: &[usize], owner: &Name, algorithm: u8, key: &[u8]) -> bool
     ensures { result ≡ list_any (passes_at (is_anchor_of owner.now algorithm key.now) anchors.now) places.now }
 {
-    places.iter().any(|place| is_anchor_at(anchors, *place, owner, algorithm, key))
+    for place in places {
+        if is_anchor_at(anchors, *place, owner, algorithm, key) {
+            return true;
+        }
+    }
+    false
 }
 
 // The anchor at a place is this key.

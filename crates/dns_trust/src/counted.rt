@@ -113,5 +113,10 @@ fn count(counts: &mut BTreeMap<u16, u8>, tag: u16) -> Result<bool, NoMemory>
 pub(crate) fn has_key_of(zone: &NameRef<'_>, keys: &[Record]) -> bool
     ensures { result ≡ list_any (is_key_of_zone zone.now) keys.now }
 {
-    keys.iter().any(|key| is_key_of_zone(zone, key))
+    for key in keys {
+        if is_key_of_zone(zone, key) {
+            return true;
+        }
+    }
+    false
 }

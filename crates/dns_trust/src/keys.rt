@@ -184,7 +184,12 @@ fn is_matched_only<V: Verifier>(
 fn is_wholly_anchored<V: Verifier>(judge: &Judge<'_, V>, set: &RecordSet) -> bool
     ensures { result ≡ list_all (is_anchored_key (judge_of V.answers judge.now) set.now) set.now.records }
 {
-    set.records.iter().all(|key| is_anchored(judge, set, key))
+    for key in &set.records {
+        if !is_anchored(judge, set, key) {
+            return false;
+        }
+    }
+    true
 }
 
 // Every key of a key set is an anchor of its owner, or matched by a DS of it.

@@ -84,11 +84,18 @@ pub fn has_ns_record(
 ) -> bool
     ensures { result ≡ list_any (is_ns_record name.now) (answers.now ++ authorities.now ++ additionals.now) }
 {
-    answers
-        .iter()
-        .chain(authorities.iter())
-        .chain(additionals.iter())
-        .any(|found| is_ns_of(name, found))
+    has_ns_in(name, answers) || has_ns_in(name, authorities) || has_ns_in(name, additionals)
+}
+
+fn has_ns_in(name: &Name, records: &[Record]) -> bool
+    ensures { result ≡ list_any (is_ns_record name.now) records.now }
+{
+    for found in records {
+        if is_ns_of(name, found) {
+            return true;
+        }
+    }
+    false
 }
 
 /// The question for the DS set of a zone.

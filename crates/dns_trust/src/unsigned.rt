@@ -126,34 +126,36 @@ fn mark_by_hashes(alloc: Global, zone: &Name, sets: &[ChainedSet]) -> Result<Pro
 fn is_insecure_without_ds(zone: &Name, sets: &[ChainedSet]) -> bool
     ensures { result ≡ list_any (λ c. shows_none zone.now c.judged || is_above zone.now c.judged) sets.now }
 {
-    sets.iter().any(|set| leaves_insecure(zone, &set.judged))
+    for set in sets {
+        if shows_no_ds(zone, &set.judged) || is_insecure_above(zone, &set.judged) {
+            return true;
+        }
+    }
+    false
 }
 
 /// Some record is a DS that is supported.
 pub(crate) fn has_supported<V: Verifier>(verifier: &V, records: &[Record]) -> bool
     ensures { result ≡ list_any (is_supported (V.answers verifier.now)) records.now }
 {
-    records.iter().any(|read| is_supported_ds(verifier, read))
+    for read in records {
+        if is_supported_ds(verifier, read) {
+            return true;
+        }
+    }
+    false
 }
 
 /// Some record can be read as a DS.
 pub(crate) fn has_readable(records: &[Record]) -> bool
     ensures { result ≡ list_any is_readable records.now }
 {
-    records.iter().any(is_readable_ds)
-}
-
-fn is_readable_ds(read: &Record) -> bool
-    ensures { result ≡ is_readable read.now }
-{
-    Ds::of(read).is_some()
-}
-
-// The set shows that the delegation has no DS, or is Insecure, at the zone or above it.
-fn leaves_insecure(zone: &Name, judged: &MarkedSet) -> bool
-    ensures { result ≡ (shows_none zone.now judged.now || is_above zone.now judged.now) }
-{
-    shows_no_ds(zone, judged) || is_insecure_above(zone, judged)
+    for read in records {
+        if Ds::of(read).is_some() {
+            return true;
+        }
+    }
+    false
 }
 
 // A Secure NSEC of the zone in the authority section shows that its delegation has no DS.
@@ -171,7 +173,12 @@ fn shows_no_ds(zone: &Name, judged: &MarkedSet) -> bool
 fn has_unsigned_cut(records: &[Record]) -> bool
     ensures { result ≡ list_any shows_cut records.now }
 {
-    records.iter().any(shows_unsigned_cut)
+    for next in records {
+        if shows_unsigned_cut(next) {
+            return true;
+        }
+    }
+    false
 }
 
 /// An NSEC shows a delegation to an unsigned zone: NS is among its types, DS and SOA aren't (RFC 4035, 5.2). False where its
@@ -209,8 +216,12 @@ pub(crate) fn ds_set_of<'a>(
 ) -> Option<&'a ChainedSet>
     ensures { option_copied result ≡ find (λ c. is_ds_set_of class.0 zone.now c.judged) sets.now }
 {
-    sets.iter()
-        .find(|chained| is_ds_set(class, zone, &chained.judged))
+    for chained in sets {
+        if is_ds_set(class, zone, &chained.judged) {
+            return Some(chained);
+        }
+    }
+    None
 }
 
 // The set is a DS set of the zone in the answer section.

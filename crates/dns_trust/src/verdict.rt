@@ -145,8 +145,12 @@ fn key_set_of<'a>(
 ) -> Option<&'a ChainedSet>
     ensures { option_copied result ≡ find (λ c. is_key_set_of class.0 signer.now c.judged) sets.now }
 {
-    sets.iter()
-        .find(|chained| is_key_set(class, signer, &chained.judged))
+    for chained in sets {
+        if is_key_set(class, signer, &chained.judged) {
+            return Some(chained);
+        }
+    }
+    None
 }
 
 // The set is a key set of the zone in the answer section.

@@ -1,0 +1,10 @@
+use Rattle.std.proofs.Common.{◌≡◌, drop}
+use Rattle.std.specs.List.{find}
+use Rattle.dns_rules.specs.Delegations.{is_ds_set_of}
+use Rattle.dns_trust.proofs.unsigned.ds_set_of.Given as goal
+
+-- the search goes on among the sets that are left
+abbrev pub invariant-loop-chained : goal.invariant-loop-chained
+invariant-loop-chained l =
+    find (λ c. is_ds_set_of l.class.0 l.zone c.judged) (drop l.chained-index l.sets)
+    ≡ find (λ c. is_ds_set_of l.class.0 l.zone c.judged) l.sets
