@@ -89,5 +89,10 @@ fn marked(alloc: Global, set: RecordSet) -> ChainedSet
 fn are_secure(records: &[Record]) -> bool
     ensures { result ≡ are_secure_records records.now }
 {
-    records.iter().all(|next| next.proof == Proof::Secure)
+    for next in records {
+        if next.proof != Proof::Secure {
+            return false;
+        }
+    }
+    true
 }

@@ -204,8 +204,12 @@ fn has_unsigned_cut(zone: &Name, class: DNSClass, authorities: &[Record]) -> boo
     ensures { result ≡ list_any
         (λ r. is_record_of class.0 zone.now type_nsec r && delegations.shows_unsigned_cut r) authorities.now }
 {
-    authorities.iter().any(|next| is_of(zone, class, RecordType::NSEC, next)
-        && shows_unsigned_cut(next))
+    for next in authorities {
+        if is_of(zone, class, RecordType::NSEC, next) && shows_unsigned_cut(next) {
+            return true;
+        }
+    }
+    false
 }
 
 // A record of some section is Insecure, at the zone or above it.
@@ -220,9 +224,12 @@ fn has_insecure(zone: &Name, class: DNSClass, message: &Message) -> bool
 fn has_insecure_in(zone: &Name, class: DNSClass, records: &[Record]) -> bool
     ensures { result ≡ list_any (is_above class.0 zone.now) records.now }
 {
-    records
-        .iter()
-        .any(|next| is_insecure_above(zone, class, next))
+    for next in records {
+        if is_insecure_above(zone, class, next) {
+            return true;
+        }
+    }
+    false
 }
 
 fn is_insecure_above(zone: &Name, class: DNSClass, next: &Record) -> bool
@@ -235,16 +242,24 @@ fn is_insecure_above(zone: &Name, class: DNSClass, next: &Record) -> bool
 fn has_ds_set(zone: &Name, class: DNSClass, answers: &[Record]) -> bool
     ensures { result ≡ has_set_in class.0 zone.now answers.now }
 {
-    answers
-        .iter()
-        .any(|next| is_of(zone, class, RecordType::DS, next))
+    for next in answers {
+        if is_of(zone, class, RecordType::DS, next) {
+            return true;
+        }
+    }
+    false
 }
 
 // All records of a set are Secure.
 fn are_secure(name: &Name, class: DNSClass, record_type: RecordType, records: &[Record]) -> bool
     ensures { result ≡ are_secure_in_set class.0 name.now record_type.0 records.now }
 {
-    records.iter().all(|next| !is_of(name, class, record_type, next) || next.proof == Proof::Secure)
+    for next in records {
+        if is_of(name, class, record_type, next) && next.proof != Proof::Secure {
+            return false;
+        }
+    }
+    true
 }
 
 // The record is one of the set of a name, a class and a type.
@@ -259,7 +274,12 @@ fn has_readable_ds(zone: &Name, class: DNSClass, answers: &[Record]) -> bool
     ensures { result
         ≡ list_any (λ r. is_record_of class.0 zone.now type_ds r && delegations.is_readable_ds r) answers.now }
 {
-    answers.iter().any(|next| is_of(zone, class, RecordType::DS, next) && Ds::of(next).is_some())
+    for next in answers {
+        if is_of(zone, class, RecordType::DS, next) && Ds::of(next).is_some() {
+            return true;
+        }
+    }
+    false
 }
 
 // The supported DS records of the zone.
