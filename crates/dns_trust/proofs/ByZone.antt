@@ -1,39 +1,15 @@
--- What a zone leaves to the unsigned sets in it, by the answer to the ask for its DS set.
-use Rattle.std.proofs.Common.{◌≡◌, ℕ, Bool, true, false, ◌||◌, List, [], ◌∷◌, None, Some, refl, sym, ap, ◌∙◌}
+-- What an answer without a DS set of a zone leaves to the unsigned sets in it.
+use Rattle.std.proofs.Common.{◌≡◌, Bool, true, false, ◌||◌, List, [], ◌∷◌, refl, sym, ap, ◌∙◌}
 use Rattle.std.specs.Prelude.{if◌then◌else◌}
-use Rattle.std.specs.List.{find, list_any}
+use Rattle.std.specs.List.{list_any}
 use Rattle.dns_model.specs.declared.proof.Proof.TheVariants as proof
 use Rattle.dns_model.specs.Names.{Labels}
-use Rattle.dns_model.specs.Keys.{VerifierAnswers}
 use Rattle.dns_model.proofs.TestLemmas.{or_twice}
 use Rattle.dns_rules.specs.MarkedSets.{MarkedSet}
 use Rattle.dns_rules.specs.ProofErrors.{DsRecordShouldExist, DsResponseInsecure}
-use Rattle.dns_rules.specs.Delegations.{Insecure, Bogus, is_ds_set_of, verdict_by_ds, shows_no_ds, shows_no_ds_by_hash, is_insecure_above, verdict_without_ds, zone_verdict}
+use Rattle.dns_rules.specs.Delegations.{Insecure, Bogus, shows_no_ds, shows_no_ds_by_hash, is_insecure_above, verdict_without_ds}
 use Rattle.dns_rules.specs.Unsigned.{unsigned_mark}
 use Rattle.dns_rules.specs.ChainedSets.{ChainedSet, bare}
-use Rattle.dns_trust.proofs.ByDs.{verdict_of_answer}
-
--- an ask that failed or was refused leaves Bogus
-pub failed_mark : (verifier : VerifierAnswers) (class : ℕ) (zone : Labels) → proof.Bogus ≡ (unsigned_mark (zone_verdict verifier class zone None)).mark
-unfolding zone_verdict
-failed_mark verifier class zone = refl
-
--- an answer with a DS set of the zone
-pub found_mark : (verifier : VerifierAnswers) (class : ℕ) (zone : Labels) (answer : List ChainedSet) (found : ChainedSet)
-    → find (λ c. is_ds_set_of class zone c.judged) answer ≡ Some found
-    → (unsigned_mark (verdict_by_ds verifier zone found.judged.mark found.judged.set.records)).mark
-    ≡ (unsigned_mark (zone_verdict verifier class zone (Some (bare answer)))).mark
-found_mark verifier class zone answer found is =
-    ap (λ v. (unsigned_mark v).mark) (sym (verdict_of_answer verifier class zone answer (Some found) is))
-
--- and one without
-pub without_mark : (verifier : VerifierAnswers) (class : ℕ) (zone : Labels) (answer : List ChainedSet)
-    → find (λ c. is_ds_set_of class zone c.judged) answer ≡ None
-    → (unsigned_mark (verdict_without_ds zone (bare answer))).mark ≡ (unsigned_mark (zone_verdict verifier class zone (Some (bare answer)))).mark
-without_mark verifier class zone answer none =
-    ap (λ v. (unsigned_mark v).mark) (sym (verdict_of_answer verifier class zone answer None none))
-
--- ---- an answer without a DS set
 
 any_bare : (test : MarkedSet → Bool) (answer : List ChainedSet) → list_any (λ c. test c.judged) answer ≡ list_any test (bare answer)
 any_bare test [] = refl

@@ -2,15 +2,15 @@ ghost use Rattle.std.specs.Prelude.{◌≡◌, ◌||◌, [], None, IfOk, if◌th
 ghost use Rattle.std.specs.List.{list_any, find};
 ghost use Rattle.std.specs.Option.{option_map, option_copied};
 ghost use Rattle.dns_rules.specs.ChainedSets.{bare};
-ghost use Rattle.dns_rules.specs.Delegations.{zone_verdict, verdict_by_ds, verdict_without_ds, is_ds_set_of, shows_no_ds as shows_none, shows_no_ds_by_hash, shows_unsigned_cut as shows_cut, is_insecure_above as is_above, is_readable_ds as is_readable, is_supported_ds as is_supported};
+ghost use Rattle.dns_rules.specs.Delegations.{ZoneVerdict, zone_verdict, verdict_without_ds, is_ds_set_of, shows_no_ds as shows_none, shows_no_ds_by_hash, shows_unsigned_cut as shows_cut, is_insecure_above as is_above, is_readable_ds as is_readable, is_supported_ds as is_supported};
 ghost use Rattle.dns_rules.specs.ListedTypes.{is_unsigned_cut as is_cut};
-ghost use Rattle.dns_model.specs.declared.proof.Proof.TheVariants.{Secure, Insecure, Bogus};
-ghost use Rattle.dns_model.specs.Names.{Labels};
+ghost use Rattle.dns_model.specs.declared.proof.Proof.TheVariants.{Insecure, Bogus};
 ghost use Rattle.dns_trust.specs.Unsigned.{unsupported_mark};
+ghost use Rattle.dns_trust.specs.ZoneRows.{row_of};
 ghost use Rattle.dns_rules.specs.Unsigned.{unsigned_mark};
 ghost use Rattle.dns_trust.specs.Verdicts.{listed};
 
-use crate::is_supported_ds;
+use crate::{ZoneRow, is_supported_ds, zone_row};
 use dns_denial::verify_nsec3_insecure_delegation;
 use dns_denying::nsec3_denials;
 use dns_evidence::{ChainedSet, MarkedSet, PlacedSet, Verifier};
@@ -50,37 +50,20 @@ pub fn zone_mark<V: Verifier>(
     ensures { IfOk result (λ mark. mark ≡ (unsigned_mark (zone_verdict (V.answers verifier.now) class.0 zone.now
         (option_map bare (listed answer.now)))).mark) }
 {
-    let Some(sets) = answer else {
-        return Ok(Proof::Bogus);
-    };
-    match ds_set_of(class, zone, sets) {
-        Some(found) => Ok(mark_by_set(verifier, zone, found)),
-        None => mark_without_ds(alloc, zone, sets),
-    }
+    let row = zone_row(alloc, verifier, class, zone, answer)?;
+    Ok(mark_of_row(row))
 }
 
-// By the DS set of the zone.
-fn mark_by_set<V: Verifier>(verifier: &V, zone: &Name, found: &ChainedSet) -> Proof
-    ensures { result ≡ (unsigned_mark
-        (verdict_by_ds (V.answers verifier.now) zone.now found.now.judged.mark found.now.judged.set.records)).mark }
+// By the row of the zone's DS verdict that holds.
+fn mark_of_row(row: ZoneRow) -> Proof
+    ensures { (verdict : ZoneVerdict) → row ≡ row_of verdict → result ≡ (unsigned_mark verdict).mark }
 {
-    match found.judged.mark {
-        Proof::Secure => mark_by_ds(verifier, found.judged.set.records.as_slice()),
-        Proof::Insecure => Proof::Bogus,
-        Proof::Bogus => Proof::Bogus,
-        Proof::Indeterminate => Proof::Bogus,
-    }
-}
-
-// By the records of the zone's DS set, which is Secure.
-fn mark_by_ds<V: Verifier>(verifier: &V, records: &[Record]) -> Proof
-    ensures { (zone : Labels) → result
-        ≡ (unsigned_mark (verdict_by_ds (V.answers verifier.now) zone Secure records.now)).mark }
-{
-    if has_supported(verifier, records) {
-        Proof::Bogus
-    } else {
-        mark_by_unsupported(records)
+    match row {
+        ZoneRow::Unsupported => Proof::Insecure,
+        ZoneRow::ShownAbsent => Proof::Insecure,
+        ZoneRow::Unanswered => Proof::Bogus,
+        ZoneRow::Signed => Proof::Bogus,
+        ZoneRow::NotShown => Proof::Bogus,
     }
 }
 
