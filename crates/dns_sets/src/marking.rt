@@ -1,4 +1,5 @@
 ghost use Rattle.std.specs.Prelude.{◌≡◌, ℕ, ◌<◌, ◌^◌, IfOk, OnOk, Some, length};
+ghost use Rattle.dns_model.specs.declared.section.Section.TheVariants.{Answer, Authority, Additional};
 ghost use Rattle.dns_rules.specs.Marking.{marked_section};
 ghost use Rattle.dns_rules.specs.ChainedSets.{bare, chains_of, finished as finished_value};
 ghost use Rattle.dns_rules.specs.MarkParts.{marked_by, is_place as is_same_place};
@@ -28,15 +29,14 @@ pub fn finished(
     ensures { IfOk result (λ r. r ≡ finished_value now sets.items message denial trail) }
 {
     let mut message = message;
-    let ttls = set_ttls(alloc, now, &sets)?;
-    let timed = TimedSets {
-        moment: now,
-        sets: &sets,
-        ttls: &ttls,
-    };
-    mark_section(alloc, &timed, Section::Answer, &mut message.answers)?;
-    mark_section(alloc, &timed, Section::Authority, &mut message.authorities)?;
-    mark_section(alloc, &timed, Section::Additional, &mut message.additionals)?;
+    mark_sections(
+        alloc,
+        now,
+        &sets,
+        &mut message.answers,
+        &mut message.authorities,
+        &mut message.additionals,
+    )?;
     let chains = secure_chains(alloc, sets)?;
     Ok(DnsResponse {
         message,
@@ -44,6 +44,34 @@ pub fn finished(
         denial,
         trail,
     })
+}
+
+// Marks the records of three sections by their sets. It holds no message, which is dear to let go wherever memory may run
+// out.
+fn mark_sections(
+    alloc: Global,
+    now: u64,
+    sets: &[ChainedSet],
+    answers: &mut [Record],
+    authorities: &mut [Record],
+    additionals: &mut [Record],
+) -> Result<(), NoMemory>
+    ensures answers { OnOk result
+        (answers.new ≡ marked_section now (bare sets.now) Answer answers.old) }
+    ensures authorities { OnOk result
+        (authorities.new ≡ marked_section now (bare sets.now) Authority authorities.old) }
+    ensures additionals { OnOk result
+        (additionals.new ≡ marked_section now (bare sets.now) Additional additionals.old) }
+{
+    let ttls = set_ttls(alloc, now, sets)?;
+    let timed = TimedSets {
+        moment: now,
+        sets,
+        ttls: &ttls,
+    };
+    mark_section(alloc, &timed, Section::Answer, answers)?;
+    mark_section(alloc, &timed, Section::Authority, authorities)?;
+    mark_section(alloc, &timed, Section::Additional, additionals)
 }
 
 // Judged sets, and the ttl that each leaves to its records at a moment, in seconds.
