@@ -1,4 +1,5 @@
-ghost use Rattle.std.specs.Prelude.{◌≡◌, ◌&&◌, not, IfOk};
+ghost use Rattle.std.specs.Prelude.{◌≡◌, ◌==◌, ◌&&◌, not, IfOk};
+ghost use Rattle.std.specs.List.{find};
 ghost use Rattle.std.specs.Option.{option_copied};
 ghost use Rattle.dns_model.specs.SoundAnswers.{told_by};
 ghost use Rattle.dns_rules.specs.ChainedSets.{bare};
@@ -15,7 +16,7 @@ use dns_evidence::{ChainedSet, Limits};
 use dns_message::Message;
 use dns_model::{Denial, Proof};
 use dns_name::NoMemory;
-use dns_record::{Query, Record, RecordType};
+use dns_record::{DNSClass, Query, Record, RecordType};
 use std::alloc::Global;
 
 /// How a judged step ends.
@@ -77,7 +78,8 @@ fn is_excused(
     sets: &[ChainedSet],
     from_wildcard: bool,
 ) -> Result<bool, NoMemory>
-    ensures { IfOk result (λ b. b ≡ (is_told_insecure query.now (told_by message.now) (bare sets.now) && not from_wildcard)) }
+    ensures { IfOk result (λ b. b
+        ≡ (is_told_insecure query.now (told_by message.now) (bare sets.now) && not from_wildcard)) }
 {
     if from_wildcard {
         return Ok(false);
@@ -111,14 +113,27 @@ fn insecure_answer(query: &Query, message: &Message) -> Outcome
 }
 
 /// The first record, in the order of the sections, whose class isn't the query's (RFC 1035, 3.2.4).
+#[tactic(auto, using(crate::proofs::OutcomeLemmas::found_before, crate::proofs::OutcomeLemmas::found_behind))]
 pub fn foreign_record<'a>(query: &Query, message: &'a Message) -> Option<&'a Record>
     ensures { option_copied result ≡ foreign_in query.now (told_by message.now) }
 {
     let class = query.query_class;
-    message
-        .answers
-        .iter()
-        .chain(message.authorities.iter())
-        .chain(message.additionals.iter())
-        .find(|found| found.dns_class != class)
+    if let Some(found) = first_foreign(class, &message.answers) {
+        return Some(found);
+    }
+    if let Some(found) = first_foreign(class, &message.authorities) {
+        return Some(found);
+    }
+    first_foreign(class, &message.additionals)
+}
+
+fn first_foreign(class: DNSClass, records: &[Record]) -> Option<&Record>
+    ensures { option_copied result ≡ find (λ r. not (r.class == class.0)) records.now }
+{
+    for found in records {
+        if found.dns_class != class {
+            return Some(found);
+        }
+    }
+    None
 }
