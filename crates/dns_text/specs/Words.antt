@@ -1,6 +1,6 @@
 -- Words that sessions and reports share: numbers as decimal digits, each in one form; bytes as hexadecimal digits, two for each; and
 -- names with or without the last dot (RFC 1035, 5.1). They are printed by `decimal` of std, `octets_word` and `printed`.
-use Rattle.std.specs.Prelude.{ℕ, Bool, true, false, not, ◌==◌, ◌&&◌, nat_le, List, [], ◌∷◌, codes, Option, None, Some, Result, Ok, Err, if◌then◌else◌}
+use Rattle.std.specs.Prelude.{ℕ, Bool, true, false, not, ◌==◌, ◌&&◌, nat_le, List, [], ◌∷◌, codes, Option, None, Some, if◌then◌else◌}
 use Rattle.std.specs.Result.{result_ok}
 use Rattle.std.specs.Str.{all_ascii_digits}
 use Rattle.std.specs.Str.Parse.{digits_value}
