@@ -13,7 +13,6 @@ use std::collections::BTreeMap;
 use std::marker::Model;
 
 /// A reply, and the query that it was recorded for.
-#[derive(Drop)]
 struct Recording {
     query: Query,
     reply: Result<DnsResponse, NetError>,
@@ -27,6 +26,25 @@ impl Model for Recording {
     ghost Value = { Question × Reply };
 
     ghost view = { λ r. (r.query, reply_of r.reply) };
+}
+
+// By hand, so that a function that lets a recording go calls this, whatever the reply is.
+impl Drop for Recording {
+    fn drop(self) {
+        let Recording { query, reply } = self;
+        drop(query);
+        drop(reply);
+    }
+}
+
+impl Recording {
+    fn into_reply(self) -> Result<DnsResponse, NetError>
+        ensures { reply_of result ≡ self.1 }
+    {
+        let Recording { query, reply } = self;
+        drop(query);
+        reply
+    }
 }
 
 /// Replies that are left, in the order in which they were put in.
@@ -84,7 +102,7 @@ fn take_at(recordings: &mut Vec<Option<Recording>>, place: usize) -> Result<DnsR
 {
     match recordings[place].take() {
         None => Err(NetError::Timeout),
-        Some(recording) => recording.reply,
+        Some(recording) => recording.into_reply(),
     }
 }
 
@@ -109,9 +127,10 @@ impl ReplyList {
         ensures err { OnErr result (self.new ≡ self.old) }
     {
         let alloc = *self.recordings.allocator();
-        let key = QueryKey::of(alloc, &query)?;
+        let recording = Recording { query, reply };
+        let key = QueryKey::of(alloc, &recording.query)?;
         let place = self.recordings.len();
-        self.recordings.push(Some(Recording { query, reply }))?;
+        self.recordings.push(Some(recording))?;
         match note_place(alloc, &mut self.places, key, place) {
             Ok(()) => Ok(()),
             Err(error) => {
