@@ -8,7 +8,7 @@ use dns_handle::{DnsError, DnsResponse, NetError};
 const MOST_BUSY: u32 = 64;
 
 /// What a call may still send.
-#[derive(Clone, Copy, Debug, PartialEq, Eq)]
+#[derive(Clone, Copy)]
 pub(crate) struct Attempts {
     /// So many more sends may follow errors other than `Busy`.
     pub(crate) left: usize,
@@ -60,6 +60,7 @@ impl Attempts {
         ensures less { IfNone result (self.new.left + (64 - self.new.busy) < self.old.left + (64 - self.old.busy)) }
     {
         if self.go_on_after(&reply) {
+            drop(reply);
             None
         } else {
             Some(reply)

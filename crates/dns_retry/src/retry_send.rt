@@ -55,6 +55,7 @@ impl<H: DnsHandle + Drop> Future for RetrySend<H> {
         }
         let reply = send_copy(self.alloc, &mut self.retry.handle, &self.request, self.now);
         if self.attempts.go_on_after(&reply) {
+            drop(reply);
             return cx.yield_now();
         }
         self.is_done = true;
