@@ -7,7 +7,6 @@ use std::alloc::Global;
 use std::marker::Model;
 
 /// A domain name, always absolute (RFC 1035, 3.1). Contracts see it as its labels, the leaf first; it is kept in wire form.
-#[derive(Drop)]
 pub struct Name {
     wire: Octets,
 }
@@ -21,6 +20,14 @@ impl Model for Name {
     ghost view = { λ n. labels_of n.wire };
 
     ghost invariant = { λ n. IsWire n.wire };
+}
+
+// By hand, so that a function that lets a name go calls this.
+impl Drop for Name {
+    fn drop(self) {
+        let Name { wire } = self;
+        drop(wire);
+    }
 }
 
 impl Name {

@@ -9,7 +9,7 @@ use std::cmp::Ordering;
 use std::marker::Model;
 
 /// The data of a record, names spelled out (RFC 1035, 3.2.1): at most 65,535 bytes.
-#[derive(Debug, Drop)]
+#[derive(Debug)]
 pub struct Rdata {
     bytes: Octets,
 }
@@ -22,6 +22,14 @@ impl Model for Rdata {
     ghost view = { λ r. r.bytes };
 
     ghost invariant = { λ r. length r.bytes ≤ 65535 };
+}
+
+// By hand, so that a function that lets an rdata go calls this.
+impl Drop for Rdata {
+    fn drop(self) {
+        let Rdata { bytes } = self;
+        drop(bytes);
+    }
 }
 
 impl Rdata {
@@ -58,7 +66,8 @@ impl Rdata {
         ensures bytes { result ≡ self }
         ensures short { length result ≤ 65535 }
     {
-        self.bytes
+        let Rdata { bytes } = self;
+        bytes
     }
 
     /// An equal value; long octets are shared.
