@@ -1,4 +1,4 @@
-ghost use Rattle.std.specs.Prelude.{◌≡◌, ◌+◌, ◌<◌, ◌≤◌, ◌^◌, length, IfOk};
+ghost use Rattle.std.specs.Prelude.{◌≡◌, ◌+◌, ◌<◌, ◌≤◌, ◌^◌, length, Ok, IfOk};
 ghost use Rattle.dns_message.specs.Reading.{Reads};
 ghost use Rattle.dns_message.specs.MessageAt.{header_at, question_at, questions_at, message_of, message_at};
 ghost use Rattle.dns_message.specs.Readable.{IsReadable};
@@ -152,6 +152,51 @@ fn message_of(header: Header, sections: Sections, opt: Option<(Edns, u8)>) -> Me
     }
 }
 
+/// The message whose header this is, from the place after it.
+#[tactic(auto, unfolding(crate::specs::MessageAt::message_at))]
+fn read_sections(
+    message: &MessageBytes<'_>,
+    names: &mut KnownNames,
+    header: Header,
+) -> Result<Message, ReadFault>
+    requires readable { IsReadable message.now }
+    requires known { AreKnown message.now.bytes.now names.old }
+    requires header { header_at message.now.bytes.now ≡ Ok (header_value header) }
+    requires whole { 12 ≤ length message.now.bytes.now }
+    ensures { Reads (λ m. m) result (message_at message.now.bytes.now) }
+{
+    let bytes = message.bytes;
+    let mut room = Vec::with_capacity(message.alloc, Name::MAX_LEN)?;
+    let (queries, next) = questions_of(message, names, &mut room, header.questions, HEADER)?;
+    let (answers, _, next) = section_of(message, names, &mut room, header.answers, false, next)?;
+    let (authorities, _, next) = section_of(
+        message,
+        names,
+        &mut room,
+        header.authorities,
+        false,
+        next,
+    )?;
+    let (additionals, opt, next) = section_of(
+        message,
+        names,
+        &mut room,
+        header.additionals,
+        true,
+        next,
+    )?;
+    if next < bytes.len() {
+        return Err(fault(DecodeKind::Trailing, next));
+    }
+    let sections = Sections {
+        queries,
+        answers,
+        authorities,
+        additionals,
+    };
+    Ok(message_of(header, sections, opt))
+}
+
 /// The message that the octets are.
 #[tactic(auto, unfolding(crate::specs::MessageAt::message_at))]
 fn read_message(octets: Octets) -> Result<Message, ReadFault>
@@ -168,42 +213,7 @@ fn read_message(octets: Octets) -> Result<Message, ReadFault>
         bytes,
     };
     let mut names = KnownNames::new(alloc, bytes)?;
-    let mut room = Vec::with_capacity(alloc, Name::MAX_LEN)?;
-    let (queries, next) = questions_of(&message, &mut names, &mut room, header.questions, HEADER)?;
-    let (answers, _, next) = section_of(
-        &message,
-        &mut names,
-        &mut room,
-        header.answers,
-        false,
-        next,
-    )?;
-    let (authorities, _, next) = section_of(
-        &message,
-        &mut names,
-        &mut room,
-        header.authorities,
-        false,
-        next,
-    )?;
-    let (additionals, opt, next) = section_of(
-        &message,
-        &mut names,
-        &mut room,
-        header.additionals,
-        true,
-        next,
-    )?;
-    if next < bytes.len() {
-        return Err(fault(DecodeKind::Trailing, next));
-    }
-    let sections = Sections {
-        queries,
-        answers,
-        authorities,
-        additionals,
-    };
-    Ok(message_of(header, sections, opt))
+    read_sections(&message, &mut names, header)
 }
 
 impl Message {
