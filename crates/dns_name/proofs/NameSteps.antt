@@ -1,15 +1,13 @@
 -- The steps of a reader that goes over a name's wire form label by label.
-use Rattle.std.proofs.Common.{◌≡◌, ℕ, zero, suc, ◌+◌, ◌≤◌, ◌<◌, Bool, true, false, ◌&&◌, cond, List, [], ◌∷◌, ◌++◌, length, take, drop, Option, None, Some, refl, sym, ap, ◌∙◌, subst, arith, length-append, length-drop}
-use Rattle.std.specs.Prelude.{nat_le, nat_lt}
-use Rattle.std.specs.List.{list_all}
+use Rattle.std.proofs.Common.{◌≡◌, ℕ, suc, ◌+◌, ◌≤◌, ◌<◌, true, false, List, [], ◌∷◌, ◌++◌, length, take, drop, Option, None, Some, refl, sym, ap, ◌∙◌, arith, length-append}
+use Rattle.std.specs.Prelude.{nat_le}
 use Rattle.std.specs.Option.{option_map}
 use Rattle.std.proofs.lemmas.Bool.Decides.{nat_tests}
-use Rattle.std.proofs.lemmas.List.{append-nil, length-take-le, take_at, drop_at}
-use Rattle.dns_model.specs.Names.{Label, Labels, wire, is_label, is_name}
-use Rattle.dns_model.specs.NameForm.{label_in, after_label, labels_in, name_in, labels_of, IsWire}
+use Rattle.std.proofs.lemmas.List.{take_at, drop_at}
+use Rattle.dns_model.specs.Names.{Label, Labels, wire, is_name}
+use Rattle.dns_model.specs.NameForm.{label_in, after_label, labels_in, name_in}
 use Rattle.dns_name.specs.NameEnds.{front_labels, end_of, end_in, IsFront}
-use Rattle.dns_model.proofs.Lists.{take-front, drop-front}
-use Rattle.dns_model.proofs.WireLemmas.{IsLabelIn, label_in_inverse, IsNameIn, labels_in_inverse, name_in-wire, labels_of-wire, IsWire-wire, with_front_label, within_limit}
+use Rattle.dns_model.proofs.WireLemmas.{label_in_inverse, labels_in_inverse, name_in-wire, labels_of-wire, IsWire-wire, with_front_label, within_limit}
 
 -- ---- the bound on how many labels are read says nothing once it is as long as the bytes
 

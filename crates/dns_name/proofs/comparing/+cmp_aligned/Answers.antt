@@ -1,5 +1,4 @@
-use Rattle.std.proofs.Common.{◌≡◌, sym, ◌∙◌, ap, refl, length, arith}
-use Rattle.dns_model.specs.Names.{name_cmp}
+use Rattle.std.proofs.Common.{◌≡◌, ap, refl, length, arith}
 use Rattle.dns_model.proofs.OrderLemmas.{name_cmp-cons}
 use Rattle.dns_name.proofs.comparing.+cmp_aligned.Goals as goal
 

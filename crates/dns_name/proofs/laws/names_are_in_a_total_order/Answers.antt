@@ -1,4 +1,4 @@
-use Rattle.std.proofs.Common.{◌≡◌, sym, ◌∙◌}
+use Rattle.std.proofs.Common.{sym, ◌∙◌}
 use Rattle.std.specs.Cmp.{Equal-is}
 use Rattle.dns_model.specs.Names.{name_cmp}
 use Rattle.dns_model.proofs.OrderLemmas.{name_ties, name_total}

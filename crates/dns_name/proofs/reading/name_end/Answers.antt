@@ -1,4 +1,4 @@
-use Rattle.std.proofs.Common.{sym, rules}
+use Rattle.std.proofs.Common.{sym}
 use Rattle.dns_name.proofs.NameSteps.{front_found, front_none, front_too_long}
 use Rattle.dns_name.proofs.reading.name_end.Goals as goal
 

@@ -1,4 +1,4 @@
-use Rattle.std.proofs.Common.{◌≡◌, ◌≤◌, ◌++◌, length, ap, arith, length-append}
+use Rattle.std.proofs.Common.{◌≤◌, ◌++◌, length, ap, arith, length-append}
 use Rattle.dns_model.specs.Names.{wire}
 use Rattle.dns_name.proofs.ReadSteps.{run_form, run_name}
 use Rattle.dns_name.proofs.text_reading.name_of_run.Goals as goal

@@ -1,5 +1,4 @@
-use Rattle.std.proofs.Common.{sym, ◌∙◌, ap, inr, arith}
-use Rattle.dns_name.specs.LabelRuns.{read_at}
+use Rattle.std.proofs.Common.{sym, ◌∙◌, inr, arith}
 use Rattle.dns_name.proofs.TextLemmas.{byte_shorter}
 use Rattle.dns_name.proofs.ReadSteps.{text_end, text_dot, text_byte, text_broken}
 use Rattle.dns_name.proofs.text_reading.read_label.Goals as goal

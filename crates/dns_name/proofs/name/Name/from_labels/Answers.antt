@@ -1,4 +1,4 @@
-use Rattle.std.proofs.Common.{sym, ap, ◌∙◌, arith}
+use Rattle.std.proofs.Common.{arith}
 use Rattle.std.proofs.lemmas.List.{take_all}
 use Rattle.dns_name.specs.LabelRuns.{IsRun}
 use Rattle.dns_name.proofs.ReadSteps.{label_at_fails, name_from_run}

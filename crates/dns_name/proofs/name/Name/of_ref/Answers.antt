@@ -1,4 +1,3 @@
-use Rattle.std.proofs.Common.{sym, ap, ◌∙◌, rules}
 use Rattle.dns_model.proofs.WireLemmas.{IsWire-wire, labels_of-wire}
 use Rattle.dns_name.proofs.name.Name.of_ref.Goals as goal
 

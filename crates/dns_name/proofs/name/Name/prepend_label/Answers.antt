@@ -1,5 +1,4 @@
-use Rattle.std.proofs.Common.{◌≡◌, [], ◌∷◌, ◌++◌, List, ℕ, length, ap, ◌∙◌}
-use Rattle.dns_model.specs.NameText.{label_checked}
+use Rattle.std.proofs.Common.{[], ◌∷◌}
 use Rattle.dns_name.specs.LabelRuns.{IsRun}
 use Rattle.dns_name.proofs.ReadSteps.{no_run, run_more}
 use Rattle.dns_name.proofs.name.Name.prepend_label.Goals as goal

@@ -1,4 +1,4 @@
-use Rattle.std.proofs.Common.{sym, ap, ◌∙◌, rules}
+use Rattle.std.proofs.Common.{sym, ap, ◌∙◌}
 use Rattle.dns_model.specs.Names.{wire, is_name}
 use Rattle.dns_model.proofs.WireLemmas.{wire-labels_of, is_name-labels_of}
 use Rattle.dns_name.proofs.name.Name.wire.Goals as goal

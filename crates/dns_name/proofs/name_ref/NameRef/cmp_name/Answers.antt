@@ -1,5 +1,4 @@
-use Rattle.std.proofs.Common.{sym, ◌∙◌, ap, refl, length, arith}
-use Rattle.dns_model.specs.Names.{name_cmp}
+use Rattle.std.proofs.Common.{refl, arith}
 use Rattle.dns_model.proofs.OrderLemmas.{name_cmp-longer, name_cmp-shorter}
 use Rattle.dns_name.proofs.name_ref.NameRef.cmp_name.Goals as goal
 

@@ -2,7 +2,7 @@ use Rattle.std.proofs.Common.{sym, ap, ◌∙◌}
 use Rattle.std.specs.List.{list_all}
 use Rattle.dns_model.specs.Bytes.{is_bytes}
 use Rattle.dns_model.specs.Names.{is_name}
-use Rattle.dns_model.specs.NameForm.{IsWire, labels_of}
+use Rattle.dns_model.specs.NameForm.{labels_of}
 use Rattle.dns_model.proofs.WireLemmas.{is_name-labels_of, wire-labels_of}
 use Rattle.dns_name.proofs.ReadSteps.{is_bytes-labels}
 use Rattle.dns_name.proofs.name_ref.NameRef.copy.Goals as goal

@@ -1,4 +1,3 @@
-use Rattle.std.proofs.Common.{◌∙◌}
 use Rattle.dns_model.proofs.NameLemmas.{same_bytes}
 use Rattle.dns_name.proofs.name_ref.NameRef.eq_case.Goals as goal
 

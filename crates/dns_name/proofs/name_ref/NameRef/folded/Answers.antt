@@ -1,4 +1,3 @@
-use Rattle.std.proofs.Common.{sym, ap, ◌∙◌, rules}
 use Rattle.dns_model.proofs.NameLemmas.{lower-wire}
 use Rattle.dns_name.proofs.name_ref.NameRef.folded.Goals as goal
 

@@ -1,4 +1,4 @@
-use Rattle.std.proofs.Common.{◌≡◌, suc, length, ap, arith}
+use Rattle.std.proofs.Common.{length, ap, arith}
 use Rattle.dns_model.proofs.LabelSteps.{length_name}
 use Rattle.dns_name.proofs.name_ref.NameRef.label_count.Goals as goal
 

@@ -1,5 +1,5 @@
 use Rattle.std.proofs.Common.{sym, ◌∙◌, arith}
-use Rattle.dns_model.proofs.LabelSteps.{IsSplit, wire_split, wire_root, wire_broken}
+use Rattle.dns_model.proofs.LabelSteps.{wire_split, wire_root, wire_broken}
 use Rattle.dns_name.proofs.name_ref.NameRef.split_first.Goals as goal
 
 pub returns-then-label-eq0 : goal.returns-then-label-eq0

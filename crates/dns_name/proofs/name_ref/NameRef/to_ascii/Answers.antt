@@ -1,4 +1,4 @@
-use Rattle.std.proofs.Common.{◌≡◌, ap, ◌∙◌}
+use Rattle.std.proofs.Common.{ap, ◌∙◌}
 use Rattle.dns_model.specs.NameText.{printed, read_name}
 use Rattle.dns_name.proofs.TextLemmas.{read_printed}
 use Rattle.dns_name.proofs.name_ref.NameRef.to_ascii.Goals as goal
