@@ -1,9 +1,9 @@
 -- What a run keeps, out of what its parts do.
-use Rattle.std.proofs.Common.{◌≡◌, ◌≢◌, ◌+◌, ◌<◌, ◌≤◌, ℕ, Bool, true, List, Option, None, Some, IfSome, length, refl, ap, arith}
+use Rattle.std.proofs.Common.{◌≡◌, ◌≢◌, ◌+◌, ◌<◌, ◌≤◌, ℕ, true, List, Option, None, Some, IfSome, length, refl, ap, arith}
 use Rattle.std.specs.Io.KnownBytes.{Appends}
 use Rattle.dns_model.specs.Counts.{Rose}
 use Rattle.dns_io.specs.Reading.{input_limit, too_long_text, IsEnded, ReadsFront}
-use Rattle.dns_io.specs.Runs.{Outside, Asked, FixedText, NoInput, AnInput, EndsByLength, KeepsSink, KeepsOutside}
+use Rattle.dns_io.specs.Runs.{Outside, Asked, FixedText, AnInput, KeepsSink, KeepsOutside}
 use Rattle.dns_io.proofs.Leaving.{nothing_read}
 
 -- no input was read

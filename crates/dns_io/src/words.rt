@@ -7,8 +7,13 @@ use std::{env, io};
 pub fn words_of(rt: &HostRuntime) -> Result<Option<Vec<Vec<u8>>>, NoMemory> {
     let mut args = match env::args(rt) {
         Ok(args) => args,
-        Err(error) if error.kind() == io::ErrorKind::OutOfMemory => return Err(NoMemory),
-        Err(_) => return Ok(None),
+        Err(error) => {
+            return if error.kind() == io::ErrorKind::OutOfMemory {
+                Err(NoMemory)
+            } else {
+                Ok(None)
+            };
+        }
     };
     args.next();
     let mut words = Vec::new(rt.alloc());
