@@ -9,12 +9,24 @@ use std::alloc::Global;
 
 /// A query as a key of an ordered map. The name's bytes are folded once, so that two keys are compared in one pass; and no
 /// choice of names makes a search longer, as it would where a hash can be foreseen.
-#[derive(PartialEq, Eq, PartialOrd, Ord, Drop)]
+#[derive(PartialEq, Eq, PartialOrd, Ord)]
 pub struct QueryKey {
     /// The wire form, with A to Z as a to z.
     name: Octets,
     record_type: u16,
     class: u16,
+}
+
+// By hand, so that a function that lets a key go calls this.
+impl Drop for QueryKey {
+    fn drop(self) {
+        let QueryKey {
+            name,
+            record_type: _,
+            class: _,
+        } = self;
+        drop(name);
+    }
 }
 
 /// A name's wire form with A to Z as a to z, by which equal names are equal bytes.

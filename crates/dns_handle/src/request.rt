@@ -151,7 +151,6 @@ impl DnsRequest {
     pub fn try_clone(&self) -> Result<DnsRequest, NoMemory>
         ensures { IfOk result (λ r. r ≡ self.now) }
     {
-        let message = self.message.try_clone()?;
         let original = match &self.original {
             None => None,
             Some(query) => {
@@ -159,6 +158,8 @@ impl DnsRequest {
                 Some(query)
             }
         };
+        // The message has most to let go, so no way out comes after it.
+        let message = self.message.try_clone()?;
         Ok(DnsRequest {
             message,
             options: self.options,

@@ -43,9 +43,10 @@ impl DnsResponse {
     pub fn try_clone(&self) -> Result<DnsResponse, NoMemory>
         ensures { IfOk result (λ r. r ≡ self.now) }
     {
-        let message = self.message.try_clone()?;
         let chains = clone_chains(&self.chains)?;
         let trail = self.trail.try_clone()?;
+        // The message has most to let go, so no way out comes after it.
+        let message = self.message.try_clone()?;
         Ok(DnsResponse {
             message,
             chains,
