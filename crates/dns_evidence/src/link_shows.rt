@@ -39,8 +39,7 @@ fn link_shows_key(link: &Link, owner: &NameRef, class: DNSClass, key: &[u8]) -> 
             key: shown,
             ..
         } => same_owner(owner, class, name, *of) && key == shown.as_slice(),
-        Link::KeySet { .. } => false,
-        Link::Signed { .. } => false,
+        _ => false,
     }
 }
 
@@ -49,9 +48,6 @@ fn link_shows_ds(link: &Link, owner: &NameRef, class: DNSClass, ds: &[u8]) -> bo
     ensures { result ≡ shows_ds owner.now class.0 ds.now (Some (link_value link.now)) }
 {
     match link {
-        Link::Anchored { .. } => false,
-        Link::Matched { .. } => false,
-        Link::KeySet { .. } => false,
         Link::Signed {
             owner: name,
             class: of,
@@ -63,6 +59,7 @@ fn link_shows_ds(link: &Link, owner: &NameRef, class: DNSClass, ds: &[u8]) -> bo
                 && same_owner(owner, class, name, *of)
                 && has_rdata(rdatas, ds)
         }
+        _ => false,
     }
 }
 
@@ -71,8 +68,6 @@ fn link_shows_member(link: &Link, owner: &NameRef, class: DNSClass, key: &[u8]) 
     ensures { result ≡ shows_member owner.now class.0 key.now (Some (link_value link.now)) }
 {
     match link {
-        Link::Anchored { .. } => false,
-        Link::Matched { .. } => false,
         Link::KeySet {
             owner: name,
             class: of,
@@ -90,6 +85,7 @@ fn link_shows_member(link: &Link, owner: &NameRef, class: DNSClass, key: &[u8]) 
                 && same_owner(owner, class, name, *of)
                 && has_rdata(rdatas, key)
         }
+        _ => false,
     }
 }
 
