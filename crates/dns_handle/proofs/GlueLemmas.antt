@@ -1,5 +1,5 @@
 -- Addresses by the names of their owners, as records are joined to them.
-use Rattle.std.proofs.Common.{◌≡◌, ℕ, Bool, true, false, cond, List, [], ◌∷◌, ◌++◌, map, Option, None, Some, refl, sym, ap, ◌∙◌}
+use Rattle.std.proofs.Common.{◌≡◌, ℕ, ◌+◌, ◌<◌, Bool, true, false, cond, List, [], ◌∷◌, ◌++◌, map, length, take, slice_index_or, Option, None, Some, refl, sym, ap, ◌∙◌, arith}
 use Rattle.std.specs.List.{filter}
 use Rattle.std.specs.Ordering.{is_eq}
 use Rattle.std.specs.Map.{lookup}
@@ -7,7 +7,7 @@ use Rattle.std.specs.BTreeMap as tree
 use Rattle.std.specs.BTreeMap.{BTreeMap}
 use Rattle.std.specs.declared.vec.Vec.{Vec}
 use Rattle.std.proofs.lemmas.Cmp.{nat_list_cmp_total}
-use Rattle.std.proofs.lemmas.List.{append-nil}
+use Rattle.std.proofs.lemmas.List.{append-nil, map-append, take_more}
 use Rattle.std.proofs.lemmas.List.Elements.{filter-append}
 use Rattle.dns_model.specs.Names.{Labels, name_eq, folded, wire}
 use Rattle.dns_model.specs.Types.{type_ns}
@@ -83,3 +83,27 @@ pub all_forwarded-same : {Z : Type 0} (m : BTreeMap (List ℕ) (Vec Rr Z)) (rs :
     → map (forwarded_by m) all ≡ map (forwarded rs) all
 all_forwarded-same m rs are [] = refl
 all_forwarded-same m rs are (ns ∷ all) = rw (forwarded-same m rs are ns, all_forwarded-same m rs are all) refl
+
+-- what is made of the elements that pass a test, with one more that passes
+pub made_more : {X Y : Type 0} (p : X → Bool) (f : X → Y) (xs : List X) (i : ℕ) (x : X) (all more : List Y)
+    → i < length xs → x ≡ slice_index_or xs i x → p x ≡ true → all ≡ map f (filter p (take i xs))
+    → more ≡ all ++ f x ∷ [] → more ≡ map f (filter p (take (i + 1) xs))
+made_more p f xs i x all more long item test before grown =
+    let one : filter p (x ∷ []) ≡ x ∷ [] = rw test refl in
+    grown ∙ ap (λ l. l ++ f x ∷ []) before
+    ∙ ap (λ l. map f (filter p (take i xs)) ++ map f l) (sym one)
+    ∙ sym (map-append f (filter p (take i xs)) (filter p (x ∷ [])))
+    ∙ ap (map f) (sym (filter-append p (take i xs) (x ∷ [])))
+    ∙ ap (λ l. map f (filter p l)) (ap (λ z. take i xs ++ z ∷ []) item ∙ sym (take_more xs i x (omega (arith, long))))
+
+-- the same with one more that doesn't pass
+pub made_same : {X Y : Type 0} (p : X → Bool) (f : X → Y) (xs : List X) (i : ℕ) (x : X) (all : List Y)
+    → i < length xs → x ≡ slice_index_or xs i x → p x ≡ false → all ≡ map f (filter p (take i xs))
+    → all ≡ map f (filter p (take (i + 1) xs))
+made_same p f xs i x all long item test before =
+    let none : filter p (x ∷ []) ≡ [] = rw test refl in
+    let same : filter p (take i xs ++ x ∷ []) ≡ filter p (take i xs) =
+    filter-append p (take i xs) (x ∷ []) ∙ ap (λ l. filter p (take i xs) ++ l) none
+    ∙ append-nil (filter p (take i xs)) in
+    before ∙ ap (map f) (sym same)
+    ∙ ap (λ l. map f (filter p l)) (ap (λ z. take i xs ++ z ∷ []) item ∙ sym (take_more xs i x (omega (arith, long))))
