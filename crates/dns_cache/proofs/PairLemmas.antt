@@ -11,7 +11,7 @@ use Rattle.dns_cache.specs.KeyLaws.{key_eq-Decides}
 use Rattle.dns_rules.specs.CacheEntries.{EntryValue}
 use Rattle.dns_cache.specs.CacheLists.{IsCacheList, after_get, after_insert, has_key, is_hit, without}
 use Rattle.dns_cache.specs.KeptEntries.{KeptValue, KeptPair, entry_of, entries_of, listed, IsKept}
-use Rattle.dns_cache.proofs.ListLemmas.{apart, find_passes, hit_found, is_list-got, is_list-inserted, keys, length-found, none_found, none_hit, none_left_out, none_lives, rest_distinct}
+use Rattle.dns_cache.proofs.ListLemmas.{apart, empty_is, find_passes, hit_found, is_list-got, is_list-inserted, keys, length-found, none_found, none_hit, none_left_out, none_lives, rest_distinct}
 
 pub same_keys : (pairs : List KeptPair) → keys (entries_of pairs) ≡ keys_of pairs
 same_keys [] = refl
@@ -166,4 +166,12 @@ pub kept-put : (kept : LruCache CacheKeyValue KeptValue) (capacity : ℕ) (key :
 kept-put kept capacity key value is some = record {
   list = subst IsCacheList (sym (after_put kept capacity key value is some)) (is_list-inserted (entry_of (key, value)) (listed kept.entries capacity) is.list);
   bounded = is.bounded;
+}
+
+-- a map without pairs
+pub kept-none : (kept : LruCache CacheKeyValue KeptValue) (capacity : ℕ) → kept.entries ≡ []
+    → (0 < capacity → kept.cap ≡ capacity) → IsKept kept capacity
+kept-none kept capacity none bounded = record {
+  list = subst (λ pairs. IsCacheList (listed pairs capacity)) (sym none) (empty_is capacity);
+  bounded = bounded;
 }

@@ -54,20 +54,35 @@ impl Entry {
     pub fn try_clone(&self) -> Result<Entry, NoMemory>
         ensures { IfOk result (λ e. e ≡ self.now) }
     {
-        let key = self.key.try_clone()?;
-        let found = clone_found(&self.result)?;
-        let chain = clone_chain(&self.chain)?;
-        Ok(Entry {
-            key,
-            expires: self.expires,
-            result: found,
-            chain,
-        })
+        copied(&self.key, self.expires, &self.result, &self.chain)
     }
 }
 
-/// A copy of what was found, in memory of its own.
-pub(crate) fn clone_found(
+/// An entry of copies of these parts, each in memory of its own.
+pub(crate) fn copied(
+    key: &CacheKey,
+    expires: u64,
+    found: &Result<RrsetProof, ProofError>,
+    chain: &Option<Chain>,
+) -> Result<Entry, NoMemory>
+    requires { is_backed found.now chain.now ≡ true }
+    ensures { IfOk result (λ e. e ≡ record { key = key.now; expires = expires; found = found.now; chain = chain.now }) }
+{
+    let key = key.try_clone()?;
+    let Ok(chain) = clone_chain(chain) else {
+        drop(key);
+        return Err(NoMemory);
+    };
+    let Ok(found) = clone_found(found) else {
+        drop(key);
+        drop(chain);
+        return Err(NoMemory);
+    };
+    Ok(Entry::new(key, expires, found, chain))
+}
+
+// A copy of what was found, in memory of its own.
+fn clone_found(
     found: &Result<RrsetProof, ProofError>,
 ) -> Result<Result<RrsetProof, ProofError>, NoMemory>
     ensures { IfOk result (λ f. f ≡ found.now) }
@@ -81,8 +96,8 @@ pub(crate) fn clone_found(
     }
 }
 
-/// A copy of a chain, in memory of its own.
-pub(crate) fn clone_chain(chain: &Option<Chain>) -> Result<Option<Chain>, NoMemory>
+// A copy of a chain, in memory of its own.
+fn clone_chain(chain: &Option<Chain>) -> Result<Option<Chain>, NoMemory>
     ensures { IfOk result (λ c. c ≡ chain.now) }
 {
     match chain {

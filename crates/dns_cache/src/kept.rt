@@ -1,7 +1,7 @@
 ghost use Rattle.std.specs.Prelude.{◌≡◌, IfOk};
 ghost use Rattle.dns_cache.specs.KeptEntries.{entry_of};
 
-use crate::entry::{clone_chain, clone_found};
+use crate::entry::copied;
 use crate::{CacheKey, Entry};
 use dns_evidence::Chain;
 use dns_name::NoMemory;
@@ -51,14 +51,6 @@ impl Kept {
     pub(crate) fn entry(&self, key: &CacheKey) -> Result<Entry, NoMemory>
         ensures { IfOk result (λ e. e ≡ entry_of (key.now, self.now)) }
     {
-        let key = key.try_clone()?;
-        let found = clone_found(&self.found)?;
-        let chain = clone_chain(&self.chain)?;
-        Ok(Entry {
-            key,
-            expires: self.expires,
-            result: found,
-            chain,
-        })
+        copied(key, self.expires, &self.found, &self.chain)
     }
 }

@@ -1,6 +1,7 @@
-ghost use Rattle.std.specs.Prelude.{◌≡◌, [], true, None, Some, IfOk, find, nat_lt, if◌then◌else◌};
+ghost use Rattle.std.specs.Prelude.{◌≡◌, ◌<◌, [], true, None, Some, IfOk, OnErr, OnOk, find, nat_lt, if◌then◌else◌};
 ghost use Rattle.std.specs.List.{IsDistinct};
 ghost use Rattle.std.specs.Map.{keys_of};
+ghost use Rattle.lru.specs.LruCache.{lru_cache, put_entries};
 ghost use Rattle.dns_rules.specs.CacheKeys.{key_eq};
 ghost use Rattle.dns_cache.specs.CacheLists.{is_hit};
 ghost use Rattle.dns_cache.specs.KeptEntries.{entries_of, entry_of};
@@ -11,7 +12,7 @@ use dns_evidence::Verifier;
 use dns_name::NoMemory;
 use lru::{DefaultHasher, LruCache};
 use std::alloc::Global;
-use std::hash::{BuildHasher, BuildHasherDefault};
+use std::hash::{BuildHasher, BuildHasherDefault, Hash};
 use std::marker::Model;
 use std::num::NonZeroUsize;
 
@@ -68,9 +69,7 @@ impl<S: BuildHasher + Drop> LruValidationCache<S> {
     ) -> Result<LruValidationCache<S>, NoMemory>
         ensures { IfOk result (λ c. c ≡ record { list = record { entries = []; capacity = capacity }; hits = 0 }) }
     {
-        let mut kept = LruCache::unbounded_with_hasher(alloc, hasher)?;
-        // A map without a bound takes room as pairs come, one made with a bound all of it at once.
-        kept.resize(NonZeroUsize::new(capacity).unwrap_or(NonZeroUsize::MIN));
+        let kept = empty_map(alloc, capacity, hasher)?;
         Ok(LruValidationCache {
             kept,
             capacity,
@@ -105,16 +104,45 @@ impl<S: BuildHasher + Drop> ValidationCache for LruValidationCache<S> {
 
     fn insert(&mut self, _alloc: Global, entry: Entry) -> Result<(), NoMemory> {
         if self.capacity == 0 {
+            drop(entry);
             return Ok(());
         }
         let (key, kept) = Kept::of(entry);
-        drop(self.kept.put(key, kept)?);
+        put(&mut self.kept, key, kept)?;
         Ok(())
     }
 }
 
 impl<S: BuildHasher + Drop, V: Verifier> AcceptedBy<V> for LruValidationCache<S> {
     ghost knows_nobody = { λ _. true };
+}
+
+// A map without pairs, of this capacity unless that is 0.
+fn empty_map<S: BuildHasher + Drop>(
+    alloc: Global,
+    capacity: usize,
+    hasher: S,
+) -> Result<LruCache<CacheKey, Kept, S>, NoMemory>
+    ensures entries { IfOk result (λ m. m.entries ≡ []) }
+    ensures capacity { IfOk result (λ m. 0 < capacity → m.cap ≡ capacity) }
+{
+    let mut map = LruCache::unbounded_with_hasher(alloc, hasher)?;
+    // A map without a bound takes room as pairs come, one made with a bound all of it at once.
+    map.resize(NonZeroUsize::new(capacity).unwrap_or(NonZeroUsize::MIN));
+    Ok(map)
+}
+
+// Puts a pair into a map, and lets go what that had of the key.
+fn put<K: Eq + Hash + Drop, V: Drop, S: BuildHasher>(
+    map: &mut LruCache<K, V, S>,
+    key: K,
+    value: V,
+) -> Result<(), NoMemory>
+    ensures entries { OnOk result (map.new ≡ lru_cache (put_entries K.eq map.old key value) map.old.cap) }
+    ensures err { OnErr result (map.new ≡ map.old) }
+{
+    drop(map.put(key, value)?);
+    Ok(())
 }
 
 // A copy of the entry of this key, if it doesn't expire by the moment.
