@@ -93,7 +93,7 @@ pub fn cause_after<V: Verifier>(
         (got_value got.now) (kind_value cause)) }
 {
     let none = None;
-    match phase {
+    let next = match phase {
         Phase::Marked(_) => Ok(cause),
         Phase::NeedsDs(placed) => {
             drop(cause);
@@ -111,7 +111,9 @@ pub fn cause_after<V: Verifier>(
         }
         Phase::AtZone(Seeker::Ending, _, _) => Ok(cause),
         Phase::Concluded(_) => Ok(cause),
-    }
+    };
+    drop(none);
+    next
 }
 
 // The answer, where the reply was to be judged; `none` where it was only to be seen.

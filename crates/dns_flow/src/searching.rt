@@ -29,6 +29,7 @@ pub(crate) fn search_at(
     ensures { phase_value result ≡ search_from query.now (told_by message.now) seeker class.0 name }
 {
     if name.is_root() {
+        drop(name);
         found(alloc, query, message, seeker, Proof::Bogus)
     } else {
         Phase::AtName(seeker, class, name)
@@ -51,10 +52,18 @@ pub(crate) fn after_probe(
     match seen {
         NsProbe::Found => Ok(Phase::AtZone(seeker, class, name)),
         NsProbe::Absent => {
-            let above = name.base_name()?;
+            let above = name.base_name();
+            drop(name);
+            let Ok(above) = above else {
+                drop(seeker);
+                return Err(NoMemory);
+            };
             Ok(search_at(alloc, query, message, seeker, class, above))
         }
-        NsProbe::Failed => Ok(found(alloc, query, message, seeker, Proof::Bogus)),
+        NsProbe::Failed => {
+            drop(name);
+            Ok(found(alloc, query, message, seeker, Proof::Bogus))
+        }
     }
 }
 

@@ -83,7 +83,10 @@ fn start_unsigned(
         placed.set.class (start_of placed.set)) }
 {
     let class = class_of(&placed);
-    let start = set_start(set_of(&placed))?;
+    let Ok(start) = set_start(set_of(&placed)) else {
+        drop(placed);
+        return Err(NoMemory);
+    };
     Ok(search_at(alloc, query, message, Seeker::Set(placed), class, start))
 }
 

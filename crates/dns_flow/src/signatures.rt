@@ -1,14 +1,14 @@
 //! The first signatures of a set, of which each that may count asks for its signer's keys before it is tested, until one proves
 //! the set (RFC 4035, 5.3).
 
-ghost use Rattle.std.specs.Prelude.{◌≡◌, false, drop, is_some, length, map, slice_get, IfOk};
-ghost use Rattle.std.specs.Option.{option_and_then, option_map, option_map_or};
+ghost use Rattle.std.specs.Prelude.{◌≡◌, ◌++◌, ◌∷◌, [], false, drop, is_some, length, map, slice_get, IfOk, OnOk};
+ghost use Rattle.std.specs.Option.{option_and_then, option_copied, option_map, option_map_or};
 ghost use Rattle.dns_rules.specs.Asking.{ask_of};
-ghost use Rattle.dns_rules.specs.ChainedSets.{chained_verdict as verdict_by};
+ghost use Rattle.dns_rules.specs.ChainedSets.{chained_by as set_by, chained_verdict as verdict_by};
 ghost use Rattle.dns_rules.specs.Marks.{is_skipped};
 ghost use Rattle.dns_trust.specs.Judge.{judge_of};
 ghost use Rattle.dns_trust.specs.Verdicts.{listed, verdict_value};
-ghost use Rattle.dns_flow.specs.Phases.{first_signatures as first_of, after_signature as after_sig, signature_need as need_of, try_from as tried_from};
+ghost use Rattle.dns_flow.specs.Phases.{Marked, first_signatures as first_of, after_signature as after_sig, after_verdict as verdict_leads, signature_need as need_of, try_from as tried_from};
 ghost use Rattle.dns_flow.specs.Values.{Keeps, need_value, phase_value};
 
 use crate::phases::{Need, Phase, asks, set_of};
@@ -32,14 +32,32 @@ pub(crate) fn try_from(
         (drop (length verdicts.items) (first_of placed.set))) }
 {
     'signatures: while skips_next(query, &placed, &verdicts) {
-        verdicts.push(Verdict::Failed)?;
+        if let Err(NoMemory) = add_verdict(&mut verdicts, Verdict::Failed) {
+            drop(placed);
+            drop(verdicts);
+            return Err(NoMemory);
+        }
     }
     if has_next(&placed, &verdicts) {
         Ok(Phase::Trying(placed, verdicts))
     } else {
-        let set = chained_by(placed, verdicts)?;
-        Ok(Phase::Marked(set))
+        marked_by(placed, verdicts)
     }
+}
+
+fn add_verdict(verdicts: &mut Vec<Verdict>, next: Verdict) -> Result<(), NoMemory>
+    ensures { OnOk result (verdicts.new.items ≡ verdicts.old.items ++ next ∷ []) }
+{
+    verdicts.push(next)?;
+    Ok(())
+}
+
+// The verdicts decide.
+fn marked_by(placed: PlacedSet, verdicts: Vec<Verdict>) -> Result<Phase, NoMemory>
+    ensures { IfOk result (λ p. phase_value p ≡ Marked (set_by placed (map verdict_value verdicts.items))) }
+{
+    let set = chained_by(placed, verdicts)?;
+    Ok(Phase::Marked(set))
 }
 
 // There is a signature behind those with verdicts, and it isn't asked for.
@@ -48,7 +66,7 @@ fn skips_next(query: &Query, placed: &PlacedSet, verdicts: &Vec<Verdict>) -> boo
         (slice_get (first_of placed.now.set) (length verdicts.now.items)) false }
 {
     let set = set_of(placed);
-    let Some(sig) = first_signatures(set).get(verdicts.len()) else {
+    let Some(sig) = signature_at(set, verdicts.len()) else {
         return false;
     };
     match Rrsig::of(sig) {
@@ -61,9 +79,14 @@ fn skips_next(query: &Query, placed: &PlacedSet, verdicts: &Vec<Verdict>) -> boo
 fn has_next(placed: &PlacedSet, verdicts: &Vec<Verdict>) -> bool
     ensures { result ≡ is_some (slice_get (first_of placed.now.set) (length verdicts.now.items)) }
 {
-    first_signatures(set_of(placed))
-        .get(verdicts.len())
-        .is_some()
+    signature_at(set_of(placed), verdicts.len()).is_some()
+}
+
+// The signature at a place, if it is one of those that are tried.
+fn signature_at(set: &RecordSet, place: usize) -> Option<&Record>
+    ensures { option_copied result ≡ slice_get (first_of set.now) place }
+{
+    first_signatures(set).get(place)
 }
 
 /// What the next signature of a set asks.
@@ -76,7 +99,11 @@ pub(crate) fn signature_need(
         (option_and_then (ask_of placed.set) (slice_get (first_of placed.set) (length verdicts.items)))) }
     ensures keeps { IfOk result (λ n. Keeps (Phase.Trying placed verdicts) n) }
 {
-    let question = question_at(alloc, set_of(&placed), verdicts.len())?;
+    let Ok(question) = question_at(alloc, set_of(&placed), verdicts.len()) else {
+        drop(placed);
+        drop(verdicts);
+        return Err(NoMemory);
+    };
     match question {
         Some(question) => Ok(asks(question, true, Phase::Trying(placed, verdicts))),
         None => {
@@ -94,7 +121,7 @@ pub(crate) fn question_at(
 ) -> Result<Option<Query>, NoMemory>
     ensures { IfOk result (λ q. q ≡ option_and_then (ask_of set.now) (slice_get (first_of set.now) place)) }
 {
-    let Some(sig) = first_signatures(set).get(place) else {
+    let Some(sig) = signature_at(set, place) else {
         return Ok(None);
     };
     let Some(read) = Rrsig::of(sig) else {
@@ -117,17 +144,36 @@ pub(crate) fn after_signature<V: Verifier>(
         (map verdict_value verdicts.items) (listed answer.now)
         (slice_get (first_of placed.set) (length verdicts.items))) }
 {
-    let place = verdicts.len();
-    let Some(verdict) = verdict_at(alloc, judge, set_of(&placed), place, answer)? else {
-        let set = chained_by(placed, verdicts)?;
-        return Ok(Phase::Marked(set));
-    };
+    match verdict_at(alloc, judge, set_of(&placed), verdicts.len(), answer) {
+        Ok(Some(verdict)) => after_verdict(query, placed, verdicts, verdict),
+        Ok(None) => marked_by(placed, verdicts),
+        Err(NoMemory) => {
+            drop(placed);
+            drop(verdicts);
+            Err(NoMemory)
+        }
+    }
+}
+
+// Where the verdict of one signature more leads its set: nothing more is asked where it proves the set.
+fn after_verdict(
+    query: &Query,
+    placed: PlacedSet,
+    verdicts: Vec<Verdict>,
+    verdict: Verdict,
+) -> Result<Phase, NoMemory>
+    ensures { IfOk result (λ p. phase_value p
+        ≡ verdict_leads query.now placed (map verdict_value verdicts.items) (verdict_value verdict)) }
+{
     let proved = verdict.is_proved();
     let mut verdicts = verdicts;
-    verdicts.push(verdict)?;
+    if let Err(NoMemory) = add_verdict(&mut verdicts, verdict) {
+        drop(placed);
+        drop(verdicts);
+        return Err(NoMemory);
+    }
     if proved {
-        let set = chained_by(placed, verdicts)?;
-        Ok(Phase::Marked(set))
+        marked_by(placed, verdicts)
     } else {
         try_from(query, placed, verdicts)
     }
@@ -145,7 +191,7 @@ fn verdict_at<V: Verifier>(
         (λ r. verdict_by (judge_of V.answers judge.now) set.now r (listed answer.now))
         (slice_get (first_of set.now) place)) }
 {
-    match first_signatures(set).get(place) {
+    match signature_at(set, place) {
         Some(sig) => {
             let verdict = verdict_of(alloc, judge, set, sig, answer)?;
             Ok(Some(verdict))

@@ -25,16 +25,27 @@ pub fn turn(alloc: Global, phase: Phase) -> Result<Need, NoMemory>
     match phase {
         Phase::Marked(set) => Ok(Need::SetEnds(set)),
         Phase::NeedsDs(placed) => {
-            let question = ds_ask_of(set_of(&placed))?;
+            let Ok(question) = ds_ask_of(set_of(&placed)) else {
+                drop(placed);
+                return Err(NoMemory);
+            };
             Ok(asks(question, true, Phase::NeedsDs(placed)))
         }
         Phase::Trying(placed, verdicts) => signature_need(alloc, placed, verdicts),
         Phase::AtName(seeker, class, name) => {
-            let question = ns_query(&name, class)?;
+            let Ok(question) = ns_query(&name, class) else {
+                drop(seeker);
+                drop(name);
+                return Err(NoMemory);
+            };
             Ok(asks(question, false, Phase::AtName(seeker, class, name)))
         }
         Phase::AtZone(seeker, class, zone) => {
-            let name = zone.try_clone()?;
+            let Ok(name) = zone.try_clone() else {
+                drop(seeker);
+                drop(zone);
+                return Err(NoMemory);
+            };
             let question = ds_query(name, class);
             Ok(asks(question, true, Phase::AtZone(seeker, class, zone)))
         }
