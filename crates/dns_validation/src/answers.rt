@@ -74,8 +74,14 @@ fn denied_answer(
     ensures { IfOk result (λ a. reply_of a
         ≡ denied_by now reply.query (found_by reply (outcome_value (Outcome.Denied proof))) proof) }
 {
-    let query = reply.query.try_clone()?;
-    let response = response_of(alloc, now, reply, Ending::Denied(proof), Denial::None)?;
+    let Ok(query) = reply.query.try_clone() else {
+        drop(reply);
+        return Err(NoMemory);
+    };
+    let Ok(response) = response_of(alloc, now, reply, Ending::Denied(proof), Denial::None) else {
+        drop(query);
+        return Err(NoMemory);
+    };
     let denied = denied(alloc, query, response, proof)?;
     Ok(Err(denied))
 }
@@ -91,6 +97,10 @@ fn response_of(
     ensures { IfOk result (λ r. r ≡ finished_value now reply.sets.items reply.received.message denial
         (steps_with_top reply.query (found_by reply (outcome_value Outcome.NeedsZone)) (ending_value ending))) }
 {
+    let Ok(told) = told_of(&reply.received.message, reply.received.empty) else {
+        drop(reply);
+        return Err(NoMemory);
+    };
     let JudgedReply {
         query,
         received,
@@ -99,13 +109,16 @@ fn response_of(
         entries,
         excuse,
     } = reply;
-    let told = told_of(&received.message, received.empty)?;
     let end = StepEnd {
         reply: Reply::Told(told),
         ending,
     };
     let top = ended(query, 0, end, entries, excuse);
-    let trail = trail_of(steps, top)?;
+    let Ok(trail) = trail_of(steps, top) else {
+        drop(received);
+        drop(sets);
+        return Err(NoMemory);
+    };
     finished(alloc, now, sets, received.message, denial, trail)
 }
 

@@ -33,7 +33,11 @@ pub(crate) fn end_step<V: Verifier>(
     ensures { OnOk result (state.new ≡ step_ended (terms_of V.answers context.now) so_far excuse.items
         (outcome_value outcome) state.old) }
 {
-    keep(context, state, &so_far)?;
+    if let Err(NoMemory) = keep(context, state, &so_far) {
+        drop(so_far);
+        drop(excuse);
+        return Err(NoMemory);
+    }
     if none_open(state) {
         end_last(context, state, so_far, excuse, outcome)
     } else {
@@ -111,6 +115,6 @@ fn end_last<V: Verifier>(
         excuse,
     };
     let answer = answer_of(context.alloc, context.judge.moment, reply, outcome)?;
-    state.ended = Some(answer);
+    drop(mem::replace(&mut state.ended, Some(answer)));
     Ok(())
 }

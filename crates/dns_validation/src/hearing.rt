@@ -61,7 +61,11 @@ fn take_ask(state: &mut State) -> Result<Option<Ask>, NoMemory>
     let Some(ask) = state.pending.take() else {
         return Ok(None);
     };
-    state.sends = one_more(state.sends)?;
+    let Ok(sends) = one_more(state.sends) else {
+        drop(ask);
+        return Err(NoMemory);
+    };
+    state.sends = sends;
     Ok(Some(ask))
 }
 
@@ -196,7 +200,10 @@ fn hear_judged<V: Verifier>(
         (as_received received)) }
 {
     match received {
-        Received::Failed(_) => end_bare(context, state, query, depth, by_fault()),
+        Received::Failed(error) => {
+            drop(error);
+            end_bare(context, state, query, depth, by_fault())
+        }
         Received::Message(received) => hear_nested(context, state, query, depth, received),
     }
 }
@@ -212,7 +219,12 @@ fn hear_nested<V: Verifier>(
     ensures { OnOk result (state.new ≡ heard_nested (terms_of V.answers context.now) state.old query depth
         received.message received.empty (foreign_in query (told_by received.message))) }
 {
-    match foreign_of(&query, &received.message)? {
+    let Ok(foreign) = foreign_of(&query, &received.message) else {
+        drop(query);
+        drop(received);
+        return Err(NoMemory);
+    };
+    match foreign {
         Some(ending) => {
             let reply = records_of(received);
             end_bare(context, state, query, depth, StepEnd { reply, ending })
@@ -249,7 +261,8 @@ fn hear_plain<V: Verifier>(
         (as_received received)) }
 {
     match received {
-        Received::Failed(_) => {
+        Received::Failed(error) => {
+            drop(error);
             let step = only_seen(context.alloc, query, depth, by_fault());
             add_step(context, state, step, Got::Probe(NsProbe::Failed))
         }

@@ -17,7 +17,7 @@ ghost use Rattle.dns_validation.specs.Validations.{AcceptedWhereKept};
 
 use crate::context::Context;
 use crate::made::made_by;
-use crate::open_step::{Seeking, StepSoFar, add_set, go_on, set_item};
+use crate::open_step::{Seeking, StepSoFar, go_on_with, set_item};
 use crate::state::{State, put};
 use crate::steps::{entry_for, next_number};
 use dns_cache::{Acceptance, CacheKey, Entry};
@@ -124,10 +124,12 @@ fn serve<V: Verifier>(
 {
     let origin = state.made.origin_of(&entry);
     let set = served_set(context.alloc, placed, entry);
-    let served = entry_for(&set.judged, origin, Vec::new(context.alloc))?;
-    let mut so_far = so_far;
-    add_set(&mut so_far, set, served, None)?;
-    go_on(context, state, so_far)
+    let Ok(served) = entry_for(&set.judged, origin, Vec::new(context.alloc)) else {
+        drop(so_far);
+        drop(set);
+        return Err(NoMemory);
+    };
+    go_on_with(context, state, so_far, set, served, None)
 }
 
 // The set with the mark that was kept, and its chain where it is Secure.
@@ -145,6 +147,7 @@ fn served_set(alloc: Global, placed: PlacedSet, entry: Entry) -> ChainedSet
     let chain = if is_secure(mark) {
         links_of(alloc, entry)
     } else {
+        drop(entry);
         Vec::new(alloc)
     };
     ChainedSet { judged, chain }

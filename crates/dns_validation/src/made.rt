@@ -69,7 +69,10 @@ impl MadeList {
     pub(crate) fn push(&mut self, made: Made) -> Result<(), NoMemory>
         ensures { OnOk result (self.new ≡ made ∷ self.old) }
     {
-        let key = made.key.try_clone()?;
+        let Ok(key) = made.key.try_clone() else {
+            drop(made);
+            return Err(NoMemory);
+        };
         let place = self.all.len();
         self.all.push(made)?;
         match note_place(&mut self.places, key, place) {

@@ -24,6 +24,7 @@ use dns_name::NoMemory;
 use dns_proof::ProofErrorKind;
 use dns_record::Query;
 use std::marker::Model;
+use std::mem;
 
 /// What a step came to so far.
 #[derive(Drop)]
@@ -109,7 +110,11 @@ pub(crate) fn open_step<V: Verifier>(
         received.empty state.old) }
 {
     let alloc = context.alloc;
-    let mut left = judged_part(alloc, depth, &received.message)?;
+    let Ok(mut left) = judged_part(alloc, depth, &received.message) else {
+        drop(query);
+        drop(received);
+        return Err(NoMemory);
+    };
     left.reverse();
     let so_far = StepSoFar {
         query,
@@ -135,7 +140,8 @@ pub(crate) fn go_on<V: Verifier>(
     let mut so_far = so_far;
     match next_set(&mut so_far) {
         Some(placed) => {
-            state.seeking = Some(Seeking { so_far, placed });
+            let seeking = Seeking { so_far, placed };
+            drop(mem::replace(&mut state.seeking, Some(seeking)));
             Ok(())
         }
         None => {
@@ -160,13 +166,16 @@ fn ending_item<V: Verifier>(
 ) -> Result<OpenStep, NoMemory>
     ensures { IfOk result (λ s. s ≡ ending_item_of (terms_of V.answers context.now) so_far.value) }
 {
-    let phase = start_ending(
+    let Ok(phase) = start_ending(
         context.alloc,
         &limits_of(context),
         &so_far.query,
         &so_far.received.message,
         &so_far.sets,
-    )?;
+    ) else {
+        drop(so_far);
+        return Err(NoMemory);
+    };
     Ok(OpenStep {
         so_far,
         asked: Vec::new(context.alloc),
@@ -183,14 +192,22 @@ pub(crate) fn set_item<V: Verifier>(
 ) -> Result<OpenStep, NoMemory>
     ensures { IfOk result (λ s. s ≡ set_item_of (terms_of V.answers context.now) so_far.value placed) }
 {
-    let cause = start_cause(&placed.set)?;
-    let phase = start_set(
+    let Ok(cause) = start_cause(&placed.set) else {
+        drop(so_far);
+        drop(placed);
+        return Err(NoMemory);
+    };
+    let Ok(phase) = start_set(
         context.alloc,
         &context.judge,
         &so_far.query,
         &so_far.received.message,
         placed,
-    )?;
+    ) else {
+        drop(so_far);
+        drop(cause);
+        return Err(NoMemory);
+    };
     Ok(OpenStep {
         so_far,
         asked: Vec::new(context.alloc),
@@ -211,14 +228,37 @@ pub(crate) fn set_ended<V: Verifier>(
     ensures { OnOk result (state.new ≡ went_on (terms_of V.answers context.now)
         (with_set so_far.value set (entry_of set.judged asked.items) (option_map kind_value cause)) state.old) }
 {
+    let Ok(entry) = entry_for(&set.judged, MarkOrigin::Table, asked) else {
+        drop(so_far);
+        drop(cause);
+        drop(set);
+        return Err(NoMemory);
+    };
+    go_on_with(context, state, so_far, set, entry, cause)
+}
+
+/// A set of a step is judged, by this entry and for this cause, and the step goes on.
+pub(crate) fn go_on_with<V: Verifier>(
+    context: &Context<'_, V>,
+    state: &mut State,
+    so_far: Box<StepSoFar>,
+    set: ChainedSet,
+    entry: JudgedSet,
+    cause: Option<ProofErrorKind>,
+) -> Result<(), NoMemory>
+    ensures { OnOk result (state.new ≡ went_on (terms_of V.answers context.now)
+        (with_set so_far.value set entry (option_map kind_value cause)) state.old) }
+{
     let mut so_far = so_far;
-    let entry = entry_for(&set.judged, MarkOrigin::Table, asked)?;
-    add_set(&mut so_far, set, entry, cause)?;
+    if let Err(NoMemory) = add_set(&mut so_far, set, entry, cause) {
+        drop(so_far);
+        return Err(NoMemory);
+    }
     go_on(context, state, so_far)
 }
 
-/// Adds a judged set, its entry and its cause.
-pub(crate) fn add_set(
+// Adds a judged set, its entry and its cause.
+fn add_set(
     so_far: &mut StepSoFar,
     set: ChainedSet,
     entry: JudgedSet,
@@ -235,11 +275,11 @@ pub(crate) fn add_set(
         drop(cause);
         return Err(NoMemory);
     }
-    so_far.causes.push(cause)?;
-    Ok(())
+    add_last(&mut so_far.causes, cause)
 }
 
-fn add_last<T: Drop>(list: &mut Vec<T>, last: T) -> Result<(), NoMemory>
+/// One more at the end of a list.
+pub(crate) fn add_last<T: Drop>(list: &mut Vec<T>, last: T) -> Result<(), NoMemory>
     ensures { OnOk result (list.new.items ≡ list.old.items ++ last ∷ []) }
 {
     list.push(last)?;
@@ -298,7 +338,10 @@ fn after_ask<V: Verifier>(
         drop(got);
         return Err(NoMemory);
     };
-    let phase = after_answer(context, so_far, phase, got)?;
+    let Ok(phase) = after_answer(context, so_far, phase, got) else {
+        drop(cause);
+        return Err(NoMemory);
+    };
     Ok((phase, cause))
 }
 

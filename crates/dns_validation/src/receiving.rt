@@ -103,8 +103,11 @@ fn message_without_records(alloc: Global, missing: NoRecords) -> Result<Message,
         response_code,
         authorities,
     } = missing;
+    let Ok(authorities) = with_soa(authorities, soa) else {
+        drop(query);
+        return Err(NoMemory);
+    };
     let queries = vec![in alloc; query]?;
-    let authorities = with_soa(authorities, soa)?;
     Ok(Message {
         id: 0,
         response: true,
@@ -133,6 +136,7 @@ fn with_soa(authorities: Vec<Record>, soa: Option<Record>) -> Result<Vec<Record>
     };
     let known = has_record(&authorities, &soa);
     if known {
+        drop(soa);
         return Ok(authorities);
     }
     let mut authorities = authorities;

@@ -12,7 +12,7 @@ ghost use Rattle.dns_validation.specs.Runs.{moves as moves_on, Turns};
 use crate::closing::end_step;
 use crate::context::{Context, limit_of};
 use crate::made::MadeList;
-use crate::open_step::{OpenStep, Seeking, answered, set_ended};
+use crate::open_step::{OpenStep, Seeking, add_last, answered, set_ended};
 use crate::steps::next_number;
 use dns_cache::Entry;
 use dns_evidence::{Asked, MOST_SENDS, Verifier};
@@ -23,6 +23,7 @@ use dns_name::NoMemory;
 use dns_trust::NsProbe;
 use std::collections::VecDeque;
 use std::marker::Model;
+use std::mem;
 
 /// How far a validation has come.
 #[derive(Drop)]
@@ -88,8 +89,15 @@ pub(crate) fn add_step<V: Verifier>(
 ) -> Result<(), NoMemory>
     ensures { OnOk result (state.new ≡ with_step (judge_of V.answers context.now.judge) step (got_value got) state.old) }
 {
-    let number = next_number(&state.closed)?;
-    state.closed.push(step)?;
+    let Ok(number) = next_number(&state.closed) else {
+        drop(step);
+        drop(got);
+        return Err(NoMemory);
+    };
+    if let Err(NoMemory) = add_last(&mut state.closed, step) {
+        drop(got);
+        return Err(NoMemory);
+    }
     give(context, &mut state.steps, AskRef::Step(number), got)
 }
 
@@ -104,11 +112,11 @@ fn give<V: Verifier>(
         ≡ given (judge_of V.answers context.now.judge) ask (got_value got) (reverse steps.old.items)) }
 {
     let Some(step) = steps.pop() else {
+        drop(got);
         return Ok(());
     };
     let answered = answered(context, step, ask, got)?;
-    steps.push(answered)?;
-    Ok(())
+    add_last(steps, answered)
 }
 
 // Why an ask is refused, if it is.
@@ -156,6 +164,7 @@ fn make_ask<V: Verifier>(
         None => wait(state, step, ask),
         Some(refused) => {
             let got = nothing(ask.judged);
+            drop(ask);
             let answered = answered(context, step, refused, got)?;
             put(state, answered)
         }
@@ -166,8 +175,11 @@ fn make_ask<V: Verifier>(
 fn wait(state: &mut State, step: OpenStep, ask: Ask) -> Result<(), NoMemory>
     ensures { OnOk result (state.new ≡ record state.old { steps = step ∷ state.old.steps; pending = Some ask }) }
 {
-    state.steps.push(step)?;
-    state.pending = Some(ask);
+    if let Err(NoMemory) = add_last(&mut state.steps, step) {
+        drop(ask);
+        return Err(NoMemory);
+    }
+    drop(mem::replace(&mut state.pending, Some(ask)));
     Ok(())
 }
 
@@ -175,8 +187,7 @@ fn wait(state: &mut State, step: OpenStep, ask: Ask) -> Result<(), NoMemory>
 pub(crate) fn put(state: &mut State, step: OpenStep) -> Result<(), NoMemory>
     ensures { OnOk result (state.new ≡ on_top step state.old) }
 {
-    state.steps.push(step)?;
-    Ok(())
+    add_last(&mut state.steps, step)
 }
 
 // One turn of an open step, which isn't among the others.
@@ -193,9 +204,16 @@ fn turn_step<V: Verifier>(
         phase,
         cause,
     } = step;
-    match turn(context.alloc, phase)? {
+    let Ok(need) = turn(context.alloc, phase) else {
+        drop(so_far);
+        drop(asked);
+        drop(cause);
+        return Err(NoMemory);
+    };
+    match need {
         Need::SetEnds(set) => set_ended(context, state, so_far, asked, cause, set),
         Need::StepEnds(outcome) => {
+            drop(cause);
             let so_far = Box::into_inner(so_far);
             end_step(context, state, so_far, asked, outcome)
         }

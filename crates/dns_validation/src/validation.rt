@@ -26,6 +26,7 @@ use dns_record::Query;
 use dns_trust::Judge;
 use std::alloc::Global;
 use std::collections::VecDeque;
+use std::mem;
 
 /// The validation of a query (RFC 4035, 5): it says what it asks, is told the reply to that, and goes on, until it has its answer.
 /// It holds no handle.
@@ -74,7 +75,10 @@ impl<'a, V: Verifier> Validation<'a, V> {
         ensures begins { IfOk result (λ v. state_of v ≡ begin_of query) }
         ensures run { IfOk result (λ v. (cached : List EntryValue) → Run (terms_in V.answers v) cached [] (state_of v)) }
     {
-        let request = request_for(alloc, &query, &options, true)?;
+        let Ok(request) = request_for(alloc, &query, &options, true) else {
+            drop(query);
+            return Err(NoMemory);
+        };
         begin(alloc, judge, query, request, options, iterations, ranges)
     }
 
@@ -166,7 +170,8 @@ impl<'a, V: Verifier> Validation<'a, V> {
         ensures ends { (cached : List EntryValue) (sends : List Sent) → Run (terms_in V.answers self.entry) cached sends (state_of self.entry)
             → (state_of self.entry).pending ≡ None → (state_of self.entry).seeking ≡ None → moves_on (state_of self.entry) ≡ false → IsSome result }
     {
-        let Validation { context: _, state } = self;
+        let Validation { context, state } = self;
+        drop(context);
         answer_in(state)
     }
 }
@@ -194,7 +199,11 @@ fn begin<'a, V: Verifier>(
     ensures begins { IfOk result (λ v. v.state ≡ begin_of query) }
     ensures run { IfOk result (λ v. (cached : List EntryValue) → Run (terms_of V.answers v.context) cached [] v.state) }
 {
-    let asked = query.try_clone()?;
+    let Ok(asked) = query.try_clone() else {
+        drop(query);
+        drop(request);
+        return Err(NoMemory);
+    };
     let state = first_state(alloc, asked);
     let context = Context {
         alloc,
@@ -259,6 +268,7 @@ fn take_entry<V: Verifier>(
         ⊎ HasTaken (terms_of V.answers context.now) state.old given state.new }
 {
     if state.seeking.is_none() {
+        drop(given);
         return;
     }
     match find_on(context, state, given) {
@@ -318,6 +328,7 @@ fn take<V: Verifier>(
         ⊎ HasHeard (terms_of V.answers context.now) state.old (reply_of reply) state.new }
 {
     if state.pending.is_none() {
+        drop(reply);
         return;
     }
     match go_on(context, state, reply) {
@@ -343,7 +354,7 @@ fn run_out<V>(context: &Context<'_, V>, state: &mut State)
     ensures { IsOut state.new }
 {
     let alloc = context.alloc;
-    *state = State {
+    let out = State {
         closed: Vec::new(alloc),
         steps: Vec::new(alloc),
         seeking: None,
@@ -353,6 +364,7 @@ fn run_out<V>(context: &Context<'_, V>, state: &mut State)
         kept: VecDeque::new(alloc),
         ended: Some(Err(NetError::NoMemory)),
     };
+    drop(mem::replace(state, out));
 }
 
 // The answer with which a validation has come to its end.
@@ -362,12 +374,15 @@ fn answer_in(state: State) -> Option<Result<DnsResponse, NetError>>
     let State {
         closed: _,
         steps: _,
-        seeking: _,
-        pending: _,
+        seeking,
+        pending,
         sends: _,
-        made: _,
+        made,
         kept: _,
         ended,
     } = state;
+    drop(seeking);
+    drop(pending);
+    drop(made);
     ended
 }

@@ -4,4 +4,4 @@ use Rattle.dns_validation.proofs.RunLemmas.{begun_run}
 use Rattle.dns_validation.proofs.validation.begin.Goals as goal
 
 pub returns-clause-run : goal.returns-clause-run
-returns-clause-run g c = begun_run _ _ _ refl (c.first_state-state.ensures ∙ ap begin c.in_ok-asked.ensures)
+returns-clause-run g c = begun_run _ _ _ refl (c.first_state-state.ensures ∙ ap begin c.in-Ok.ensures)
