@@ -21,6 +21,7 @@ use dns_name::NoMemory;
 use dns_record::Query;
 use dns_trust::{Judge, TrustAnchors};
 use std::alloc::Global;
+use std::mem;
 use std::ops::RangeInclusive;
 
 /// A validator over a handle (RFC 4035, 5): its answers have marks, and chains for what is Secure.
@@ -67,7 +68,12 @@ impl<H: DnsHandle + Drop, V: Verifier + Drop> DnssecDnsHandle<H, V, DefaultCache
         ensures iterations { IfOk result (λ h. iterations_of h ≡ default_iterations) }
         ensures faults { IfOk result (λ h. faults_of h ≡ 0) }
     {
-        let cache = default_cache(alloc)?;
+        let Ok(cache) = default_cache(alloc) else {
+            drop(handle);
+            drop(anchors);
+            drop(verifier);
+            return Err(NoMemory);
+        };
         DnssecDnsHandle::with_cache(handle, anchors, verifier, cache)
     }
 
@@ -98,9 +104,12 @@ impl<H: DnsHandle + Drop, V: Verifier + Drop> DnssecDnsHandle<H, V, DefaultCache
           ranges = default_ranges;
         }) }
     {
-        let cache = LruValidationCache::new(alloc, capacity)?;
         let mut validator = self;
-        validator.cache = cache;
+        let Ok(cache) = LruValidationCache::new(alloc, capacity) else {
+            drop(validator);
+            return Err(NoMemory);
+        };
+        drop(mem::replace(&mut validator.cache, cache));
         validator.ranges = TtlRanges::new();
         Ok(validator)
     }
@@ -285,14 +294,17 @@ impl<H: DnsHandle + Drop, V: Verifier + Drop, C: AcceptedBy<V> + Drop> DnssecDns
     {
         let DnssecDnsHandle {
             handle,
-            anchors: _,
-            verifier: _,
-            cache: _,
+            anchors,
+            verifier,
+            cache,
             ranges: _,
             iterations: _,
             sends: _,
             faults: _,
         } = self;
+        drop(anchors);
+        drop(verifier);
+        drop(cache);
         handle
     }
 }

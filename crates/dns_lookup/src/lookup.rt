@@ -63,7 +63,9 @@ pub(crate) fn look_up<H: DnsHandle, V: Verifier, C: AcceptedBy<V>>(
     let now = judge.moment;
     let verifier = judge.verifier;
     let Bounds { iterations, ranges } = bounds;
-    let validation = Validation::new(alloc, judge, query, options, iterations, ranges)?;
+    let Ok(validation) = Validation::new(alloc, judge, query, options, iterations, ranges) else {
+        return Err(NetError::NoMemory);
+    };
     drive(alloc, handle, cache, verifier, validation, now)
 }
 
@@ -99,7 +101,10 @@ pub(crate) fn look_up_by_request<H: DnsHandle, V: Verifier, C: AcceptedBy<V>>(
     let now = judge.moment;
     let verifier = judge.verifier;
     let Bounds { iterations, ranges } = bounds;
-    let validation = Validation::by_request(alloc, judge, query, request, iterations, ranges)?;
+    let made = Validation::by_request(alloc, judge, query, request, iterations, ranges);
+    let Ok(validation) = made else {
+        return Err(NetError::NoMemory);
+    };
     drive(alloc, handle, cache, verifier, validation, now)
 }
 
@@ -129,7 +134,14 @@ fn drive<H: DnsHandle, V: Verifier, C: AcceptedBy<V>>(
         (call_by (terms_in V.answers begun.entry) (use_of C.ValidationCache cache.old cache.new) handle.old handle.new) a.trail) }
 {
     let mut validation = begun;
-    'asks: while let Some(asking) = serve(alloc, cache, verifier, &mut validation, now)? {
+    'asks: loop {
+        let Ok(wanted) = serve(alloc, cache, verifier, &mut validation, now) else {
+            drop(validation);
+            return Err(NetError::NoMemory);
+        };
+        let Some(asking) = wanted else {
+            break;
+        };
         let reply = handle.send(alloc, asking.request, now);
         validation.answer(reply);
     }
@@ -160,8 +172,9 @@ fn serve<V: Verifier, C: AcceptedBy<V>>(
             None => return Ok(None),
             Some(Wanted::Reply(asking)) => return Ok(Some(asking)),
             Some(Wanted::Entry(key)) => {
-                let given = cache.get_for(alloc, &key, now, verifier)?;
-                validation.found(given);
+                let given = cache.get_for(alloc, &key, now, verifier);
+                drop(key);
+                validation.found(given?);
             }
         }
     }

@@ -51,7 +51,7 @@ pub found-requires : goal.found-requires
 found-requires g c =
     let terms = c.next.ensures.terms ∙ c.keep.ensures.terms ∙ c.sets.invariant.terms in
     record {
-      accepted = subst (λ answers. AcceptedWhereKept answers c.in_ok-given-in-Some-Entry.given)
+      accepted = subst (λ answers. AcceptedWhereKept answers c.in_ok-given-in-Some-Entry.field-0)
           (sym (ap (λ (t : Terms). t.judge.answers) terms ∙ c.requires.verifier))
           c.in_ok-given-in-Some-Entry.ensures.accepted;
     }
@@ -59,7 +59,7 @@ found-requires g c =
 pub sets-smaller : goal.sets-smaller
 sets-smaller g c =
     fewer_kept _ _ _ c.in_ok-keep.ensures.state
-    (serving_fewer _ _ _ _ _ _ _ _ _ c.in-Some-Entry.key c.in_ok-given-in-Some-Entry.given
+    (serving_fewer _ _ _ _ _ _ _ _ _ c.in-Some-Entry.key c.in_ok-given-in-Some-Entry.field-0
     (serving_kept _ _ _ _ _ _ _ _
     (cache_state g.C.ValidationCache c.keep.new.cache) c.sets.invariant c.keep.ensures.terms
     c.in_ok-keep.ensures.state
@@ -71,7 +71,7 @@ sets-smaller g c =
 
 pub sets-preserved : goal.sets-preserved
 sets-preserved g c =
-    let given = c.in_ok-given-in-Some-Entry.given in
+    let given = c.in_ok-given-in-Some-Entry.field-0 in
     let counted = hits_any NoMemory ℕ (g.C.ValidationCache.hits c.keep.new.cache) (option_map (λ p. p.0) given) in
     serving_told _ _ _ _ _ _ _ _ _ _ _ c.in-Some-Entry.key given
     (serving_kept _ _ _ _ _ _ _ _
