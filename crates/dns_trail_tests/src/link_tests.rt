@@ -16,47 +16,39 @@ fn one_key(rt: &impl Abort, alloc: Global) -> Vec<Rdata> {
     keys
 }
 
-fn anchored(rt: &impl Abort, alloc: Global) -> Link {
-    Link::Anchored {
-        owner: name(rt, alloc, "ORG."),
-        class: DNSClass::IN,
-        key: key(rt, alloc),
-    }
-}
-
-fn key_set(rt: &impl Abort, alloc: Global) -> Link {
-    let mut links = Vec::new(alloc);
-    links.push(0).expect(rt, "memory");
-    Link::KeySet {
-        owner: name(rt, alloc, "ORG."),
-        class: DNSClass::IN,
-        keys: one_key(rt, alloc),
-        links,
-    }
-}
-
-fn delegation(rt: &impl Abort, alloc: Global) -> Link {
-    Link::Signed {
-        owner: name(rt, alloc, "ORG."),
-        class: DNSClass::IN,
-        record_type: RecordType::DS,
-        rdatas: one_key(rt, alloc),
-        sig: key(rt, alloc),
-        key_link: 1,
-        key: key(rt, alloc),
-    }
-}
-
 fn push(rt: &impl Abort, links: &mut Vec<Link>, link: Link) {
     links.push(link).expect(rt, "memory");
 }
 
 /// An anchored key, its key set and a signed set of DS records, whose rdatas are alike.
 fn links(rt: &impl Abort, alloc: Global) -> Vec<Link> {
+    let class = DNSClass::IN;
+    let anchored = Link::Anchored {
+        owner: name(rt, alloc, "ORG."),
+        class,
+        key: key(rt, alloc),
+    };
     let mut links = Vec::new(alloc);
-    push(rt, &mut links, anchored(rt, alloc));
-    push(rt, &mut links, key_set(rt, alloc));
-    push(rt, &mut links, delegation(rt, alloc));
+    push(rt, &mut links, anchored);
+    let mut first = Vec::new(alloc);
+    first.push(0).expect(rt, "memory");
+    let key_set = Link::KeySet {
+        owner: name(rt, alloc, "ORG."),
+        class,
+        keys: one_key(rt, alloc),
+        links: first,
+    };
+    push(rt, &mut links, key_set);
+    let delegation = Link::Signed {
+        owner: name(rt, alloc, "ORG."),
+        class,
+        record_type: RecordType::DS,
+        rdatas: one_key(rt, alloc),
+        sig: key(rt, alloc),
+        key_link: 1,
+        key: key(rt, alloc),
+    };
+    push(rt, &mut links, delegation);
     links
 }
 
@@ -99,10 +91,6 @@ const NUMBERED: &[Numbered] = &[
     Numbered(&[], false),
 ];
 
-fn numbered_rows() -> &'static [Numbered] {
-    NUMBERED
-}
-
 fn rows_hold(links: &[Link], owner: &NameRef) -> bool {
     for row in rows() {
         if shown(links, owner, row) != row.want {
@@ -113,7 +101,7 @@ fn rows_hold(links: &[Link], owner: &NameRef) -> bool {
 }
 
 fn numbered_rows_hold(links: &[Link], owner: &NameRef, keys: &[Rdata]) -> bool {
-    for row in numbered_rows() {
+    for row in NUMBERED {
         if all_shown(links, owner, DNSClass::IN, keys, row.0) != row.1 {
             return false;
         }
@@ -121,18 +109,7 @@ fn numbered_rows_hold(links: &[Link], owner: &NameRef, keys: &[Rdata]) -> bool {
     true
 }
 
-/// Whether links show to an owner what the tables say.
-fn all_hold(rt: &impl Abort, alloc: Global, links: &[Link]) -> bool {
-    let owner = name(rt, alloc, "oRg.");
-    let keys = one_key(rt, alloc);
-    let held = rows_hold(links, &owner.borrowed())
-        && numbered_rows_hold(links, &owner.borrowed(), &keys);
-    drop(keys);
-    drop(owner);
-    held
-}
-
-/// Whether the links of a copied chain show it.
+/// Whether the links of a copied chain show to an owner what the tables say.
 fn is_shown(rt: &impl Abort, alloc: Global) -> bool {
     let chain = Chain {
         section: Section::Answer,
@@ -140,7 +117,12 @@ fn is_shown(rt: &impl Abort, alloc: Global) -> bool {
     };
     let copy = chain.try_clone().expect(rt, "memory");
     drop(chain);
-    let held = all_hold(rt, alloc, &copy.links);
+    let owner = name(rt, alloc, "oRg.");
+    let keys = one_key(rt, alloc);
+    let held = rows_hold(&copy.links, &owner.borrowed())
+        && numbered_rows_hold(&copy.links, &owner.borrowed(), &keys);
+    drop(keys);
+    drop(owner);
     drop(copy);
     held
 }

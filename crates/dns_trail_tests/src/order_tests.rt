@@ -1,8 +1,7 @@
 //! The order of a trail's steps, short and long ones, and copies of steps.
-use crate::rows::{Row, check_rows, name};
+use crate::rows::{check_row, name};
 use dns_evidence::{Asked, Ending, JudgedSet, Reply};
 use dns_model::{AskRef, MarkOrigin, Proof, Section};
-use dns_name::Name;
 use dns_record::{DNSClass, Query, RecordType};
 use dns_trail::is_in_order;
 use std::alloc::Global;
@@ -76,15 +75,10 @@ fn bare_step(rt: &impl Abort, alloc: Global) -> Asked {
     }
 }
 
-/// Asks for this too.
-fn push_ask(rt: &impl Abort, asks: &mut Vec<AskRef>, ask: AskRef) {
-    asks.push(ask).expect(rt, "memory");
-}
-
 /// A set of `a. A` that was looked up before, and asks so.
 fn set(rt: &impl Abort, alloc: Global, ask: AskRef) -> JudgedSet {
     let mut asked = Vec::new(alloc);
-    push_ask(rt, &mut asked, ask);
+    asked.push(ask).expect(rt, "memory");
     JudgedSet {
         section: Section::Answer,
         owner: name(rt, alloc, "a."),
@@ -101,7 +95,7 @@ fn ask(rt: &impl Abort, alloc: Global, step: &mut Asked, ask: AskRef) {
     if step.sets.len() < 2 {
         step.sets.push(set(rt, alloc, ask)).expect(rt, "memory");
     } else {
-        push_ask(rt, &mut step.excuse, ask);
+        step.excuse.push(ask).expect(rt, "memory");
     }
 }
 
@@ -158,13 +152,6 @@ fn add_all(rt: &impl Abort, alloc: Global, steps: &mut Vec<Asked>, row: &Steps) 
     add(rt, alloc, steps, row.3);
 }
 
-fn add_copies(rt: &impl Abort, copies: &mut Vec<Asked>, steps: &[Asked]) {
-    for step in steps {
-        let copy = step.try_clone().expect(rt, "memory");
-        copies.push(copy).expect(rt, "memory");
-    }
-}
-
 /// The steps came upon another class, and their sets were looked up before.
 fn are_bare(steps: &[Asked]) -> bool {
     for step in steps {
@@ -175,13 +162,9 @@ fn are_bare(steps: &[Asked]) -> bool {
     true
 }
 
-fn is_named(name: &Name, wire: &[u8]) -> bool {
-    name.wire() == wire
-}
-
 fn ends_so(ending: &Ending) -> bool {
     matches!(ending, Ending::Foreign { owner, class, record_type }
-        if is_named(owner, b"\x01b\0") && *class == DNSClass::CH && *record_type == RecordType::TXT)
+        if owner.wire() == b"\x01b\0".as_slice() && *class == DNSClass::CH && *record_type == RecordType::TXT)
 }
 
 fn are_repeated(sets: &[JudgedSet]) -> bool {
@@ -196,21 +179,29 @@ fn are_repeated(sets: &[JudgedSet]) -> bool {
 /// Copies of the steps are as they are, and in order where they are.
 fn copies_are(rt: &impl Abort, alloc: Global, steps: &[Asked], want: bool) -> bool {
     let mut copies = Vec::new(alloc);
-    add_copies(rt, &mut copies, steps);
-    copies.len() == steps.len() && are_bare(&copies) && is_in_order(&copies) == want
+    for step in steps {
+        let copy = step.try_clone().expect(rt, "memory");
+        copies.push(copy).expect(rt, "memory");
+    }
+    let held = copies.len() == steps.len() && are_bare(&copies) && is_in_order(&copies) == want;
+    drop(copies);
+    held
 }
 
-impl Row for Steps {
-    fn holds(&self, rt: &impl Abort, alloc: Global) -> bool {
-        let mut steps = Vec::new(alloc);
-        add_all(rt, alloc, &mut steps, self);
-        is_in_order(&steps) == self.4 && copies_are(rt, alloc, &steps, self.4)
-    }
+/// The steps of a row are in order where it says so, and so are their copies.
+fn are_ordered(rt: &impl Abort, alloc: Global, row: &Steps) -> bool {
+    let mut steps = Vec::new(alloc);
+    add_all(rt, alloc, &mut steps, row);
+    let held = is_in_order(&steps) == row.4 && copies_are(rt, alloc, &steps, row.4);
+    drop(steps);
+    held
 }
 
 #[test]
 fn a_trail_is_in_order_where_each_step_is_asked_once_and_ends_in_turn(rt: HostRuntime) {
-    check_rows(&rt, rt.alloc(), rows());
+    for row in rows() {
+        check_row(&rt, row.0, are_ordered(&rt, rt.alloc(), &row.1));
+    }
 }
 
 /// One step, by its depth and whether it is to be judged or only to be seen; whether it is in order.
@@ -223,18 +214,18 @@ const TOPS: &[(&str, Top)] = &[
     ("seen at the greatest depth", Top(65535, false, false)),
 ];
 
-impl Row for Top {
-    fn holds(&self, rt: &impl Abort, alloc: Global) -> bool {
-        let mut step = bare_step(rt, alloc);
-        step.depth = self.0;
-        step.judged = self.1;
-        let held = is_in_order(slice::from_ref(&step)) == self.2;
-        drop(step);
-        held
-    }
+fn is_top(rt: &impl Abort, alloc: Global, row: &Top) -> bool {
+    let mut step = bare_step(rt, alloc);
+    step.depth = row.0;
+    step.judged = row.1;
+    let held = is_in_order(slice::from_ref(&step)) == row.2;
+    drop(step);
+    held
 }
 
 #[test]
 fn the_last_step_is_judged_at_depth_0(rt: HostRuntime) {
-    check_rows(&rt, rt.alloc(), TOPS);
+    for row in TOPS {
+        check_row(&rt, row.0, is_top(&rt, rt.alloc(), &row.1));
+    }
 }
