@@ -5,33 +5,37 @@ use dns_name::Name;
 use dns_proof::{ProofError, ProofErrorKind};
 use dns_record::{DNSClass, Query, RecordType};
 use std::alloc::Global;
+use std::fmt::Display;
 use std::process::Abort;
 
-/// The texts of the causes, in the order of `cause`.
-const TEXTS: &[&str] = &[
-    "rrsigs are not present for: example. record_type: NS",
-    "communication failure for query: example. IN DS",
-    "rrsigs were not able to be verified: example., type: NS",
-    "no dnskey was found: example.",
-    "ds record exists, but no dnskey: example.",
-    "ds record should exist: example.",
-    "ds record does not exist: example.",
-    "unknown or reserved key algorithm",
-    "internal error computing the key tag for: example.",
-    "unsupported key algorithms",
-    "dnskey has no ds: example.",
-    "dnskey insecure: example., key_tag: 44745",
-    "dnskey revoked: example., key_tag: 44745",
-    "not a zone signing key: example. key_tag: 44745",
-    "algorithm mismatch rrsig: 13 dnskey: 8",
-    "ExpiredRrsig",
-    "dnskey and rrset failed to verify: example. key_tag: 44745",
-    "out of memory",
+/// A cause, by its number in `cause`, and its text.
+struct Row(usize, &'static str);
+
+#[rattlefmt::skip]
+const ROWS: &[Row] = &[
+    Row(0, "rrsigs are not present for: example. record_type: NS"),
+    Row(1, "communication failure for query: example. IN DS"),
+    Row(2, "rrsigs were not able to be verified: example., type: NS"),
+    Row(3, "no dnskey was found: example."),
+    Row(4, "ds record exists, but no dnskey: example."),
+    Row(5, "ds record should exist: example."),
+    Row(6, "ds record does not exist: example."),
+    Row(7, "unknown or reserved key algorithm"),
+    Row(8, "internal error computing the key tag for: example."),
+    Row(9, "unsupported key algorithms"),
+    Row(10, "dnskey has no ds: example."),
+    Row(11, "dnskey insecure: example., key_tag: 44745"),
+    Row(12, "dnskey revoked: example., key_tag: 44745"),
+    Row(13, "not a zone signing key: example. key_tag: 44745"),
+    Row(14, "algorithm mismatch rrsig: 13 dnskey: 8"),
+    Row(15, "ExpiredRrsig"),
+    Row(16, "dnskey and rrset failed to verify: example. key_tag: 44745"),
+    Row(17, "out of memory"),
 ];
 
 /// The one function that names the table, since its proof goes over it.
-fn texts() -> &'static [&'static str] {
-    TEXTS
+fn rows() -> &'static [Row] {
+    ROWS
 }
 
 /// Each cause by its number. Not each has the name.
@@ -69,58 +73,31 @@ fn cause(name: Name, number: usize) -> ProofErrorKind {
     }
 }
 
-/// A Bogus error with a cause.
-fn error(rt: &impl Abort, alloc: Global, number: usize) -> ProofError {
+/// A cause, or an error behind its mark, reads so.
+fn reads<D: Display>(rt: &impl Abort, alloc: Global, shown: &D, mark: &str, want: &str) -> bool {
+    let text = format!(in alloc; "{shown}").expect(rt, "memory");
+    let held = text.as_str().strip_prefix(mark) == Some(want);
+    drop(text);
+    held
+}
+
+/// A copy of a Bogus error with the row's cause reads so, and a copy of its cause alone.
+fn is_told_so(rt: &impl Abort, alloc: Global, row: &Row) -> bool {
     let name = name_of(rt, alloc, "example.");
-    ProofError::new(Proof::Bogus, cause(name, number))
-}
-
-/// A cause reads so.
-fn reads(rt: &impl Abort, alloc: Global, kind: &ProofErrorKind, want: &str) -> bool {
-    let text = format!(in alloc; "{kind}").expect(rt, "memory");
-    let held = text.as_str() == want;
-    drop(text);
-    held
-}
-
-/// An error reads so behind its mark.
-fn tells(rt: &impl Abort, alloc: Global, error: &ProofError, want: &str) -> bool {
-    let text = format!(in alloc; "{error}").expect(rt, "memory");
-    let held = text.as_str().strip_prefix("Bogus: ") == Some(want);
-    drop(text);
-    held
-}
-
-/// A copy of an error does, and a copy of its cause reads so alone.
-fn copies_tell(rt: &impl Abort, alloc: Global, error: &ProofError, want: &str) -> bool {
+    let error = ProofError::new(Proof::Bogus, cause(name, row.0));
     let kind = error.kind().try_clone().expect(rt, "memory");
     let copy = error.try_clone().expect(rt, "memory");
-    let held = reads(rt, alloc, &kind, want) && tells(rt, alloc, &copy, want);
+    drop(error);
+    let held = reads(rt, alloc, &kind, "", row.1) && reads(rt, alloc, &copy, "Bogus: ", row.1);
     drop(copy);
     drop(kind);
     held
 }
 
-fn is_told_so(rt: &impl Abort, alloc: Global, number: usize, want: &str) -> bool {
-    let error = error(rt, alloc, number);
-    let held = copies_tell(rt, alloc, &error, want);
-    drop(error);
-    held
-}
-
-/// The text of the cause with this number.
-fn text(number: usize) -> &'static str {
-    match texts().get(number) {
-        Some(text) => text,
-        None => "",
-    }
-}
-
 #[test]
 fn each_cause_has_its_text(rt: HostRuntime) {
-    for number in 0..texts().len() {
-        let want = text(number);
-        check_row(&rt, want, is_told_so(&rt, rt.alloc(), number, want));
+    for row in rows() {
+        check_row(&rt, row.1, is_told_so(&rt, rt.alloc(), row));
     }
 }
 
@@ -136,19 +113,14 @@ fn is_long(kind: &ProofErrorKind) -> bool {
     }
 }
 
-fn copies_are_long(rt: &impl Abort, error: &ProofError) -> bool {
+fn is_copied(rt: &impl Abort, alloc: Global) -> bool {
+    let error = ProofError::ds_should_exist(name_of(rt, alloc, LONGEST));
     let kind = error.kind().try_clone().expect(rt, "memory");
     let copy = error.try_clone().expect(rt, "memory");
+    drop(error);
     let held = is_long(&kind) && is_long(copy.kind()) && copy.proof == Proof::Bogus;
     drop(copy);
     drop(kind);
-    held
-}
-
-fn is_copied(rt: &impl Abort, alloc: Global) -> bool {
-    let error = ProofError::ds_should_exist(name_of(rt, alloc, LONGEST));
-    let held = copies_are_long(rt, &error);
-    drop(error);
     held
 }
 

@@ -1,28 +1,19 @@
 //! What a cache gives is a copy of all that was put in.
-use crate::parts::{check_row, key, name_of, rdata};
+use crate::parts::{anchored, check_row, key, name_of};
 use dns_cache::{
     Entry, ListCache, LruValidationCache, ProofError, ProofErrorKind, RrsetProof, ValidationCache,
 };
 use dns_evidence::{Chain, Link};
 use dns_model::{Proof, Section};
-use dns_record::DNSClass;
 use std::alloc::Global;
 use std::process::Abort;
 
 const KEY: &[u8] = b"\x01\x01\x03\x0d";
 
-fn link(rt: &impl Abort, alloc: Global) -> Link {
-    Link::Anchored {
-        owner: name_of(rt, alloc, "."),
-        class: DNSClass::IN,
-        key: rdata(rt, alloc, KEY),
-    }
-}
-
 /// A chain of one link.
 fn chain(rt: &impl Abort, alloc: Global) -> Chain {
     let mut links = Vec::new(alloc);
-    links.push(link(rt, alloc)).expect(rt, "memory");
+    links.push(anchored(rt, alloc, KEY)).expect(rt, "memory");
     Chain {
         section: Section::Authority,
         links,
@@ -84,32 +75,28 @@ fn is_bogus(entry: &Entry) -> bool {
     }
 }
 
-/// What a cache gives for a key at the last moment.
-fn given<C: ValidationCache>(rt: &impl Abort, alloc: Global, cache: &mut C, number: u8) -> Entry {
+/// What a cache gives for the key of an entry that is put in, at the last moment.
+fn given<C: ValidationCache>(
+    rt: &impl Abort,
+    alloc: Global,
+    cache: &mut C,
+    entry: Entry,
+    number: u8,
+) -> Entry {
+    cache.insert(alloc, entry).expect(rt, "memory");
     let key = key(rt, alloc, number, 0);
     let given = cache.get(alloc, &key, 6);
     drop(key);
     given.expect(rt, "memory").expect(rt, "an entry")
 }
 
-fn gives_secure<C: ValidationCache>(rt: &impl Abort, alloc: Global, cache: &mut C) -> bool {
-    cache.insert(alloc, secure(rt, alloc)).expect(rt, "memory");
-    let given = given(rt, alloc, cache, 1);
-    let held = is_secure(&given);
-    drop(given);
-    held
-}
-
-fn gives_bogus<C: ValidationCache>(rt: &impl Abort, alloc: Global, cache: &mut C) -> bool {
-    cache.insert(alloc, bogus(rt, alloc)).expect(rt, "memory");
-    let given = given(rt, alloc, cache, 2);
-    let held = is_bogus(&given);
-    drop(given);
-    held
-}
-
 fn gives_both<C: ValidationCache>(rt: &impl Abort, alloc: Global, cache: &mut C) -> bool {
-    gives_secure(rt, alloc, cache) && gives_bogus(rt, alloc, cache)
+    let first = given(rt, alloc, cache, secure(rt, alloc), 1);
+    let other = given(rt, alloc, cache, bogus(rt, alloc), 2);
+    let held = is_secure(&first) && is_bogus(&other);
+    drop(other);
+    drop(first);
+    held
 }
 
 fn list_gives_both(rt: &impl Abort, alloc: Global) -> bool {

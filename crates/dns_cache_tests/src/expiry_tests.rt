@@ -1,4 +1,4 @@
-use crate::parts::{addresses, check_row, name_of, rdata};
+use crate::parts::{addresses, anchored, check_row, name_of, rdata};
 use dns_cache::{ProofError, ProofErrorKind, RrsetProof, TtlRange, TtlRanges};
 use dns_evidence::{Chain, Link};
 use dns_model::{Proof, Section};
@@ -102,25 +102,13 @@ fn signed_link(rt: &impl Abort, alloc: Global, signed: &[u8]) -> Link {
     }
 }
 
-fn anchored_link(rt: &impl Abort, alloc: Global) -> Link {
-    Link::Anchored {
-        owner: name_of(rt, alloc, "."),
-        class: DNSClass::IN,
-        key: rdata(rt, alloc, b""),
-    }
-}
-
-fn put_links(rt: &impl Abort, alloc: Global, links: &mut Vec<Link>, signed: &[&[u8]]) {
-    links.push(anchored_link(rt, alloc)).expect(rt, "memory");
+fn chain_of(rt: &impl Abort, alloc: Global, signed: &[&[u8]]) -> Chain {
+    let mut links = Vec::new(alloc);
+    links.push(anchored(rt, alloc, b"")).expect(rt, "memory");
     for next in signed {
         let link = signed_link(rt, alloc, next);
         links.push(link).expect(rt, "memory");
     }
-}
-
-fn chain_of(rt: &impl Abort, alloc: Global, signed: &[&[u8]]) -> Chain {
-    let mut links = Vec::new(alloc);
-    put_links(rt, alloc, &mut links, signed);
     Chain {
         section: Section::Answer,
         links,

@@ -59,23 +59,14 @@ fn push_record(
     records.push(next).expect(rt, "memory");
 }
 
-fn push_all(
-    rt: &impl Abort,
-    alloc: Global,
-    records: &mut Vec<Record>,
-    rrsigs: &mut Vec<Record>,
-    row: &Row,
-) {
-    let [first, last, signature] = row.ends;
-    push_record(rt, alloc, records, row, RecordType::A, &[192, 0, 2, first]);
-    push_record(rt, alloc, records, row, RecordType::A, &[192, 0, 2, last]);
-    push_record(rt, alloc, rrsigs, row, RecordType::RRSIG, &[signature]);
-}
-
 fn set_of(rt: &impl Abort, alloc: Global, row: &Row) -> RecordSet {
+    let [first, last, signature] = row.ends;
+    let a = RecordType::A;
     let mut records = Vec::new(alloc);
+    push_record(rt, alloc, &mut records, row, a, &[192, 0, 2, first]);
+    push_record(rt, alloc, &mut records, row, a, &[192, 0, 2, last]);
     let mut rrsigs = Vec::new(alloc);
-    push_all(rt, alloc, &mut records, &mut rrsigs, row);
+    push_record(rt, alloc, &mut rrsigs, row, RecordType::RRSIG, &[signature]);
     RecordSet {
         name: name_of(rt, alloc, row.owner),
         record_type: RecordType::A,

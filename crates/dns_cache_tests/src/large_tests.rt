@@ -1,15 +1,11 @@
 //! Much is kept and copied.
 use crate::parts::{check_row, key, put};
-use dns_cache::{CacheKey, Entry, ListCache, LruValidationCache, ValidationCache};
+use dns_cache::{CacheKey, ListCache, LruValidationCache, ValidationCache};
 use std::alloc::Global;
 use std::hash::{BuildHasherDefault, FoldHasher};
 use std::process::Abort;
 
 const MANY: usize = 70_000;
-
-fn is_large(entry: &Entry, key: &CacheKey) -> bool {
-    entry.key == *key && entry.key.set.records.len() > MANY
-}
 
 fn is_kept<C: ValidationCache>(
     rt: &impl Abort,
@@ -21,7 +17,7 @@ fn is_kept<C: ValidationCache>(
     put(rt, alloc, cache, copy, 9, 5);
     let given = cache.get(alloc, key, 0).expect(rt, "memory");
     let entry = given.expect(rt, "an entry");
-    let held = is_large(&entry, key);
+    let held = entry.key == *key && entry.key.set.records.len() > MANY;
     drop(entry);
     held
 }
@@ -52,29 +48,20 @@ fn a_set_of_70_000_records_is_kept(rt: HostRuntime) {
     check_row(&rt, "70,001 records", both_keep(&rt, rt.alloc()));
 }
 
-fn gives_none(rt: &impl Abort, alloc: Global, cache: &mut LruValidationCache) -> bool {
-    let key = key(rt, alloc, 1, 0);
-    let given = cache.get(alloc, &key, 0);
-    drop(key);
-    match given.expect(rt, "memory") {
-        Some(entry) => {
-            drop(entry);
-            false
-        }
-        None => true,
-    }
-}
-
-fn is_made(rt: &impl Abort, alloc: Global) -> bool {
+fn gives_none(rt: &impl Abort, alloc: Global) -> bool {
     let hasher: BuildHasherDefault<FoldHasher> = BuildHasherDefault::new();
     let made = LruValidationCache::with_hasher(alloc, usize::MAX, hasher);
     let mut cache = made.expect(rt, "memory");
-    let held = gives_none(rt, alloc, &mut cache);
+    let key = key(rt, alloc, 1, 0);
+    let given = cache.get(alloc, &key, 0).expect(rt, "memory");
     drop(cache);
+    drop(key);
+    let held = given.is_none();
+    drop(given);
     held
 }
 
 #[test]
 fn the_greatest_capacity_takes_no_room_at_first(rt: HostRuntime) {
-    check_row(&rt, "the greatest usize", is_made(&rt, rt.alloc()));
+    check_row(&rt, "the greatest usize", gives_none(&rt, rt.alloc()));
 }

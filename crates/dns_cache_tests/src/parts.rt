@@ -1,5 +1,6 @@
-//! What tests share: the assertion on a row, and records, sets, keys and entries.
+//! What tests share: the assertion on a row, and records, sets, links, keys and entries.
 use dns_cache::{CacheKey, Entry, RrsetProof, ValidationCache};
+use dns_evidence::Link;
 use dns_model::Proof;
 use dns_name::Name;
 use dns_record::{DNSClass, Query, Rdata, Record, RecordSet, RecordType};
@@ -42,6 +43,15 @@ pub(crate) fn record(
     }
 }
 
+/// A link to a trusted key of the root.
+pub(crate) fn anchored(rt: &impl Abort, alloc: Global, key: &[u8]) -> Link {
+    Link::Anchored {
+        owner: name_of(rt, alloc, "."),
+        class: DNSClass::IN,
+        key: rdata(rt, alloc, key),
+    }
+}
+
 /// The question for the addresses of a name.
 pub(crate) fn query(rt: &impl Abort, alloc: Global, name: &str) -> Query {
     Query {
@@ -49,12 +59,6 @@ pub(crate) fn query(rt: &impl Abort, alloc: Global, name: &str) -> Query {
         query_type: RecordType::A,
         query_class: DNSClass::IN,
     }
-}
-
-fn one_address(rt: &impl Abort, alloc: Global, number: u8, ttl: u32) -> RecordSet {
-    let bytes = &[192, 0, 2, number];
-    let first = record(rt, alloc, "example.", RecordType::A, ttl, bytes);
-    RecordSet::of(alloc, first).expect(rt, "memory")
 }
 
 /// So many addresses of ttl 1 more.
@@ -73,7 +77,9 @@ pub(crate) fn addresses(
     ttl: u32,
     more: usize,
 ) -> RecordSet {
-    let mut set = one_address(rt, alloc, number, ttl);
+    let bytes = &[192, 0, 2, number];
+    let first = record(rt, alloc, "example.", RecordType::A, ttl, bytes);
+    let mut set = RecordSet::of(alloc, first).expect(rt, "memory");
     put_addresses(rt, alloc, &mut set.records, more);
     set
 }
@@ -92,17 +98,7 @@ pub(crate) fn key(rt: &impl Abort, alloc: Global, number: u8, more: usize) -> Ca
     key_of(rt, query, addresses(rt, alloc, number, 3600, more))
 }
 
-/// An entry of a key. Its value tells it from others.
-fn entry_of(key: CacheKey, expires: u64, value: u32) -> Entry {
-    let found = RrsetProof {
-        proof: Proof::Insecure,
-        adjusted_ttl: Some(value),
-        rrsig_index: None,
-    };
-    Entry::new(key, expires, Ok(found), None)
-}
-
-/// The entry of a key is put in.
+/// An entry of a key is put in. Its value tells it from others.
 pub(crate) fn put<C: ValidationCache>(
     rt: &impl Abort,
     alloc: Global,
@@ -111,7 +107,12 @@ pub(crate) fn put<C: ValidationCache>(
     expires: u64,
     value: u32,
 ) {
-    let entry = entry_of(key, expires, value);
+    let found = RrsetProof {
+        proof: Proof::Insecure,
+        adjusted_ttl: Some(value),
+        rrsig_index: None,
+    };
+    let entry = Entry::new(key, expires, Ok(found), None);
     cache.insert(alloc, entry).expect(rt, "memory");
 }
 

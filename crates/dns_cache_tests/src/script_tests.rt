@@ -38,48 +38,24 @@ const SCRIPTS: &[Script] = &[
     ], 2),
 ];
 
-/// The value of an entry that goes.
-fn value_in(entry: Entry) -> Option<u32> {
-    let value = value_of(&entry);
-    drop(entry);
+/// The value of an entry that is given, which goes.
+fn value_in(given: Option<Entry>) -> Option<u32> {
+    let value = match &given {
+        Some(entry) => value_of(entry),
+        None => None,
+    };
+    drop(given);
     value
 }
 
 /// The same of one that nobody's acceptance is known of.
-fn unknown_value_in(entry: Entry, acceptance: Acceptance) -> Option<u32> {
-    let value = value_in(entry);
-    match acceptance {
-        Acceptance::Unknown => value,
+fn unknown_value_in(given: Option<(Entry, Acceptance)>) -> Option<u32> {
+    let value = match &given {
+        Some((entry, Acceptance::Unknown)) => value_of(entry),
         _ => None,
-    }
-}
-
-fn given_to_all<C: AcceptedBy<Listed>>(
-    rt: &impl Abort,
-    alloc: Global,
-    cache: &mut C,
-    key: &CacheKey,
-    now: u64,
-) -> Option<u32> {
-    match cache.get(alloc, key, now).expect(rt, "memory") {
-        Some(entry) => value_in(entry),
-        None => None,
-    }
-}
-
-fn given_to<C: AcceptedBy<Listed>>(
-    rt: &impl Abort,
-    alloc: Global,
-    cache: &mut C,
-    key: &CacheKey,
-    now: u64,
-    verifier: &Listed,
-) -> Option<u32> {
-    let given = cache.get_for(alloc, key, now, verifier);
-    match given.expect(rt, "memory") {
-        Some((entry, acceptance)) => unknown_value_in(entry, acceptance),
-        None => None,
-    }
+    };
+    drop(given);
+    value
 }
 
 /// What a cache gives for a key: by `get`, or by `get_for` for a verifier.
@@ -92,8 +68,11 @@ fn given<C: AcceptedBy<Listed>>(
     verifier: Option<&Listed>,
 ) -> Option<u32> {
     match verifier {
-        None => given_to_all(rt, alloc, cache, key, now),
-        Some(verifier) => given_to(rt, alloc, cache, key, now, verifier),
+        None => value_in(cache.get(alloc, key, now).expect(rt, "memory")),
+        Some(verifier) => {
+            let given = cache.get_for(alloc, key, now, verifier);
+            unknown_value_in(given.expect(rt, "memory"))
+        }
     }
 }
 
@@ -163,28 +142,23 @@ fn lru_plays(rt: &impl Abort, alloc: Global, script: &Script, verifier: Option<&
     played && is_hit
 }
 
-fn both_play(rt: &impl Abort, alloc: Global, script: &Script, verifier: Option<&Listed>) -> bool {
-    list_plays(rt, alloc, script, verifier) && lru_plays(rt, alloc, script, verifier)
-}
-
-/// By `get_for`, for a verifier that accepts nothing.
-fn both_play_for(rt: &impl Abort, alloc: Global, script: &Script) -> bool {
+/// Both caches play: by `get`, and by `get_for`, for a verifier that accepts nothing.
+fn both_play(rt: &impl Abort, alloc: Global, script: &Script) -> bool {
     let verifier = Listed::new(alloc);
-    let played = both_play(rt, alloc, script, Some(&verifier));
+    let asker = Some(&verifier);
+    let by_get = list_plays(rt, alloc, script, None) && lru_plays(rt, alloc, script, None);
+    let by_get_for = list_plays(rt, alloc, script, asker) && lru_plays(rt, alloc, script, asker);
     drop(verifier);
-    played
+    by_get && by_get_for
+}
+
+fn scripts() -> &'static [Script] {
+    SCRIPTS
 }
 
 #[test]
-fn caches_are_lists_by_use(rt: HostRuntime) {
-    for script in SCRIPTS {
-        check_row(&rt, script.0, both_play(&rt, rt.alloc(), script, None));
-    }
-}
-
-#[test]
-fn no_cache_knows_of_an_acceptance(rt: HostRuntime) {
-    for script in SCRIPTS {
-        check_row(&rt, script.0, both_play_for(&rt, rt.alloc(), script));
+fn caches_are_lists_by_use_and_know_of_no_acceptance(rt: HostRuntime) {
+    for script in scripts() {
+        check_row(&rt, script.0, both_play(&rt, rt.alloc(), script));
     }
 }
