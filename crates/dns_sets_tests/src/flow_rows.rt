@@ -5,7 +5,6 @@ use dns_record::RecordType;
 use dns_trust::NsProbe;
 
 /// What an ask comes to: what is seen of NS records, a refusal, or an answer that has `b.` Insecure.
-#[derive(Clone, Copy)]
 pub(crate) enum Reply {
     Seen(NsProbe),
     Refused,

@@ -1,13 +1,12 @@
 //! Steps whose sets are judged, and how they end.
 use crate::rows::check_row;
-use crate::sets_tests::{Met, bare_message, put, query, records_of, set_of};
-use dns_evidence::{ChainedSet, Limits, MarkedSet, PlacedSet};
+use crate::sets_tests::{bare_message, push_record, query, record, records_of};
+use dns_evidence::{ChainedSet, Limits, MarkedSet};
 use dns_message::Message;
-use dns_model::{Denial, NameError, Proof, Section};
+use dns_model::{Denial, Proof, Section};
 use dns_outcome::{Outcome, outcome_of};
-use dns_record::{Query, Record, RecordSet, RecordType, ResponseCode};
+use dns_record::{Record, RecordSet, RecordType, ResponseCode};
 use std::alloc::Global;
-use std::mem;
 use std::process::Abort;
 
 /// How far a lookup goes, if nothing else is said.
@@ -109,121 +108,72 @@ pub(crate) const ANSWER: Row = Row {
     outcome: STANDS,
 };
 
-/// The record of a set, or with another type and rdata a signature of it.
-fn met(told: &Told, record_type: RecordType, rdata: &'static [u8]) -> Met {
-    Met {
-        section: told.section,
-        owner: told.owner,
-        record_type: record_type.0,
-        rdata,
-    }
-}
-
-fn record_of(told: &Told) -> Met {
-    met(told, told.record_type, told.rdata)
-}
-
-fn put_signatures(alloc: Global, records: &mut Vec<Record>, told: &Told) -> Result<(), NameError> {
+fn push_signatures(rt: &impl Abort, alloc: Global, records: &mut Vec<Record>, told: &Told) {
     for signature in told.signatures {
-        put(alloc, records, &met(told, RecordType::RRSIG, signature))?;
+        push_record(rt, alloc, records, told.owner, RecordType::RRSIG, signature);
     }
-    Ok(())
 }
 
-fn put_told(alloc: Global, records: &mut Vec<Record>, told: &Told) -> Result<(), NameError> {
-    put(alloc, records, &record_of(told))?;
-    put_signatures(alloc, records, told)
-}
-
-/// Of each set the record, and then its signatures.
-fn put_sets(alloc: Global, message: &mut Message, all: &[Told]) -> Result<(), NameError> {
-    for told in all {
-        put_told(alloc, records_of(message, told.section), told)?;
-    }
-    Ok(())
+/// Of a set the record, and then its signatures.
+fn put_told(rt: &impl Abort, alloc: Global, message: &mut Message, told: &Told) {
+    let records = records_of(message, told.section);
+    push_record(rt, alloc, records, told.owner, told.record_type, told.rdata);
+    push_signatures(rt, alloc, records, told);
 }
 
 /// The response of a row.
-fn response(alloc: Global, row: &Row) -> Result<Message, NameError> {
-    let mut message = bare_message(alloc)?;
+fn response(rt: &impl Abort, alloc: Global, row: &Row) -> Message {
+    let mut message = bare_message(rt, alloc);
     message.response_code = row.code;
-    match put_sets(alloc, &mut message, row.told) {
-        Ok(()) => Ok(message),
-        Err(error) => {
-            drop(message);
-            Err(error)
-        }
+    for told in row.told {
+        put_told(rt, alloc, &mut message, told);
     }
+    message
 }
 
-pub(crate) fn signed_set(alloc: Global, told: &Told) -> Result<RecordSet, NameError> {
-    let mut rrsigs = Vec::new(alloc);
-    put_signatures(alloc, &mut rrsigs, told)?;
-    let mut set = set_of(alloc, &record_of(told))?;
-    drop(mem::replace(&mut set.rrsigs, rrsigs));
-    Ok(set)
-}
-
-pub(crate) fn placed(alloc: Global, told: &Told) -> Result<PlacedSet, NameError> {
-    Ok(PlacedSet {
-        section: told.section,
-        set: signed_set(alloc, told)?,
-    })
+pub(crate) fn signed_set(rt: &impl Abort, alloc: Global, told: &Told) -> RecordSet {
+    let first = record(rt, alloc, told.owner, told.record_type, told.rdata);
+    let mut set = RecordSet::of(alloc, first).expect(rt, "memory");
+    push_signatures(rt, alloc, &mut set.rrsigs, told);
+    set
 }
 
 /// A set as it is judged.
-fn judged(alloc: Global, told: &Told) -> Result<ChainedSet, NameError> {
-    let set = signed_set(alloc, told)?;
-    Ok(ChainedSet {
+fn judged(rt: &impl Abort, alloc: Global, told: &Told) -> ChainedSet {
+    ChainedSet {
         judged: MarkedSet {
             section: told.section,
-            set,
+            set: signed_set(rt, alloc, told),
             mark: told.mark,
             sig: told.decider,
         },
         chain: Vec::new(alloc),
-    })
+    }
 }
 
-pub(crate) fn judged_sets(alloc: Global, all: &[Told]) -> Result<Vec<ChainedSet>, NameError> {
+pub(crate) fn judged_sets(rt: &impl Abort, alloc: Global, all: &[Told]) -> Vec<ChainedSet> {
     let mut sets = Vec::new(alloc);
     for told in all {
-        sets.push(judged(alloc, told)?)?;
+        sets.push(judged(rt, alloc, told)).expect(rt, "memory");
     }
-    Ok(sets)
-}
-
-fn outcome_to(
-    alloc: Global,
-    query: &Query,
-    row: &Row,
-    sets: &[ChainedSet],
-) -> Result<Outcome, NameError> {
-    let response = response(alloc, row)?;
-    let outcome = outcome_of(alloc, &LIMITS, query, &response, sets);
-    drop(response);
-    Ok(outcome?)
-}
-
-/// How a step of these sets ends.
-fn outcome(alloc: Global, row: &Row, sets: &[ChainedSet]) -> Result<Outcome, NameError> {
-    let query = query(alloc, row.name, row.record_type)?;
-    let outcome = outcome_to(alloc, &query, row, sets);
-    drop(query);
-    outcome
+    sets
 }
 
 /// The step of a row ends as it says.
-fn ends(alloc: Global, row: &Row) -> Result<bool, NameError> {
-    let sets = judged_sets(alloc, row.told)?;
-    let outcome = outcome(alloc, row, &sets);
+fn ends(rt: &impl Abort, alloc: Global, row: &Row) -> bool {
+    let sets = judged_sets(rt, alloc, row.told);
+    let query = query(rt, alloc, row.name, row.record_type);
+    let response = response(rt, alloc, row);
+    let outcome = outcome_of(alloc, &LIMITS, &query, &response, &sets);
+    drop(response);
+    drop(query);
     drop(sets);
-    Ok(outcome? == row.outcome)
+    outcome.expect(rt, "memory") == row.outcome
 }
 
 /// Each step ends as its row says.
 pub(crate) fn check_ends(rt: &impl Abort, alloc: Global, rows: &[Row]) {
     for row in rows {
-        check_row(rt, row.shows, ends(alloc, row));
+        check_row(rt, row.shows, ends(rt, alloc, row));
     }
 }

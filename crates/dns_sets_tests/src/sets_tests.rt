@@ -2,18 +2,18 @@ use crate::rows::check_row;
 use dns_evidence::PlacedSet;
 use dns_grouping::judged_part;
 use dns_message::Message;
-use dns_model::{NameError, Proof, Section};
+use dns_model::{Proof, Section};
 use dns_name::Name;
-use dns_record::{DNSClass, OpCode, Query, Rdata, Record, RecordSet, RecordType, ResponseCode};
+use dns_record::{DNSClass, OpCode, Query, Rdata, Record, RecordType, ResponseCode};
 use std::alloc::Global;
+use std::process::Abort;
 
 /// A record of class IN and ttl 300, which says that it is Secure, and the section that it stands in.
-#[derive(Drop)]
-pub(crate) struct Met {
-    pub(crate) section: Section,
-    pub(crate) owner: &'static str,
-    pub(crate) record_type: u16,
-    pub(crate) rdata: &'static [u8],
+struct Met {
+    section: Section,
+    owner: &'static str,
+    record_type: u16,
+    rdata: &'static [u8],
 }
 
 const A: u16 = 1;
@@ -35,35 +35,41 @@ const OVER_SOA: &[u8] = b"\0\x06\x08\0\0\0\0\xc8\0\0\x03\xe8\0\0\0\0\0\x01\0\x01
 
 const OVER_TXT: &[u8] = b"\0\x10\x08\x01\0\0\0\xc8\0\0\x03\xe8\0\0\0\0\0\x01\0\x01";
 
-/// One that is too long fails its test by the error.
-fn rdata(alloc: Global, bytes: &[u8]) -> Result<Rdata, NameError> {
+/// One that is too long fails its test.
+fn rdata(rt: &impl Abort, alloc: Global, bytes: &[u8]) -> Rdata {
     if bytes.len() > 65535 {
-        return Err(NameError::LongName);
+        rt.panic("a long rdata");
     }
-    Ok(Rdata::from_slice(alloc, bytes)?)
+    Rdata::from_slice(alloc, bytes).expect(rt, "memory")
 }
 
-fn record(alloc: Global, met: &Met) -> Result<Record, NameError> {
-    let name = Name::from_ascii(alloc, met.owner)?;
-    let rdata = rdata(alloc, met.rdata)?;
-    Ok(Record {
-        name,
-        record_type: RecordType(met.record_type),
+pub(crate) fn record(
+    rt: &impl Abort,
+    alloc: Global,
+    owner: &str,
+    record_type: RecordType,
+    bytes: &[u8],
+) -> Record {
+    Record {
+        name: Name::from_ascii(alloc, owner).expect(rt, "a name"),
+        record_type,
         dns_class: DNSClass::IN,
         ttl: 300,
-        rdata,
+        rdata: rdata(rt, alloc, bytes),
         proof: Proof::Secure,
-    })
+    }
 }
 
-pub(crate) fn put(alloc: Global, records: &mut Vec<Record>, met: &Met) -> Result<(), NameError> {
-    records.push(record(alloc, met)?)?;
-    Ok(())
-}
-
-/// The set of one record, without a signature.
-pub(crate) fn set_of(alloc: Global, met: &Met) -> Result<RecordSet, NameError> {
-    Ok(RecordSet::of(alloc, record(alloc, met)?)?)
+pub(crate) fn push_record(
+    rt: &impl Abort,
+    alloc: Global,
+    records: &mut Vec<Record>,
+    owner: &str,
+    record_type: RecordType,
+    bytes: &[u8],
+) {
+    let next = record(rt, alloc, owner, record_type, bytes);
+    records.push(next).expect(rt, "memory");
 }
 
 pub(crate) fn records_of(message: &mut Message, section: Section) -> &mut Vec<Record> {
@@ -74,28 +80,20 @@ pub(crate) fn records_of(message: &mut Message, section: Section) -> &mut Vec<Re
     }
 }
 
-pub(crate) fn query(
-    alloc: Global,
-    owner: &str,
-    record_type: RecordType,
-) -> Result<Query, NameError> {
-    let name = Name::from_ascii(alloc, owner)?;
-    Ok(Query {
-        name,
+pub(crate) fn query(rt: &impl Abort, alloc: Global, owner: &str, record_type: RecordType) -> Query {
+    Query {
+        name: Name::from_ascii(alloc, owner).expect(rt, "a name"),
         query_type: record_type,
         query_class: DNSClass::IN,
-    })
-}
-
-fn queries(alloc: Global) -> Result<Vec<Query>, NameError> {
-    let mut queries = Vec::new(alloc);
-    queries.push(query(alloc, "a.", RecordType::A)?)?;
-    Ok(queries)
+    }
 }
 
 /// A message without records.
-pub(crate) fn bare_message(alloc: Global) -> Result<Message, NameError> {
-    Ok(message_of(queries(alloc)?, alloc))
+pub(crate) fn bare_message(rt: &impl Abort, alloc: Global) -> Message {
+    let mut queries = Vec::new(alloc);
+    let first = query(rt, alloc, "a.", RecordType::A);
+    queries.push(first).expect(rt, "memory");
+    message_of(queries, alloc)
 }
 
 pub(crate) fn message_of(queries: Vec<Query>, alloc: Global) -> Message {
@@ -119,22 +117,20 @@ pub(crate) fn message_of(queries: Vec<Query>, alloc: Global) -> Message {
 }
 
 /// A message of these records.
-fn message(alloc: Global, records: &[Met]) -> Result<Message, NameError> {
-    let mut message = bare_message(alloc)?;
-    match put_all(alloc, &mut message, records) {
-        Ok(()) => Ok(message),
-        Err(error) => {
-            drop(message);
-            Err(error)
-        }
+fn message(rt: &impl Abort, alloc: Global, all: &[Met]) -> Message {
+    let mut message = bare_message(rt, alloc);
+    for met in all {
+        let records = records_of(&mut message, met.section);
+        push_record(
+            rt,
+            alloc,
+            records,
+            met.owner,
+            RecordType(met.record_type),
+            met.rdata,
+        );
     }
-}
-
-fn put_all(alloc: Global, message: &mut Message, records: &[Met]) -> Result<(), NameError> {
-    for met in records {
-        put(alloc, records_of(message, met.section), met)?;
-    }
-    Ok(())
+    message
 }
 
 /// A set that is wanted: its section and type, and how many records and signatures it has.
@@ -184,10 +180,6 @@ fn grouped_at_top() -> &'static [Grouped] {
     GROUPED
 }
 
-fn grouped_below() -> &'static [Grouped] {
-    GROUPED_BELOW
-}
-
 fn is_grouped(placed: &PlacedSet, want: &Grouped) -> bool {
     placed.section == want.section
         && placed.set.record_type.0 == want.record_type
@@ -205,15 +197,19 @@ fn are_grouped(placed: &[PlacedSet], want: &[Grouped]) -> bool {
 }
 
 /// The records make these sets at a depth.
-fn makes(alloc: Global, depth: u16, want: &[Grouped]) -> Result<bool, NameError> {
-    let message = message(alloc, met_rows())?;
-    let placed = judged_part(alloc, depth, &message);
+fn makes(rt: &impl Abort, alloc: Global, depth: u16, want: &[Grouped]) -> bool {
+    let message = message(rt, alloc, met_rows());
+    let placed = judged_part(alloc, depth, &message).expect(rt, "memory");
     drop(message);
-    Ok(are_grouped(&placed?, want))
+    let held = are_grouped(&placed, want);
+    drop(placed);
+    held
 }
 
 #[test]
 fn records_are_grouped_into_sets(rt: HostRuntime) {
-    check_row(&rt, "at the top", makes(rt.alloc(), 0, grouped_at_top()));
-    check_row(&rt, "below it", makes(rt.alloc(), 1, grouped_below()));
+    let at_top = makes(&rt, rt.alloc(), 0, grouped_at_top());
+    check_row(&rt, "at the top", at_top);
+    let below = makes(&rt, rt.alloc(), 1, GROUPED_BELOW);
+    check_row(&rt, "below it", below);
 }
