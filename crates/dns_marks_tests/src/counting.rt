@@ -5,7 +5,7 @@ use std::cell::Cell;
 /// is asked.
 #[derive(Drop)]
 pub(crate) struct Counting {
-    questions: Cell<u32>,
+    pub(crate) questions: Cell<u32>,
 }
 
 impl Counting {
@@ -14,11 +14,6 @@ impl Counting {
         Counting {
             questions: Cell::new(0),
         }
-    }
-
-    /// How often it was asked.
-    pub(crate) fn questions(&self) -> u32 {
-        self.questions.get()
     }
 }
 

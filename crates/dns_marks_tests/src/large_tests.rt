@@ -2,7 +2,6 @@
 use crate::parts::*;
 use dns_evidence::{Listed, Verifier};
 use dns_marks::{KeyAnswer, ZoneVerdict};
-use dns_name::Octets;
 use dns_record::RecordType;
 use dns_trust::TrustAnchors;
 use std::alloc::Global;
@@ -13,15 +12,15 @@ const SIGNED: &[u8] = &[7; 300];
 
 const SIGNATURE: &[u8] = &[8; 300];
 
-fn accept_all(rt: &impl Abort, listed: &mut Listed) {
+/// A copy of a list of as many signatures has the last one.
+fn copy_holds_last(rt: &impl Abort, alloc: Global) -> bool {
+    let mut listed = Listed::new(alloc);
     for number in 0..MANY as u32 {
         let accepted = listed.accept(13, &number.to_be_bytes(), SIGNED, SIGNATURE);
         accepted.expect(rt, "memory");
     }
-}
-
-fn copy_holds_last(rt: &impl Abort, listed: &Listed) -> bool {
     let copy = listed.try_clone().expect(rt, "memory");
+    drop(listed);
     let last = MANY as u32 - 1;
     let held = copy.accepts(13, &last.to_be_bytes(), SIGNED, SIGNATURE);
     drop(copy);
@@ -30,11 +29,7 @@ fn copy_holds_last(rt: &impl Abort, listed: &Listed) -> bool {
 
 #[test]
 fn a_list_holds_70_000_signatures(rt: HostRuntime) {
-    let mut listed = Listed::new(rt.alloc());
-    accept_all(&rt, &mut listed);
-    let held = copy_holds_last(&rt, &listed);
-    drop(listed);
-    check_row(&rt, "of 300 bytes", held);
+    check_row(&rt, "of 300 bytes", copy_holds_last(&rt, rt.alloc()));
 }
 
 /// Accepts a signature by each of these keys.
@@ -94,19 +89,6 @@ fn is_verdict_copied(rt: &impl Abort, alloc: Global) -> bool {
 fn answers_and_verdicts_of_70_000_records_are_copied(rt: HostRuntime) {
     check_row(&rt, "keys", is_answer_copied(&rt, rt.alloc()));
     check_row(&rt, "DS records", is_verdict_copied(&rt, rt.alloc()));
-}
-
-/// Trusts a key of this owner; whether it is new.
-fn trust(
-    rt: &impl Abort,
-    alloc: Global,
-    anchors: &mut TrustAnchors,
-    owner: &str,
-    key: &[u8],
-) -> bool {
-    let key = Octets::from_slice(alloc, key).expect(rt, "memory");
-    let trusted = anchors.insert_with_name(name_of(rt, alloc, owner), 13, key);
-    trusted.expect(rt, "memory")
 }
 
 /// A key of this owner is trusted by this algorithm.

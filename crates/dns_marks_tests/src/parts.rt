@@ -1,7 +1,8 @@
-//! What tests share: the assertion on a row, and keys, records and sets.
+//! What tests share: the assertion on a row, and keys, records, sets and anchors.
 use dns_model::Proof;
-use dns_name::Name;
+use dns_name::{Name, Octets};
 use dns_record::{DNSClass, Rdata, Record, RecordSet, RecordType};
+use dns_trust::TrustAnchors;
 use std::alloc::Global;
 use std::process::Abort;
 
@@ -118,14 +119,14 @@ pub(crate) fn set_of(
     alloc: Global,
     owner: &str,
     record_type: RecordType,
-    records: Vec<Record>,
+    rdatas: &[&[u8]],
     signatures: &[&[u8]],
 ) -> RecordSet {
     RecordSet {
         name: name_of(rt, alloc, owner),
         record_type,
         dns_class: DNSClass::IN,
-        records,
+        records: records_of(rt, alloc, owner, record_type, rdatas),
         rrsigs: records_of(rt, alloc, owner, RecordType::RRSIG, signatures),
     }
 }
@@ -145,6 +146,19 @@ pub(crate) fn fill(
         records.push(next).expect(rt, "memory");
     }
     drop(one);
+}
+
+/// Trusts a key of this owner; whether it is new.
+pub(crate) fn trust(
+    rt: &impl Abort,
+    alloc: Global,
+    anchors: &mut TrustAnchors,
+    owner: &str,
+    key: &[u8],
+) -> bool {
+    let key = Octets::from_slice(alloc, key).expect(rt, "memory");
+    let trusted = anchors.insert_with_name(name_of(rt, alloc, owner), 13, key);
+    trusted.expect(rt, "memory")
 }
 
 /// More than 16 bits count.

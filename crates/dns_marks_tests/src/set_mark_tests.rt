@@ -8,7 +8,6 @@ use crate::wanted::{Want, is_wanted};
 use dns_evidence::Steps;
 use dns_marks::{KeyAnswer, mark_rrset};
 use dns_model::Proof;
-use dns_name::Name;
 use dns_proof::{ProofError, ProofErrorKind, RrsetProof};
 use dns_record::{DNSClass, Query, RecordSet, RecordType};
 use dns_trust::first_signatures;
@@ -108,23 +107,17 @@ fn rows() -> &'static [Row] {
     ROWS
 }
 
-fn failed(name: Name) -> KeyAnswer {
-    KeyAnswer::Failed(Query {
-        name,
-        query_type: RecordType::DNSKEY,
-        query_class: DNSClass::IN,
-    })
-}
-
-fn answered(rt: &impl Abort, alloc: Global, owner: &str, keys: &[(&[u8], Proof)]) -> KeyAnswer {
-    KeyAnswer::Keys(marked_records(rt, alloc, owner, RecordType::DNSKEY, keys))
-}
-
 fn answer_of(rt: &impl Abort, alloc: Global, owner: &str, told: &Told) -> KeyAnswer {
     match told {
         Told::Skipped => KeyAnswer::Skipped,
-        Told::Failed(signer) => failed(name_of(rt, alloc, signer)),
-        Told::Keys(keys) => answered(rt, alloc, owner, keys),
+        Told::Failed(signer) => KeyAnswer::Failed(Query {
+            name: name_of(rt, alloc, signer),
+            query_type: RecordType::DNSKEY,
+            query_class: DNSClass::IN,
+        }),
+        Told::Keys(keys) => {
+            KeyAnswer::Keys(marked_records(rt, alloc, owner, RecordType::DNSKEY, keys))
+        }
     }
 }
 
@@ -143,11 +136,6 @@ fn answers_of(rt: &impl Abort, alloc: Global, row: &Row) -> Vec<KeyAnswer> {
         answers.push(answer).expect(rt, "memory");
     }
     answers
-}
-
-fn servers(rt: &impl Abort, alloc: Global, row: &Row) -> RecordSet {
-    let records = records_of(rt, alloc, row.1, RecordType::NS, &[b"\x01a\0"]);
-    set_of(rt, alloc, row.1, RecordType::NS, records, row.2)
 }
 
 /// The mark of a set at second 1500.
@@ -184,12 +172,12 @@ fn is_marked(
     let mark = found::<Brand>(alloc, &verifier, set, answers, Blank::new(1));
     let held = is_wanted(rt, alloc, &mark, &row.4);
     drop(mark);
-    held && verifier.questions() == row.5
+    held && verifier.questions.get() == row.5
 }
 
 fn is_shown(rt: &impl Abort, alloc: Global, row: &Row) -> bool {
     let answers = answers_of(rt, alloc, row);
-    let set = servers(rt, alloc, row);
+    let set = set_of(rt, alloc, row.1, RecordType::NS, &[b"\x01a\0"], row.2);
     let held = is_marked(rt, alloc, &set, &answers, row);
     drop(set);
     drop(answers);

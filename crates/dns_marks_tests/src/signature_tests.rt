@@ -141,10 +141,11 @@ struct Parts {
 }
 
 fn parts_of(rt: &impl Abort, alloc: Global, row: &Row) -> Parts {
-    let records = records_of(rt, alloc, "example.", NS, &[b"\x01a\0"]);
+    let mut set = set_of(rt, alloc, "example.", NS, &[b"\x01a\0"], &[row.2]);
+    set.record_type = row.3;
     Parts {
         keys: marked_records(rt, alloc, "example.", RecordType::DNSKEY, row.1),
-        set: set_of(rt, alloc, "example.", row.3, records, &[row.2]),
+        set,
     }
 }
 
@@ -215,28 +216,24 @@ fn proof_by_keys<L: Ledger>(
 fn is_proved_by_key(rt: &impl Abort, alloc: Global, parts: &Parts, row: &Row) -> bool {
     let verifier = Counting::new();
     let good = is_good(rt, alloc, &verifier, parts, row.4);
-    let once = verifier.questions();
+    let once = verifier.questions.get();
     let mark = proof_by_key::<Brand>(alloc, &verifier, parts, row.4, Blank::new(1));
     let held = is_wanted(rt, alloc, &mark, &row.5);
     drop(mark);
     held && good == matches!(&row.5, Want::Found(..))
         && once == row.6
-        && verifier.questions() == once.wrapping_add(row.6)
-}
-
-fn is_proof(found: &Option<RrsetProof>, want: &Want) -> bool {
-    match found {
-        Some(found) => is_found(found, want),
-        None => matches!(want, Want::Nothing),
-    }
+        && verifier.questions.get() == once.wrapping_add(row.6)
 }
 
 /// By all keys it does.
 fn is_proved_by_keys(rt: &impl Abort, alloc: Global, parts: &Parts, row: &Row) -> bool {
     let verifier = Counting::new();
     let proved = proof_by_keys::<Brand>(alloc, &verifier, parts, row.4, Blank::new(1));
-    let found = proved.expect(rt, "memory");
-    is_proof(&found, &row.5) && verifier.questions() == row.6
+    let held = match &proved.expect(rt, "memory") {
+        Some(found) => is_found(found, &row.5),
+        None => matches!(&row.5, Want::Nothing),
+    };
+    held && verifier.questions.get() == row.6
 }
 
 #[test]
@@ -263,10 +260,12 @@ const LARGE: &Row = &Row("the last key", SECURE, OVER_NS, NS, 1500, GOOD, 1);
 
 /// Many keys, of which the last made the signature, and an NS set of many records.
 fn large_parts(rt: &impl Abort, alloc: Global) -> Parts {
-    let records = many_and_one(rt, alloc, NS, b"\x01b\0", b"\x01a\0");
+    let mut set = set_of(rt, alloc, "example.", NS, &[], &[OVER_NS]);
+    fill(rt, alloc, &mut set.records, NS, b"\x01b\0", MANY);
+    fill(rt, alloc, &mut set.records, NS, b"\x01a\0", 1);
     Parts {
         keys: many_and_one(rt, alloc, RecordType::DNSKEY, KEY_BESIDE, KEY),
-        set: set_of(rt, alloc, "example.", NS, records, &[OVER_NS]),
+        set,
     }
 }
 

@@ -1,6 +1,6 @@
 use crate::parts::*;
 use dns_model::Proof;
-use dns_record::{Record, RecordSet, RecordType};
+use dns_record::{Record, RecordType};
 use dns_trust::RrsigValidity;
 use dns_trust::RrsigValidity::{ExpiredRrsig, ValidRrsig, WrongDnskey, WrongRrsig};
 use std::alloc::Global;
@@ -89,16 +89,11 @@ fn record_of(rt: &impl Abort, alloc: Global, row: &Written) -> Record {
     record(rt, alloc, row.0, row.1, row.2, Proof::Indeterminate)
 }
 
-fn servers(rt: &impl Abort, alloc: Global) -> RecordSet {
-    let records = records_of(rt, alloc, ".", RecordType::NS, &[b"\x01a\0"]);
-    set_of(rt, alloc, ".", RecordType::NS, records, &[])
-}
-
 /// What is found out of a signature over the root's NS set and a key is what the row says.
 fn fits(rt: &impl Abort, alloc: Global, row: &Row) -> bool {
     let sig = record_of(rt, alloc, &row.1);
     let key = record_of(rt, alloc, &row.2);
-    let set = servers(rt, alloc);
+    let set = set_of(rt, alloc, ".", RecordType::NS, &[b"\x01a\0"], &[]);
     let found = RrsigValidity::check(&sig, &set, &key, row.3);
     drop(set);
     drop(key);

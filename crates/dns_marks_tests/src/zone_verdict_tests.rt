@@ -199,16 +199,6 @@ fn empty_message(alloc: Global) -> Message {
     }
 }
 
-/// A response that is this message.
-fn response_of(alloc: Global, message: Message) -> DnsResponse {
-    DnsResponse {
-        message,
-        chains: Vec::new(alloc),
-        denial: Denial::None,
-        trail: Trail::new(alloc),
-    }
-}
-
 fn section_of(message: &mut Message, section: Section) -> &mut Vec<Record> {
     match section {
         Section::Answer => &mut message.answers,
@@ -217,16 +207,10 @@ fn section_of(message: &mut Message, section: Section) -> &mut Vec<Record> {
     }
 }
 
-fn told_record(rt: &impl Abort, alloc: Global, told: &Told) -> Record {
-    Record {
-        dns_class: told.0,
-        ..record(rt, alloc, told.2, told.3, told.4, told.5)
-    }
-}
-
 /// A record more.
 fn put(rt: &impl Abort, alloc: Global, message: &mut Message, told: &Told) {
-    let next = told_record(rt, alloc, told);
+    let mut next = record(rt, alloc, told.2, told.3, told.4, told.5);
+    next.dns_class = told.0;
     section_of(message, told.1).push(next).expect(rt, "memory");
 }
 
@@ -293,7 +277,13 @@ fn gives_by(
     message: Message,
     want: &Want,
 ) -> bool {
-    gives(rt, alloc, class, Ok(response_of(alloc, message)), want)
+    let response = DnsResponse {
+        message,
+        chains: Vec::new(alloc),
+        denial: Denial::None,
+        trail: Trail::new(alloc),
+    };
+    gives(rt, alloc, class, Ok(response), want)
 }
 
 #[test]
@@ -319,30 +309,35 @@ fn no_records(rt: &impl Abort, alloc: Global) -> NetError {
 }
 
 /// An ask that failed makes the verdict Bogus, with the question, but want of memory stays it.
-fn is_failed(rt: &impl Abort, alloc: Global, error: NetError, want: &Want) -> bool {
-    gives(rt, alloc, IN, Err(error), want)
+fn check_failed(rt: &impl Abort, alloc: Global, row: &str, error: NetError, want: &Want) {
+    check_row(rt, row, gives(rt, alloc, IN, Err(error), want));
 }
 
 #[test]
 fn zones_are_bogus_where_the_ask_failed(rt: HostRuntime) {
-    let in_time = is_failed(&rt, rt.alloc(), NetError::Timeout, &UNANSWERED);
-    check_row(&rt, "no answer in time", in_time);
-    let error = no_records(&rt, rt.alloc());
-    let bogus = is_failed(&rt, rt.alloc(), error, &UNANSWERED);
-    check_row(&rt, "no records", bogus);
-    let wanting = is_failed(&rt, rt.alloc(), NetError::NoMemory, &Want::NoMemory);
-    check_row(&rt, "want of memory", wanting);
-}
-
-/// Fills the answer section.
-fn fill_answers(rt: &impl Abort, alloc: Global, message: &mut Message) {
-    fill(rt, alloc, &mut message.answers, DS_TYPE, DS, MANY);
+    let alloc = rt.alloc();
+    let unknown = no_records(&rt, alloc);
+    check_failed(&rt, alloc, "no records", unknown, &UNANSWERED);
+    check_failed(
+        &rt,
+        alloc,
+        "no answer in time",
+        NetError::Timeout,
+        &UNANSWERED,
+    );
+    check_failed(
+        &rt,
+        alloc,
+        "want of memory",
+        NetError::NoMemory,
+        &Want::NoMemory,
+    );
 }
 
 #[test]
 fn a_zone_is_signed_by_70_000_ds_records(rt: HostRuntime) {
     let mut message = empty_message(rt.alloc());
-    fill_answers(&rt, rt.alloc(), &mut message);
+    fill(&rt, rt.alloc(), &mut message.answers, DS_TYPE, DS, MANY);
     let signed = gives_by(&rt, rt.alloc(), IN, message, &Want::Signed(MANY));
     check_row(&rt, "each is supported", signed);
 }
