@@ -5,7 +5,7 @@ use crate::given::{
 use crate::rows::check_held;
 use crate::scenes::walk_by_ds;
 use dns_cache::{CacheKey, Entry, ListCache, RrsetProof, ValidationCache};
-use dns_evidence::{Asked, Chain, IterationLimits, Limits, Reply};
+use dns_evidence::{Asked, IterationLimits, Limits, Reply};
 use dns_handle::DnsResponse;
 use dns_lookup::DnssecDnsHandle;
 use dns_model::{MarkOrigin, Proof};
@@ -15,7 +15,6 @@ use std::alloc::Global;
 use std::process::Abort;
 
 /// What was kept of the set: until when, with how many links of its chain, and whether by its first signature or by none.
-#[derive(Clone, Copy)]
 struct Kept(u64, usize, bool);
 
 /// What is shown, what was kept, the moment of the second lookup, and whether its trail is a derivation.
@@ -39,16 +38,13 @@ fn rows() -> &'static [Row] {
 fn kept_sets_serve(rt: HostRuntime) {
     for row in rows() {
         let held = is_derivation(&rt, rt.alloc(), row);
-        check_held(&rt, row.0, held == row.3);
+        let served = is_served(&rt, rt.alloc(), row, true);
+        check_held(&rt, row.0, held == row.3 && served == Some(row.3));
     }
 }
 
 #[test]
-fn kept_sets_serve_a_lookup(rt: HostRuntime) {
-    for row in rows() {
-        let served = is_served(&rt, rt.alloc(), row, true);
-        check_held(&rt, row.0, served == Some(row.3));
-    }
+fn kept_sets_serve_by_their_own_anchors_alone(rt: HostRuntime) {
     let row = rows().first().expect(&rt, "a row");
     let other = is_served(&rt, rt.alloc(), row, false);
     check_held(&rt, "by other anchors", other == Some(false));
@@ -91,7 +87,7 @@ fn anchors_for(rt: &impl Abort, alloc: Global, trusts: bool) -> TrustAnchors {
 // A cache of the one entry that was kept, if there is one.
 fn holding(rt: &impl Abort, alloc: Global, row: &Row) -> ListCache {
     let mut cache = ListCache::new(alloc, 100);
-    if let Some(kept) = row.1 {
+    if let Some(kept) = &row.1 {
         let response = first_response(rt, alloc);
         let entry = entry_of(rt, alloc, &response, kept);
         drop(response);
@@ -116,7 +112,7 @@ fn second_response(rt: &impl Abort, alloc: Global, row: &Row, trusts: bool) -> D
 fn is_derivation(rt: &impl Abort, alloc: Global, row: &Row) -> bool {
     let mut response = first_response(rt, alloc);
     let mut all = Vec::new(alloc);
-    if let Some(kept) = row.1 {
+    if let Some(kept) = &row.1 {
         all.push(entry_of(rt, alloc, &response, kept))
             .expect(rt, "memory");
     }
@@ -140,12 +136,9 @@ fn serve_last(steps: &mut Vec<Asked>) {
         steps.swap(0, last);
         steps.truncate(1);
     }
-    if let Some(step) = steps.get_mut(0) {
-        serve_step(step);
-    }
-}
-
-fn serve_step(step: &mut Asked) {
+    let Some(step) = steps.get_mut(0) else {
+        return;
+    };
     if let Some(set) = step.sets.get_mut(0) {
         set.origin = MarkOrigin::Cache;
         set.asked.clear();
@@ -153,32 +146,20 @@ fn serve_step(step: &mut Asked) {
 }
 
 // What was kept of the response's set.
-fn entry_of(rt: &impl Abort, alloc: Global, response: &DnsResponse, kept: Kept) -> Entry {
-    let Kept(until, links, signed) = kept;
+fn entry_of(rt: &impl Abort, alloc: Global, response: &DnsResponse, kept: &Kept) -> Entry {
     let step = response.trail.steps.last().expect(rt, "a step");
     let chain = response.chains.first().expect(rt, "a chain");
     let found = RrsetProof {
         proof: Proof::Secure,
         adjusted_ttl: Some(1000),
-        rrsig_index: if signed { Some(0) } else { None },
+        rrsig_index: if kept.2 { Some(0) } else { None },
     };
-    let key = key_of(rt, alloc, step);
-    Entry::new(key, until, Ok(found), Some(shortened(rt, chain, links)))
-}
-
-// The chain with so many links.
-fn shortened(rt: &impl Abort, chain: &Chain, links: usize) -> Chain {
     let mut chain = chain.try_clone().expect(rt, "memory");
-    chain.links.truncate(links);
-    chain
-}
-
-// The key of the set that a step heard.
-fn key_of(rt: &impl Abort, alloc: Global, step: &Asked) -> CacheKey {
+    chain.links.truncate(kept.1);
     let set = set_of(rt, alloc, answers_of(step));
     let key = CacheKey::of(&step.query, &set).expect(rt, "memory");
     drop(set);
-    key
+    Entry::new(key, kept.0, Ok(found), Some(chain))
 }
 
 // The answers that a step heard.

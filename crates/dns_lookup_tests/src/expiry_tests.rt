@@ -31,8 +31,8 @@ fn what_is_left_expires(rt: HostRuntime) {
 
 // The entries that are left by what the row's scene trusts expire as the row says.
 fn expire_so(rt: &impl Abort, alloc: Global, row: &Row) -> bool {
-    let anchors = anchors_of(rt, alloc, scene_of(row.1));
-    let verifier = verifier_of(rt, alloc, scene_of(row.1));
+    let anchors = anchors_of(rt, alloc, scene_of(&row.1));
+    let verifier = verifier_of(rt, alloc, scene_of(&row.1));
     let judge = Judge {
         verifier: &verifier,
         anchors: &anchors,
@@ -46,29 +46,18 @@ fn expire_so(rt: &impl Abort, alloc: Global, row: &Row) -> bool {
     held
 }
 
-// The row's range.
-fn ranges_of(row: &Row) -> TtlRanges {
+// Drives such a validation to its end, where nothing is kept: when each entry expires that it gives out.
+fn left_by(rt: &impl Abort, alloc: Global, judge: Judge<'_, Listed>, row: &Row) -> Vec<u64> {
+    let scene = scene_of(&row.1);
     let mut ranges = TtlRanges::new();
     ranges.positive = TtlRange {
         least: row.2,
         most: row.3,
     };
-    ranges
-}
-
-// Drives such a validation to its end, where nothing is kept: when each entry expires that it gives out.
-fn left_by(rt: &impl Abort, alloc: Global, judge: Judge<'_, Listed>, row: &Row) -> Vec<u64> {
-    let scene = scene_of(row.1);
     let query = query_of(rt, alloc, scene.name, scene.query_type);
     let (options, limits) = (options_to(scene.depth), IterationLimits::DEFAULT);
-    let mut validation = Validation::new(
-        alloc,
-        judge,
-        query,
-        options,
-        limits,
-        ranges_of(row),
-    ).expect(rt, "memory");
+    let begun = Validation::new(alloc, judge, query, options, limits, ranges);
+    let mut validation = begun.expect(rt, "memory");
     let mut upstream = upstream_of(rt, alloc, scene);
     let mut left = Vec::new(alloc);
     for _ in 0..100_u32 {

@@ -31,20 +31,16 @@ fn look_up(rt: &impl Abort, alloc: Global, soft: Option<u16>, hard: Option<u16>)
 }
 
 /// With which mark the denial counts: that of an answer, or of one that is refused.
-fn mark_of(answer: &Answer) -> Option<Proof> {
-    match answer {
+fn mark_by(rt: &impl Abort, alloc: Global, row: &Row) -> Option<Proof> {
+    let answer = look_up(rt, alloc, row.1, row.2);
+    let mark = match &answer {
         Ok(response) => match response.denial {
             Denial::Absent(proof) => Some(proof),
             _ => None,
         },
         Err(NetError::Dns(DnsError::Nsec { proof, .. })) => Some(*proof),
         Err(_) => None,
-    }
-}
-
-fn mark_by(rt: &impl Abort, alloc: Global, row: &Row) -> Option<Proof> {
-    let answer = look_up(rt, alloc, row.1, row.2);
-    let mark = mark_of(&answer);
+    };
     drop(answer);
     mark
 }

@@ -13,7 +13,6 @@ use std::alloc::Global;
 use std::process::Abort;
 
 /// What is looked up over and over.
-#[derive(Clone, Copy)]
 pub(crate) enum Given {
     /// The root's NS set with its signature, which ends at 2000, and its anchored key set; all ttls are 3600.
     Servers,
@@ -25,7 +24,7 @@ pub(crate) enum Given {
     TooDeep,
 }
 
-pub(crate) fn scene_of(given: Given) -> &'static Scene {
+pub(crate) fn scene_of(given: &Given) -> &'static Scene {
     match given {
         Given::Servers | Given::Keys => servers(),
         Given::NotAccepted => not_accepted(),
@@ -33,7 +32,7 @@ pub(crate) fn scene_of(given: Given) -> &'static Scene {
     }
 }
 
-fn type_of(given: Given) -> RecordType {
+fn type_of(given: &Given) -> RecordType {
     match given {
         Given::Keys => RecordType::DNSKEY,
         _ => RecordType::NS,
@@ -141,12 +140,12 @@ fn sets_are_served_while_they_are_kept(rt: HostRuntime) {
 
 // The lookups of a row, one after another over one handle.
 fn are_so(rt: &impl Abort, alloc: Global, row: &Row) -> bool {
-    let made = validator_of(rt, alloc, scene_of(row.1));
+    let made = validator_of(rt, alloc, scene_of(&row.1));
     let ranged = negative(positive(made, row.2.positive), row.2.negative);
     let mut validator = sized(rt, alloc, ranged, row.2.size);
     let mut all = true;
     for lookup in row.3 {
-        all = all && is_looked_up(rt, alloc, &mut validator, row.1, lookup);
+        all = all && is_looked_up(rt, alloc, &mut validator, &row.1, lookup);
     }
     drop(validator.into_inner());
     all
@@ -156,7 +155,7 @@ fn is_looked_up(
     rt: &impl Abort,
     alloc: Global,
     validator: &mut DnssecDnsHandle<Recorded, Listed>,
-    given: Given,
+    given: &Given,
     lookup: &Lookup,
 ) -> bool {
     let scene = scene_of(given);
@@ -176,26 +175,17 @@ fn is_looked_up(
 }
 
 fn is_so(response: &DnsResponse, lookup: &Lookup) -> bool {
+    let Some(step) = response.trail.steps.last() else {
+        return false;
+    };
+    let (Some(set), Some(record)) = (step.sets.first(), response.message.answers.first()) else {
+        return false;
+    };
     response.trail.steps.len() == lookup.1
-        && has_set(response, lookup)
-        && has_record(response, lookup)
-}
-
-fn has_set(response: &DnsResponse, lookup: &Lookup) -> bool {
-    match response.trail.steps.last() {
-        Some(step) => match step.sets.first() {
-            Some(set) => set.mark == lookup.2 && set.origin == lookup.4,
-            None => false,
-        },
-        None => false,
-    }
-}
-
-fn has_record(response: &DnsResponse, lookup: &Lookup) -> bool {
-    match response.message.answers.first() {
-        Some(record) => record.proof == lookup.2 && record.ttl == lookup.3,
-        None => false,
-    }
+        && set.mark == lookup.2
+        && set.origin == lookup.4
+        && record.proof == lookup.2
+        && record.ttl == lookup.3
 }
 
 fn positive(

@@ -97,16 +97,12 @@ const ASKED: &[Asked] = &[
     },
 ];
 
-fn is_sending(sending: &Sending, message: &[u8], moment: u64) -> bool {
-    sending.moment == moment && *sending.message.as_slice() == *message
-}
-
-// What was kept at the row's place is its message, sent at this moment, and nothing else was kept than all rows.
-fn is_kept(kept: &[Sending], row: &Asked, moment: u64) -> bool {
-    match kept.get(row.place) {
-        Some(sending) => is_sending(sending, row.message, moment) && kept.len() == ASKS,
-        None => false,
-    }
+// What was kept at the row's place is its message, sent at the moment of all scenes, and nothing else was kept.
+fn is_kept(kept: &[Sending], row: &Asked) -> bool {
+    let Some(sending) = kept.get(row.place) else {
+        return false;
+    };
+    sending.moment == MOMENT && *sending.message.as_slice() == *row.message && kept.len() == ASKS
 }
 
 /// What the lookup of `. NS` sends at a place is the row's message.
@@ -115,7 +111,7 @@ fn is_sent(rt: &impl Abort, alloc: Global, row: &Asked) -> bool {
     let answer = ask_scene(rt, alloc, &mut handle, servers(), MOMENT);
     let answered = answer.is_ok();
     drop(answer);
-    let held = answered && is_kept(handle.inner().kept.as_slice(), row, MOMENT);
+    let held = answered && is_kept(handle.inner().kept.as_slice(), row);
     drop(handle.into_inner());
     held
 }

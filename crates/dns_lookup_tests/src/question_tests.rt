@@ -40,14 +40,13 @@ impl<'a> Verifier for Counting<'a> {
 }
 
 /// What is looked up.
-#[derive(Clone, Copy)]
 enum Given {
     OneZone,
     Walk,
     AnchoredBeside,
 }
 
-fn scene_of(given: Given) -> &'static Scene {
+fn scene_of(given: &Given) -> &'static Scene {
     match given {
         Given::OneZone => one_zone(),
         Given::Walk => walk(),
@@ -121,7 +120,7 @@ fn is_derived(
 /// The lookup asks as often as the row says, a check of the chains once for each signed link, and one of the trail as the row says.
 fn asks_so(rt: &impl Abort, alloc: Global, listed: &Listed, row: &Row) -> bool {
     let asked = Cell::new(0);
-    let (questions, scene) = (&asked, scene_of(row.1));
+    let (questions, scene) = (&asked, scene_of(&row.1));
     let anchors = anchors_of(rt, alloc, scene);
     let response = look_up(rt, alloc, scene, anchors, Counting { listed, questions });
     let by_lookup = questions.get() == row.2;
@@ -141,7 +140,7 @@ fn asks_so(rt: &impl Abort, alloc: Global, listed: &Listed, row: &Row) -> bool {
 #[test]
 fn the_verifier_is_asked_no_more_often_than_the_rules_ask_it(rt: HostRuntime) {
     for row in ROWS {
-        let listed = verifier_of(&rt, rt.alloc(), scene_of(row.1));
+        let listed = verifier_of(&rt, rt.alloc(), scene_of(&row.1));
         let held = asks_so(&rt, rt.alloc(), &listed, row);
         drop(listed);
         check_held(&rt, row.0, held);

@@ -40,18 +40,11 @@ const SENT: &[Sent] = &[
 ];
 
 /// The upstream's error where something was sent, which then was one request, and else that there is no question.
-fn is_error(error: &NetError, kept: &[Sending], sent: &[u8]) -> bool {
-    match kept {
-        [] => matches!(error, NetError::Message(Notice::NoQueryInRequest)) && sent.is_empty(),
-        [only] => matches!(error, NetError::Timeout) && *only.message.as_slice() == *sent,
-        _ => false,
-    }
-}
-
 fn is_refused(answer: &Answer, kept: &[Sending], sent: &[u8]) -> bool {
-    match answer {
-        Ok(_) => false,
-        Err(error) => is_error(error, kept, sent),
+    match (answer, kept) {
+        (Err(NetError::Message(Notice::NoQueryInRequest)), []) => sent.is_empty(),
+        (Err(NetError::Timeout), [only]) => *only.message.as_slice() == *sent,
+        _ => false,
     }
 }
 
