@@ -7,7 +7,7 @@ use crate::rows::check_held;
 use crate::scenes::{Scene, name_error, unsigned_cut};
 use dns_cache::{Acceptance, CacheKey, ListCache, TtlRanges, ValidationCache};
 use dns_evidence::{IterationLimits, Listed, Verifier};
-use dns_handle::{DnsError, DnsHandle, DnsResponse, NetError};
+use dns_handle::{DnsError, DnsHandle, NetError};
 use dns_recorded::Recorded;
 use dns_report::{Parts, write_report};
 use dns_trust::Judge;
@@ -79,33 +79,32 @@ pub(crate) fn serves(
     true
 }
 
-/// The same, until it wants nothing.
+/// The same, by an upstream and with a cache of its own, until it wants nothing.
 fn drive(
     rt: &impl Abort,
     alloc: Global,
-    upstream: &mut Recorded,
-    cache: &mut ListCache,
+    upstream: Recorded,
     validation: &mut Validation<'_, Listed>,
 ) {
+    let mut upstream = upstream;
+    let mut cache = ListCache::new(alloc, 1_000);
     for _ in 0..10_000_u32 {
-        if !serves(rt, alloc, upstream, cache, validation) {
-            return;
+        if !serves(rt, alloc, &mut upstream, &mut cache, validation) {
+            break;
         }
     }
+    drop(cache);
+    drop(upstream);
 }
 
-/// The text of a response, with its trail.
-fn report(rt: &impl Abort, alloc: Global, response: &DnsResponse) -> Vec<u8> {
-    write_report(alloc, response, Parts::WithTrail).expect(rt, "memory")
-}
-
-/// The text of an answer or of a denial, and none of another error.
+/// The text of an answer or of a denial, with its trail, and none of another error.
 fn text_of(rt: &impl Abort, alloc: Global, answer: &Answer) -> Vec<u8> {
-    match answer {
-        Ok(response) => report(rt, alloc, response),
-        Err(NetError::Dns(DnsError::Nsec { response, .. })) => report(rt, alloc, response),
-        Err(_) => Vec::new(alloc),
-    }
+    let response = match answer {
+        Ok(response) => response,
+        Err(NetError::Dns(DnsError::Nsec { response, .. })) => &**response,
+        Err(_) => return Vec::new(alloc),
+    };
+    write_report(alloc, response, Parts::WithTrail).expect(rt, "memory")
 }
 
 /// The same, where there is no other error than that nothing comes in time.
@@ -146,8 +145,6 @@ fn upstream_with(rt: &impl Abort, alloc: Global, scene: &Scene, message: &[u8]) 
 fn driven(rt: &impl Abort, alloc: Global, scene: &Scene, message: &[u8], whole: bool) -> Vec<u8> {
     let anchors = anchors_of(rt, alloc, scene);
     let verifier = verifier_of(rt, alloc, scene);
-    let mut upstream = upstream_with(rt, alloc, scene, message);
-    let mut cache = ListCache::new(alloc, 1_000);
     let judge = Judge {
         verifier: &verifier,
         anchors: &anchors,
@@ -158,10 +155,9 @@ fn driven(rt: &impl Abort, alloc: Global, scene: &Scene, message: &[u8], whole: 
     } else {
         begun(rt, alloc, judge, scene.name, scene.query_type)
     };
-    drive(rt, alloc, &mut upstream, &mut cache, &mut validation);
+    let upstream = upstream_with(rt, alloc, scene, message);
+    drive(rt, alloc, upstream, &mut validation);
     let text = comes_to(rt, alloc, validation);
-    drop(cache);
-    drop(upstream);
     drop(verifier);
     drop(anchors);
     text

@@ -70,17 +70,6 @@ pub(crate) fn query_of(
     }
 }
 
-/// The response of a message alone.
-fn response_of(rt: &impl Abort, alloc: Global, bytes: &[u8]) -> DnsResponse {
-    check_held(rt, "a message isn't too long", bytes.len() <= 65_535);
-    DnsResponse {
-        message: Message::from_vec(alloc, bytes).expect(rt, "a message"),
-        chains: Vec::new(alloc),
-        denial: Denial::None,
-        trail: Trail::new(alloc),
-    }
-}
-
 /// Puts a message behind the replies that were recorded.
 pub(crate) fn put_message(
     rt: &impl Abort,
@@ -90,8 +79,14 @@ pub(crate) fn put_message(
     query_type: RecordType,
     message: &[u8],
 ) {
+    check_held(rt, "a message isn't too long", message.len() <= 65_535);
     let query = query_of(rt, alloc, name, query_type);
-    let response = response_of(rt, alloc, message);
+    let response = DnsResponse {
+        message: Message::from_vec(alloc, message).expect(rt, "a message"),
+        chains: Vec::new(alloc),
+        denial: Denial::None,
+        trail: Trail::new(alloc),
+    };
     recorded.push(query, Ok(response)).expect(rt, "memory");
 }
 

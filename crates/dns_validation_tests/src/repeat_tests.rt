@@ -1,5 +1,5 @@
 //! Sets that come again within one lookup (RFC 4035, 4.5): which repeat that of an earlier step, and which are judged anew.
-use crate::given::{Answer, answer_to, put_message, put_replies, upstream_of};
+use crate::given::{answer_to, put_message, put_replies, upstream_of};
 use crate::rows::check_held;
 use crate::scenes::name_error;
 use dns_evidence::{JudgedSet, Trail};
@@ -45,16 +45,12 @@ fn a_set_that_comes_again_is_served(rt: HostRuntime) {
 // Whether in the trail of a lookup some set repeats that of an earlier step; each such set names no ask, and has a mark of that step.
 fn repeats(rt: &impl Abort, alloc: Global, upstream: Recorded) -> Option<bool> {
     let answer = answer_to(rt, alloc, upstream, name_error());
-    let held = repeats_in(&answer);
-    drop(answer);
-    held
-}
-
-fn repeats_in(answer: &Answer) -> Option<bool> {
-    match answer {
+    let held = match &answer {
         Ok(response) => repeats_along(&response.trail),
         Err(_) => None,
-    }
+    };
+    drop(answer);
+    held
 }
 
 fn repeats_along(trail: &Trail) -> Option<bool> {
@@ -74,10 +70,15 @@ fn repeats_along(trail: &Trail) -> Option<bool> {
 
 // A step with a number has a set of this owner, type, mark and deciding signature.
 fn is_as_before(trail: &Trail, set: &JudgedSet, number: u32) -> bool {
-    match trail.steps.get(number as usize) {
-        Some(step) => step.sets.iter().any(|earlier| is_alike(set, earlier)),
-        None => false,
+    let Some(step) = trail.steps.get(number as usize) else {
+        return false;
+    };
+    for earlier in &step.sets {
+        if is_alike(set, earlier) {
+            return true;
+        }
     }
+    false
 }
 
 fn is_alike(set: &JudgedSet, earlier: &JudgedSet) -> bool {

@@ -57,7 +57,6 @@ impl Verifier for AcceptsAll {
 }
 
 // How a validation is driven: by whose acceptance chains are told to have been kept, by which trust, and at which moment it judges.
-#[derive(Clone, Copy)]
 struct Way {
     acceptance: Acceptance,
     is_anchored: bool,
@@ -71,7 +70,7 @@ const FIRST: Way = Way {
 };
 
 // What was seen of a validation: how often it asked its upstream, whether its verifier, and whether it had an answer.
-#[derive(Clone, Copy, PartialEq, Eq)]
+#[derive(Clone, Copy, PartialEq)]
 struct Seen {
     sends: u32,
     asks_verifier: bool,
@@ -87,7 +86,7 @@ fn trust_of(rt: &impl Abort, alloc: Global, is_anchored: bool) -> TrustAnchors {
 }
 
 // What is seen of a validation of a name error, which comes to its end.
-fn seen_over(rt: &impl Abort, alloc: Global, cache: &mut ListCache, way: Way) -> Seen {
+fn seen_over(rt: &impl Abort, alloc: Global, cache: &mut ListCache, way: &Way) -> Seen {
     let anchors = trust_of(rt, alloc, way.is_anchored);
     let verifier = AcceptsAll::new();
     let judge = Judge {
@@ -121,7 +120,7 @@ fn sends_of(
     alloc: Global,
     cache: &mut ListCache,
     validation: &mut Validation<'_, AcceptsAll>,
-    way: Way,
+    way: &Way,
 ) -> u32 {
     let mut upstream = upstream_of(rt, alloc, name_error());
     let mut sends = 0_u32;
@@ -143,7 +142,7 @@ fn served(
     upstream: &mut Recorded,
     cache: &mut ListCache,
     validation: &mut Validation<'_, AcceptsAll>,
-    way: Way,
+    way: &Way,
 ) -> Option<bool> {
     let asked = match validation.next() {
         None => return None,
@@ -258,9 +257,9 @@ const REFUSED: &[Way] = &[
 ];
 
 // What is seen of a validation over what a first one left, which asked for the name, and for the keys of two signatures.
-fn seen_later(rt: &impl Abort, alloc: Global, way: Way) -> Seen {
+fn seen_later(rt: &impl Abort, alloc: Global, way: &Way) -> Seen {
     let mut cache = ListCache::new(alloc, 100);
-    let first = seen_over(rt, alloc, &mut cache, FIRST);
+    let first = seen_over(rt, alloc, &mut cache, &FIRST);
     let later = seen_over(rt, alloc, &mut cache, way);
     drop(cache);
     check_held(rt, "the first one", first == Seen { sends: 3, ..SERVED });
@@ -270,7 +269,7 @@ fn seen_later(rt: &impl Abort, alloc: Global, way: Way) -> Seen {
 #[test]
 fn a_kept_set_serves_the_next_validation(rt: HostRuntime) {
     for row in rows() {
-        let seen = seen_later(&rt, rt.alloc(), row.1);
+        let seen = seen_later(&rt, rt.alloc(), &row.1);
         check_held(&rt, row.0, seen == row.2);
     }
 }
@@ -278,7 +277,7 @@ fn a_kept_set_serves_the_next_validation(rt: HostRuntime) {
 #[test]
 fn an_accepted_chain_serves_while_anchors_and_times_hold(rt: HostRuntime) {
     for way in REFUSED {
-        let seen = seen_later(&rt, rt.alloc(), *way);
+        let seen = seen_later(&rt, rt.alloc(), way);
         check_held(&rt, "what was kept doesn't serve", !seen.is_answered);
     }
 }

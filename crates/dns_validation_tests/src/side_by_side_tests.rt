@@ -280,17 +280,11 @@ fn is_stopped(
     driven: &mut Driven<'_>,
 ) -> bool {
     let goes = goes_on(rt, alloc, upstream, driven) && goes_on(rt, alloc, upstream, driven);
-    let asks = asks_upstream(&mut driven.validation);
-    driven.validation.answer(Err(NetError::NoMemory));
-    goes && asks && !goes_on(rt, alloc, upstream, driven)
-}
-
-/// It wants the reply to an ask.
-fn asks_upstream(validation: &mut Validation<'_, Listed>) -> bool {
-    let wanted = validation.next();
+    let wanted = driven.validation.next();
     let asks = matches!(&wanted, Some(Wanted::Reply(_)));
     drop(wanted);
-    asks
+    driven.validation.answer(Err(NetError::NoMemory));
+    goes && asks && !goes_on(rt, alloc, upstream, driven)
 }
 
 /// It answers that memory ran out.
