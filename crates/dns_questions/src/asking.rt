@@ -53,17 +53,27 @@ impl Asking {
             question.signature.as_slice(),
         );
         if known {
+            drop(question);
             return Ok(());
         }
         let algorithm = question.algorithm;
-        let key = question.key.try_clone()?;
-        let bytes = question.bytes.try_clone()?;
-        let signature = question.signature.try_clone()?;
+        let Ok(key) = question.key.try_clone() else {
+            drop(question);
+            return Err(NoMemory);
+        };
+        let Ok(bytes) = question.bytes.try_clone() else {
+            drop(question);
+            return Err(NoMemory);
+        };
+        let Ok(signature) = question.signature.try_clone() else {
+            drop(question);
+            return Err(NoMemory);
+        };
         self.all.push(question)?;
         match self.seen.accept_octets(algorithm, key, bytes, signature) {
             Ok(()) => Ok(()),
             Err(NoMemory) => {
-                self.all.pop();
+                drop(self.all.pop());
                 Err(NoMemory)
             }
         }

@@ -77,7 +77,9 @@ fn add_step(into: &mut Asking, context: &Context<'_>, step: &Asked) -> Result<()
         return Ok(());
     };
     let message = message_of(context.alloc, told)?;
-    let placed = judged_part(context.alloc, step.depth, &message)?;
+    let placed = judged_part(context.alloc, step.depth, &message);
+    drop(message);
+    let placed = placed?;
     add_sets(into, context, &step.query, &placed, &step.sets)
 }
 
