@@ -1,6 +1,6 @@
-ghost use Rattle.std.specs.Prelude.{◌≡◌, IfOk, is_some};
+ghost use Rattle.std.specs.Prelude.{◌≡◌, IfOk};
 ghost use Rattle.std.specs.Option.{option_map, option_copied};
-ghost use Rattle.dns_session.specs.Lines.{header_line, moment_line, depth_line, algorithms_line, accept_line, end_line, words_left, bytes_in};
+ghost use Rattle.dns_session.specs.Lines.{header_line, moment_line, depth_line, algorithms_line, accept_line, words_left, bytes_in};
 ghost use Rattle.dns_session.specs.LineFields.{accept_in};
 
 use crate::form::LineForm;
@@ -21,13 +21,6 @@ pub(crate) fn by_turn_of(line: &[u8]) -> Option<bool>
     } else {
         None
     }
-}
-
-/// The last line.
-pub(crate) fn is_end(line: &[u8]) -> bool
-    ensures { result ≡ is_some (end_line line.now) }
-{
-    line == b"end".as_slice()
 }
 
 /// The moment of a `moment` line.

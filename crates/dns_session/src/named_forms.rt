@@ -18,10 +18,10 @@ pub fn question_of(
 ) -> Result<Option<Query>, NoMemory>
     ensures { IfOk result (λ q. q ≡ question_in name.now record_type.now) }
 {
-    let Some(name) = name_word_in(alloc, name)? else {
+    let Some(query_type) = type_word_in(record_type) else {
         return Ok(None);
     };
-    let Some(query_type) = type_word_in(record_type) else {
+    let Some(name) = name_word_in(alloc, name)? else {
         return Ok(None);
     };
     Ok(Some(Query {
@@ -40,10 +40,10 @@ fn anchor_of(
 ) -> Result<Option<Anchor>, NoMemory>
     ensures { IfOk result (λ a. a ≡ anchor_in name.now algorithm.now key.now) }
 {
-    let Some(owner) = name_word_in(alloc, name)? else {
+    let Some(algorithm) = u8_in(algorithm) else {
         return Ok(None);
     };
-    let Some(algorithm) = u8_in(algorithm) else {
+    let Some(owner) = name_word_in(alloc, name)? else {
         return Ok(None);
     };
     let Some(key) = octets_in(alloc, key)? else {

@@ -5,7 +5,7 @@ ghost use Rattle.dns_session.specs.Grammar.{session_front, session_of};
 ghost use Rattle.dns_session.specs.Stops.{ReadsAs};
 
 use crate::form::many;
-use crate::forms::{algorithms_of, by_turn_of, depth_of, is_end, moment_of};
+use crate::forms::{algorithms_of, by_turn_of, depth_of, moment_of};
 use crate::lines::Lines;
 use crate::named_forms::query_of;
 use crate::session::Session;
@@ -94,7 +94,13 @@ fn after_end<'a>(lines: Lines<'a>) -> Result<Lines<'a>, SessionStop>
 {
     let bad = SessionStop::BadLine(lines.number());
     match lines.next() {
-        Some((line, after)) => { if is_end(line) { Ok(after) } else { Err(bad) } }
+        Some((line, after)) => {
+            if line == b"end".as_slice() {
+                Ok(after)
+            } else {
+                Err(bad)
+            }
+        }
         None => Err(bad),
     }
 }
@@ -141,6 +147,7 @@ pub fn read_session(alloc: Global, bytes: &[u8]) -> Result<Session, SessionStop>
     if lines.is_ended() {
         Ok(session)
     } else {
+        drop(session);
         Err(SessionStop::BadLine(lines.number()))
     }
 }

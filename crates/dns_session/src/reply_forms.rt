@@ -1,6 +1,6 @@
 ghost use Rattle.std.specs.Prelude.{◌≡◌, ◌<◌, ◌^◌, length, IfOk};
 ghost use Rattle.std.specs.Option.{option_map};
-ghost use Rattle.dns_session.specs.Lines.{three_after, message_word_in, message_after, fault_word_in, reply_line, empty_line, fault_line, upstream_line};
+ghost use Rattle.dns_session.specs.Lines.{three_after, message_word_in, message_after, fault_word_in, fault_line, upstream_line};
 
 use crate::form::LineForm;
 use crate::named_forms::question_of;
@@ -64,30 +64,6 @@ fn message_after(
     Ok(Some((query, message)))
 }
 
-/// What a `reply` line says.
-fn reply_of(alloc: Global, line: &[u8]) -> Result<Option<SessionReply>, NoMemory>
-    requires { length line.now < 2 ^ 32 }
-    ensures { IfOk result (λ r. r ≡ reply_line line.now) }
-{
-    let Some((query, message)) = message_after(alloc, line, b"reply")? else {
-        return Ok(None);
-    };
-    let kind = ReplyKind::Message(message);
-    Ok(Some(SessionReply { query, kind }))
-}
-
-/// What an `empty` line says.
-fn empty_of(alloc: Global, line: &[u8]) -> Result<Option<SessionReply>, NoMemory>
-    requires { length line.now < 2 ^ 32 }
-    ensures { IfOk result (λ r. r ≡ empty_line line.now) }
-{
-    let Some((query, message)) = message_after(alloc, line, b"empty")? else {
-        return Ok(None);
-    };
-    let kind = ReplyKind::Empty(message);
-    Ok(Some(SessionReply { query, kind }))
-}
-
 /// The fault that a word names.
 fn fault_in(word: &[u8]) -> Option<ReplyFault>
     ensures { result ≡ fault_word_in word.now }
@@ -110,10 +86,10 @@ fn fault_of(alloc: Global, line: &[u8]) -> Result<Option<SessionReply>, NoMemory
     let Some((name, record_type, fault)) = three_after(line, b"fault") else {
         return Ok(None);
     };
-    let Some(query) = question_of(alloc, name, record_type)? else {
+    let Some(fault) = fault_in(fault) else {
         return Ok(None);
     };
-    let Some(fault) = fault_in(fault) else {
+    let Some(query) = question_of(alloc, name, record_type)? else {
         return Ok(None);
     };
     let kind = ReplyKind::Fault(fault);
@@ -124,11 +100,13 @@ impl LineForm for SessionReply {
     ghost form = { upstream_line };
 
     fn read(alloc: Global, line: &[u8]) -> Result<Option<SessionReply>, NoMemory> {
-        if let Some(reply) = reply_of(alloc, line)? {
-            return Ok(Some(reply));
+        if let Some((query, message)) = message_after(alloc, line, b"reply")? {
+            let kind = ReplyKind::Message(message);
+            return Ok(Some(SessionReply { query, kind }));
         }
-        if let Some(reply) = empty_of(alloc, line)? {
-            return Ok(Some(reply));
+        if let Some((query, message)) = message_after(alloc, line, b"empty")? {
+            let kind = ReplyKind::Empty(message);
+            return Ok(Some(SessionReply { query, kind }));
         }
         fault_of(alloc, line)
     }
