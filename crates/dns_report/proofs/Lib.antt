@@ -1,5 +1,6 @@
 pub mod LineLaws
 pub mod SpacedWords
+pub mod TurnLemmas
 pub mod LineBlocks
 pub mod NameShapes
 pub mod MarkWords
