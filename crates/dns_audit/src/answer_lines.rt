@@ -1,9 +1,9 @@
 //! The lines before an answer's records.
-ghost use Rattle.std.specs.Prelude.{◌≡◌, is_some};
+ghost use Rattle.std.specs.Prelude.{◌≡◌};
 ghost use Rattle.std.specs.Option.{option_map, option_copied};
 ghost use Rattle.dns_model.specs.declared.denial.Denial.TheVariants.{Absent, Expanded};
 ghost use Rattle.dns_session.specs.Lines.{words_left};
-ghost use Rattle.dns_audit.specs.ReportLines.{report_header, code_line, denial_by, denial_line, marked, whole};
+ghost use Rattle.dns_audit.specs.ReportLines.{code_line, denial_by, denial_line, marked, whole};
 
 use crate::report_words::mark_in;
 use crate::word_cuts::first_of;
@@ -12,21 +12,18 @@ use dns_record::ResponseCode;
 use dns_session::{after, single};
 use dns_text::u16_in;
 
-/// The line that names the form and its version.
-pub(crate) fn is_header(line: &[u8]) -> bool
-    ensures { result ≡ is_some (report_header line.now) }
-{
-    line == b"dns-report 1".as_slice()
-}
-
 /// The code of a `code` line.
 pub(crate) fn code_of(line: &[u8]) -> Option<ResponseCode>
     ensures { option_map (λ code. code.0) result ≡ code_line line.now }
 {
-    let rest = after(line, b"code")?;
-    let word = single(rest)?;
-    let number = u16_in(word)?;
-    Some(ResponseCode(number))
+    if let Some(rest) = after(line, b"code")
+        && let Some(word) = single(rest)
+        && let Some(number) = u16_in(word)
+    {
+        Some(ResponseCode(number))
+    } else {
+        None
+    }
 }
 
 /// A mark, and what is left after it.
@@ -84,12 +81,12 @@ fn whole(denial: Denial, rest: Option<&[u8]>) -> Option<Denial>
 pub(crate) fn denial_of(line: &[u8]) -> Option<Denial>
     ensures { result ≡ denial_line line.now }
 {
-    let rest = after(line, b"denial")?;
-    match first_of(rest) {
-        Some((kind, more)) => match denial_by(kind, more) {
-            Some((denial, left)) => whole(denial, left),
-            None => None,
-        },
-        None => None,
+    if let Some(rest) = after(line, b"denial")
+        && let Some((kind, more)) = first_of(rest)
+        && let Some((denial, left)) = denial_by(kind, more)
+    {
+        whole(denial, left)
+    } else {
+        None
     }
 }

@@ -38,11 +38,15 @@ impl Model for ChainHead {
 fn head_of(line: &[u8]) -> Option<ChainHead>
     ensures { result ≡ chain_line line.now }
 {
-    let rest = after(line, b"chain")?;
-    let (section, count) = double(rest)?;
-    let section = section_in(section)?;
-    let count = u32_in(count)?;
-    Some(ChainHead { section, count })
+    if let Some(rest) = after(line, b"chain")
+        && let Some((section, count)) = double(rest)
+        && let Some(section) = section_in(section)
+        && let Some(count) = u32_in(count)
+    {
+        Some(ChainHead { section, count })
+    } else {
+        None
+    }
 }
 
 /// The next link, and the lines after it.

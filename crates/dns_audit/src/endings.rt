@@ -45,13 +45,13 @@ fn foreign_in<'a>(
     let Some((owner, class, record_type, left)) = three_of(rest) else {
         return Ok(None);
     };
-    let Some(owner) = name_word_in(alloc, owner)? else {
-        return Ok(None);
-    };
     let Some(class) = class_word_in(class) else {
         return Ok(None);
     };
     let Some(record_type) = type_word_in(record_type) else {
+        return Ok(None);
+    };
+    let Some(owner) = name_word_in(alloc, owner)? else {
         return Ok(None);
     };
     let ending = Ending::Foreign {

@@ -22,10 +22,10 @@ fn anchored_in(alloc: Global, rest: Option<&[u8]>) -> Result<Option<Link>, NoMem
     let Some((owner, class, key)) = triple(rest) else {
         return Ok(None);
     };
-    let Some(owner) = name_word_in(alloc, owner)? else {
+    let Some(class) = class_word_in(class) else {
         return Ok(None);
     };
-    let Some(class) = class_word_in(class) else {
+    let Some(owner) = name_word_in(alloc, owner)? else {
         return Ok(None);
     };
     let Some(key) = rdata_in(alloc, key)? else {
@@ -41,16 +41,16 @@ fn matched_in(alloc: Global, rest: Option<&[u8]>) -> Result<Option<Link>, NoMemo
     let Some((owner, class, key, ds_link, ds)) = quintuple(rest) else {
         return Ok(None);
     };
-    let Some(owner) = name_word_in(alloc, owner)? else {
-        return Ok(None);
-    };
     let Some(class) = class_word_in(class) else {
         return Ok(None);
     };
-    let Some(key) = rdata_in(alloc, key)? else {
+    let Some(ds_link) = u32_in(ds_link) else {
         return Ok(None);
     };
-    let Some(ds_link) = u32_in(ds_link) else {
+    let Some(owner) = name_word_in(alloc, owner)? else {
+        return Ok(None);
+    };
+    let Some(key) = rdata_in(alloc, key)? else {
         return Ok(None);
     };
     let Some(ds) = rdata_in(alloc, ds)? else {
@@ -121,10 +121,10 @@ fn key_set_in(alloc: Global, rest: Option<&[u8]>) -> Result<Option<Link>, NoMemo
     let Some((owner, class, numbered)) = two_of(rest) else {
         return Ok(None);
     };
-    let Some(owner) = name_word_in(alloc, owner)? else {
+    let Some(class) = class_word_in(class) else {
         return Ok(None);
     };
-    let Some(class) = class_word_in(class) else {
+    let Some(owner) = name_word_in(alloc, owner)? else {
         return Ok(None);
     };
     let Some((links, keys)) = numbered_in(alloc, numbered)? else {
@@ -145,9 +145,6 @@ fn signed_in(alloc: Global, rest: Option<&[u8]>) -> Result<Option<Link>, NoMemor
     let Some((owner, class, record_type, key_link, key, sig, rdatas)) = six_of(rest) else {
         return Ok(None);
     };
-    let Some(owner) = name_word_in(alloc, owner)? else {
-        return Ok(None);
-    };
     let Some(class) = class_word_in(class) else {
         return Ok(None);
     };
@@ -155,6 +152,9 @@ fn signed_in(alloc: Global, rest: Option<&[u8]>) -> Result<Option<Link>, NoMemor
         return Ok(None);
     };
     let Some(key_link) = u32_in(key_link) else {
+        return Ok(None);
+    };
+    let Some(owner) = name_word_in(alloc, owner)? else {
         return Ok(None);
     };
     let Some(key) = rdata_in(alloc, key)? else {

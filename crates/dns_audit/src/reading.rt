@@ -6,12 +6,12 @@ ghost use Rattle.dns_session.specs.Stops.{ReadsAs};
 ghost use Rattle.dns_audit.specs.ReportLines.{report_header, code_line, denial_line, record_line};
 ghost use Rattle.dns_audit.specs.ReportGrammar.{end_at, report_at, audit_of};
 
-use crate::answer_lines::{code_of, denial_of, is_header};
+use crate::answer_lines::{code_of, denial_of};
 use crate::chains::chains_at;
-use crate::records::{RecordKind, records_of};
+use crate::records::{RecordKind, Sections, sections_of};
 use crate::report::Report;
 use crate::steps::trail_at;
-use dns_model::{Denial, Section};
+use dns_model::Denial;
 use dns_record::ResponseCode;
 use dns_session::{Lines, Session, SessionStop, read_front};
 use std::alloc::Global;
@@ -23,7 +23,13 @@ fn after_header<'a>(lines: Lines<'a>) -> Result<Lines<'a>, SessionStop>
 {
     let bad = SessionStop::BadLine(lines.number());
     match lines.next() {
-        Some((line, after)) => { if is_header(line) { Ok(after) } else { Err(bad) } }
+        Some((line, after)) => {
+            if line == b"dns-report 1".as_slice() {
+                Ok(after)
+            } else {
+                Err(bad)
+            }
+        }
         None => Err(bad),
     }
 }
@@ -89,12 +95,15 @@ pub fn read_report<'a>(alloc: Global, lines: Lines<'a>) -> Result<Report, Sessio
     let lines = after_header(lines)?;
     let (code, lines) = one_code(lines)?;
     let (denial, lines) = one_denial(lines)?;
-    let (answers, lines) = records_of(alloc, RecordKind::Marked, Section::Answer, lines)?;
-    let (authorities, lines) = records_of(alloc, RecordKind::Marked, Section::Authority, lines)?;
-    let (additionals, lines) = records_of(alloc, RecordKind::Marked, Section::Additional, lines)?;
+    let (sections, lines) = sections_of(alloc, RecordKind::Marked, lines)?;
     let (chains, lines) = chains_at(alloc, lines)?;
     let (trail, lines) = trail_at(alloc, lines)?;
     end(lines)?;
+    let Sections {
+        answers,
+        authorities,
+        additionals,
+    } = sections;
     Ok(Report {
         code,
         denial,

@@ -3,6 +3,7 @@ ghost use Rattle.std.specs.Prelude.{◌≡◌, List, ℕ, Option, IfOk};
 ghost use Rattle.std.specs.Option.{option_map, option_copied};
 ghost use Rattle.dns_model.specs.Records.{Rr};
 ghost use Rattle.dns_model.specs.declared.section.Section.{Section};
+ghost use Rattle.dns_model.specs.declared.section.Section.TheVariants.{Answer, Authority, Additional};
 ghost use Rattle.dns_report.specs.LineWords.{section_word};
 ghost use Rattle.dns_session.specs.LinePlaces.{many};
 ghost use Rattle.dns_session.specs.Lines.{words_left};
@@ -27,6 +28,14 @@ pub(crate) enum RecordKind {
     Told,
 }
 
+/// The records of three sections.
+#[derive(Drop)]
+pub(crate) struct Sections {
+    pub answers: Vec<Record>,
+    pub authorities: Vec<Record>,
+    pub additionals: Vec<Record>,
+}
+
 /// The word of a section.
 fn section_word(section: Section) -> &'static [u8]
     ensures { result.now ≡ section_word section }
@@ -49,9 +58,6 @@ fn unmarked_in(
 ) -> Result<Option<Record>, NoMemory>
     ensures { IfOk result (λ r. r ≡ unmarked_in name.now class.now record_type.now ttl.now rdata.now) }
 {
-    let Some(name) = name_word_in(alloc, name)? else {
-        return Ok(None);
-    };
     let Some(dns_class) = class_word_in(class) else {
         return Ok(None);
     };
@@ -59,6 +65,9 @@ fn unmarked_in(
         return Ok(None);
     };
     let Some(ttl) = u32_in(ttl) else {
+        return Ok(None);
+    };
+    let Some(name) = name_word_in(alloc, name)? else {
         return Ok(None);
     };
     let Some(rdata) = rdata_in(alloc, rdata)? else {
@@ -86,32 +95,14 @@ fn record_in(
 ) -> Result<Option<Record>, NoMemory>
     ensures { IfOk result (λ r. r ≡ record_in name.now class.now record_type.now ttl.now mark.now rdata.now) }
 {
-    let Some(name) = name_word_in(alloc, name)? else {
-        return Ok(None);
-    };
-    let Some(dns_class) = class_word_in(class) else {
-        return Ok(None);
-    };
-    let Some(record_type) = type_word_in(record_type) else {
-        return Ok(None);
-    };
-    let Some(ttl) = u32_in(ttl) else {
-        return Ok(None);
-    };
     let Some(proof) = mark_in(mark) else {
         return Ok(None);
     };
-    let Some(rdata) = rdata_in(alloc, rdata)? else {
+    let Some(mut record) = unmarked_in(alloc, name, class, record_type, ttl, rdata)? else {
         return Ok(None);
     };
-    Ok(Some(Record {
-        name,
-        record_type,
-        dns_class,
-        ttl,
-        rdata,
-        proof,
-    }))
+    record.proof = proof;
+    Ok(Some(record))
 }
 
 /// A record of an answer's section, by its line.
@@ -188,4 +179,28 @@ pub(crate) fn records_of<'a>(
         here = after;
     }
     Ok((all, here))
+}
+
+/// The records of an answer's three sections, or those that a step was told in them, and the lines after them.
+pub(crate) fn sections_of<'a>(
+    alloc: Global,
+    kind: RecordKind,
+    lines: Lines<'a>,
+) -> Result<(Sections, Lines<'a>), NoMemory>
+    ensures { IfOk result (λ x.
+        let answers = many (line_of kind Answer) lines.entry in
+        let authorities = many (line_of kind Authority) answers.1 in
+        let additionals = many (line_of kind Additional) authorities.1 in
+        (x.0.answers.items ≡ answers.0) × (x.0.authorities.items ≡ authorities.0)
+        × (x.0.additionals.items ≡ additionals.0) × (x.1 ≡ additionals.1)) }
+{
+    let (answers, lines) = records_of(alloc, kind, Section::Answer, lines)?;
+    let (authorities, lines) = records_of(alloc, kind, Section::Authority, lines)?;
+    let (additionals, lines) = records_of(alloc, kind, Section::Additional, lines)?;
+    let sections = Sections {
+        answers,
+        authorities,
+        additionals,
+    };
+    Ok((sections, lines))
 }

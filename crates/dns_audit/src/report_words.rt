@@ -16,8 +16,10 @@ use std::alloc::Global;
 pub(crate) fn u32_in(word: &[u8]) -> Option<u32>
     ensures { result ≡ u32_in word.now }
 {
-    let number = decimal_in(word, 4_294_967_295)?;
-    Some(number as u32)
+    match decimal_in(word, 4_294_967_295) {
+        Some(number) => Some(number as u32),
+        None => None,
+    }
 }
 
 /// Whether a letter in upper case stands in a word. No branch looks at a byte, so that many are looked at at once.
@@ -103,9 +105,10 @@ pub(crate) fn ask_in(word: &[u8]) -> Option<AskRef>
         Some(AskRef::TooDeep)
     } else if word == b"many".as_slice() {
         Some(AskRef::TooMany)
-    } else {
-        let number = u32_in(word)?;
+    } else if let Some(number) = u32_in(word) {
         Some(AskRef::Step(number))
+    } else {
+        None
     }
 }
 
@@ -125,10 +128,12 @@ pub(crate) fn origin_in(word: &[u8]) -> Option<MarkOrigin>
         Some(MarkOrigin::Table)
     } else if word == b"cache".as_slice() {
         Some(MarkOrigin::Cache)
-    } else {
-        let digits = after_repeat(word)?;
-        let number = u32_in(digits)?;
+    } else if let Some(digits) = after_repeat(word)
+        && let Some(number) = u32_in(digits)
+    {
         Some(MarkOrigin::Repeat(number))
+    } else {
+        None
     }
 }
 
@@ -139,8 +144,9 @@ pub(crate) fn place_in(word: &[u8]) -> Option<Option<u32>>
 {
     if word == b"-".as_slice() {
         Some(None)
-    } else {
-        let place = u32_in(word)?;
+    } else if let Some(place) = u32_in(word) {
         Some(Some(place))
+    } else {
+        None
     }
 }

@@ -24,9 +24,6 @@ fn set_in(alloc: Global, rest: Option<&[u8]>) -> Result<Option<JudgedSet>, NoMem
     let Some(section) = section_in(section) else {
         return Ok(None);
     };
-    let Some(owner) = name_word_in(alloc, owner)? else {
-        return Ok(None);
-    };
     let Some(record_type) = type_word_in(record_type) else {
         return Ok(None);
     };
@@ -37,6 +34,9 @@ fn set_in(alloc: Global, rest: Option<&[u8]>) -> Result<Option<JudgedSet>, NoMem
         return Ok(None);
     };
     let Some(sig) = place_in(sig) else {
+        return Ok(None);
+    };
+    let Some(owner) = name_word_in(alloc, owner)? else {
         return Ok(None);
     };
     let Some(asked) = asks_of(alloc, asks)? else {

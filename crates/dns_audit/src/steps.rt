@@ -2,22 +2,20 @@
 ghost use Rattle.std.specs.Prelude.{◌≡◌, IfOk};
 ghost use Rattle.std.specs.Option.{option_map, option_copied};
 ghost use Rattle.dns_evidence.specs.Trail.{heard_value};
-ghost use Rattle.dns_model.specs.Told.{Told as ToldValue};
 ghost use Rattle.dns_session.specs.LinePlaces.{one, optional};
 ghost use Rattle.dns_session.specs.Lines.{words_left};
 ghost use Rattle.dns_session.specs.Stops.{ReadsAs};
 ghost use Rattle.dns_audit.specs.ReportValue.{GotValue};
 ghost use Rattle.dns_audit.specs.ReportLines.{got_code, got_one, got_by, got_line, step_in, step_line, trail_line, ending_line};
-ghost use Rattle.dns_audit.specs.ReportGrammar.{times, told_after, told_at, step_at, steps_at, trail_at};
+ghost use Rattle.dns_audit.specs.ReportGrammar.{times, told_at, step_at, steps_at, trail_at};
 ghost use Rattle.dns_audit.specs.Heard.{got_value};
 
 use crate::endings::{StepEnd, ending_of};
-use crate::records::{RecordKind, records_of};
+use crate::records::{RecordKind, Sections, sections_of};
 use crate::report_words::{purpose_in, u32_in};
 use crate::sets::sets_of;
 use crate::word_cuts::first_of;
 use dns_evidence::{Asked, Reply, Told, Trail};
-use dns_model::Section;
 use dns_name::NoMemory;
 use dns_record::{Query, ResponseCode};
 use dns_session::{Lines, SessionStop, after, quadruple, question_of, single};
@@ -57,9 +55,13 @@ pub(crate) enum Got {
 fn count_of(line: &[u8]) -> Option<u32>
     ensures { result ≡ trail_line line.now }
 {
-    let rest = after(line, b"trail")?;
-    let word = single(rest)?;
-    u32_in(word)
+    if let Some(rest) = after(line, b"trail")
+        && let Some(word) = single(rest)
+    {
+        u32_in(word)
+    } else {
+        None
+    }
 }
 
 /// What begins a step, by its four words.
@@ -107,8 +109,10 @@ fn head_of(alloc: Global, line: &[u8]) -> Result<Option<StepHead>, NoMemory>
 fn got_code(word: &[u8], empty: bool) -> Option<Got>
     ensures { option_map got_value result ≡ got_code empty word.now }
 {
-    let number = u16_in(word)?;
-    Some(Got::Code(ResponseCode(number), empty))
+    match u16_in(word) {
+        Some(number) => Some(Got::Code(ResponseCode(number), empty)),
+        None => None,
+    }
 }
 
 /// What was heard of a reply, by one word.
@@ -130,8 +134,9 @@ fn got_by(word: &[u8], rest: Option<&[u8]>) -> Option<Got>
     if rest.is_none() {
         return got_one(word);
     }
-    let next = single(rest)?;
-    if next == b"empty".as_slice() {
+    if let Some(next) = single(rest)
+        && next == b"empty".as_slice()
+    {
         got_code(word, true)
     } else {
         None
@@ -142,10 +147,12 @@ fn got_by(word: &[u8], rest: Option<&[u8]>) -> Option<Got>
 fn got_of(line: &[u8]) -> Option<Got>
     ensures { option_map got_value result ≡ got_line line.now }
 {
-    let rest = after(line, b"got")?;
-    match first_of(rest) {
-        Some((word, more)) => got_by(word, more),
-        None => None,
+    if let Some(rest) = after(line, b"got")
+        && let Some((word, more)) = first_of(rest)
+    {
+        got_by(word, more)
+    } else {
+        None
     }
 }
 
@@ -194,35 +201,25 @@ fn one_ending<'a>(alloc: Global, lines: Lines<'a>) -> Result<(StepEnd, Lines<'a>
     }
 }
 
-/// The records that a reply with this code told, and the lines after them.
-fn told_after<'a>(
-    alloc: Global,
-    code: ResponseCode,
-    empty: bool,
-    lines: Lines<'a>,
-) -> Result<(Told, Lines<'a>), NoMemory>
-    ensures { IfOk result (λ x. (x.0, x.1) ≡ told_after code.0 empty lines.entry) }
-{
-    let (answers, lines) = records_of(alloc, RecordKind::Told, Section::Answer, lines)?;
-    let (authorities, lines) = records_of(alloc, RecordKind::Told, Section::Authority, lines)?;
-    let (additionals, lines) = records_of(alloc, RecordKind::Told, Section::Additional, lines)?;
-    let told = Told {
-        code,
-        empty,
-        answers,
-        authorities,
-        additionals,
-    };
-    Ok((told, lines))
-}
-
 /// What was heard of a reply, and the lines after it.
 fn told_at<'a>(alloc: Global, got: Got, lines: Lines<'a>) -> Result<(Reply, Lines<'a>), NoMemory>
     ensures { IfOk result (λ x. (heard_value x.0, x.1) ≡ told_at (got_value got) lines.entry) }
 {
     match got {
         Got::Code(code, empty) => {
-            let (told, lines) = told_after(alloc, code, empty, lines)?;
+            let (sections, lines) = sections_of(alloc, RecordKind::Told, lines)?;
+            let Sections {
+                answers,
+                authorities,
+                additionals,
+            } = sections;
+            let told = Told {
+                code,
+                empty,
+                answers,
+                authorities,
+                additionals,
+            };
             Ok((Reply::Told(told), lines))
         }
         Got::NoReply => Ok((Reply::Fault, lines)),
@@ -236,9 +233,24 @@ fn step_at<'a>(alloc: Global, lines: Lines<'a>) -> Result<(Asked, Lines<'a>), Se
 {
     let (head, lines) = one_head(alloc, lines)?;
     let (got, lines) = one_got(lines)?;
-    let (reply, lines) = told_at(alloc, got, lines)?;
-    let (sets, lines) = sets_of(alloc, lines)?;
-    let (end, lines) = one_ending(alloc, lines)?;
+    let Ok((reply, lines)) = told_at(alloc, got, lines) else {
+        drop(head);
+        return Err(SessionStop::NoMemory);
+    };
+    let Ok((sets, lines)) = sets_of(alloc, lines) else {
+        drop(reply);
+        drop(head);
+        return Err(SessionStop::NoMemory);
+    };
+    let (end, lines) = match one_ending(alloc, lines) {
+        Ok(read) => read,
+        Err(stop) => {
+            drop(sets);
+            drop(reply);
+            drop(head);
+            return Err(stop);
+        }
+    };
     let step = Asked {
         depth: head.depth,
         judged: head.judged,
