@@ -1,7 +1,7 @@
 //! By what nested zones are judged: the root's key is trusted, and the signatures that were made are accepted.
-ghost use Rattle.std.specs.Prelude.{◌≡◌, IfOk, OnOk};
+ghost use Rattle.std.specs.Prelude.{◌≡◌, ◌<◌, ◌+◌, IfOk, OnOk};
 ghost use Rattle.dns_evidence.specs.Listing.{with_accepted};
-ghost use Rattle.dns_nested_zones.specs.NestedZones.{accepted_by, anchors, verifier};
+ghost use Rattle.dns_nested_zones.specs.NestedZones.{accepted_by, anchors, ds_record, host_record, verifier};
 
 use crate::ZoneCount;
 use crate::records::{ALGORITHM, ds_record, host_record, signature_by, signature_octets};
@@ -50,6 +50,33 @@ fn accept(alloc: Global, verifier: &mut Listed, zone: &Zone, signed: Record) -> 
     verifier.accept_octets(ALGORITHM, key, bytes, signature)
 }
 
+/// Accepts a zone's signature of the DS record of the zone below it, and answers that zone.
+fn accept_below(alloc: Global, verifier: &mut Listed, zone: &Zone) -> Result<Zone, NoMemory>
+    requires { zone.now < 100 }
+    ensures accepted { OnOk result
+        (verifier.new ≡ with_accepted verifier.old (accepted_by zone.now (ds_record (zone.now + 1)))) }
+    ensures child { IfOk result (λ z. z ≡ zone.now + 1) }
+{
+    let child = zone.child(alloc)?;
+    let Ok(ds) = ds_record(alloc, &child) else {
+        drop(child);
+        return Err(NoMemory);
+    };
+    let Ok(()) = accept(alloc, verifier, zone, ds) else {
+        drop(child);
+        return Err(NoMemory);
+    };
+    Ok(child)
+}
+
+/// Accepts a zone's signature of the address of its host.
+fn accept_host(alloc: Global, verifier: &mut Listed, zone: &Zone) -> Result<(), NoMemory>
+    ensures { OnOk result (verifier.new ≡ with_accepted verifier.old (accepted_by zone.now (host_record zone.now))) }
+{
+    let host = host_record(alloc, zone)?;
+    accept(alloc, verifier, zone, host)
+}
+
 /// Accepts the signatures of so many zones, and no other.
 #[tactic(auto, unfolding(crate::specs::NestedZones::accepted_to))]
 pub(crate) fn zones_verifier(alloc: Global, zones: ZoneCount) -> Result<Listed, NoMemory>
@@ -57,14 +84,23 @@ pub(crate) fn zones_verifier(alloc: Global, zones: ZoneCount) -> Result<Listed, 
 {
     let mut verifier = Listed::new(alloc);
     verifier.support(ALGORITHM);
-    let mut zone = Zone::root(alloc)?;
+    let Ok(mut zone) = Zone::root(alloc) else {
+        drop(verifier);
+        return Err(NoMemory);
+    };
     'zones: while zone.number() < zones.number() {
-        let child = zone.child(alloc)?;
-        let ds = ds_record(alloc, &child)?;
-        accept(alloc, &mut verifier, &zone, ds)?;
+        let Ok(child) = accept_below(alloc, &mut verifier, &zone) else {
+            drop(zone);
+            drop(verifier);
+            return Err(NoMemory);
+        };
         zone = child;
     }
-    let host = host_record(alloc, &zone)?;
-    accept(alloc, &mut verifier, &zone, host)?;
+    let accepted = accept_host(alloc, &mut verifier, &zone);
+    drop(zone);
+    let Ok(()) = accepted else {
+        drop(verifier);
+        return Err(NoMemory);
+    };
     Ok(verifier)
 }

@@ -27,11 +27,11 @@ pub(crate) fn question_of(about: &Record) -> Result<Query, NoMemory>
 }
 
 /// A message with these answers to a question.
-fn message_with(alloc: Global, query: Query, answers: Vec<Record>) -> Result<Message, NoMemory>
-    ensures { IfOk result (λ m. m ≡ message_with query answers.items) }
+fn message_with(alloc: Global, query: &Query, answers: Vec<Record>) -> Result<Message, NoMemory>
+    ensures { IfOk result (λ m. m ≡ message_with query.now answers.items) }
 {
     let mut queries = Vec::new(alloc);
-    queries.push(query)?;
+    queries.push(query.try_clone()?)?;
     Ok(Message {
         id: 0,
         response: true,
@@ -63,6 +63,25 @@ fn response_with(alloc: Global, message: Message) -> DnsResponse
     }
 }
 
+/// A record, with its signature if it has one.
+fn answers_of(
+    alloc: Global,
+    about: Record,
+    signature: Option<Record>,
+) -> Result<Vec<Record>, NoMemory>
+    ensures { IfOk result (λ v. v.items ≡ about ∷ option_to_list signature) }
+{
+    let mut answers = Vec::new(alloc);
+    let Ok(()) = answers.push(about) else {
+        drop(signature);
+        return Err(NoMemory);
+    };
+    if let Some(signature) = signature {
+        answers.push(signature)?;
+    }
+    Ok(answers)
+}
+
 /// Tells a record and its signature where it is asked for.
 fn tell(
     alloc: Global,
@@ -74,14 +93,19 @@ fn tell(
       replies = handle.old.replies ++ told_with about (option_to_list signature) ∷ [];
     }) }
 {
-    let query = question_of(&about)?;
-    let again = query.try_clone()?;
-    let mut answers = Vec::new(alloc);
-    answers.push(about)?;
-    if let Some(signature) = signature {
-        answers.push(signature)?;
-    }
-    let message = message_with(alloc, again, answers)?;
+    let Ok(query) = question_of(&about) else {
+        drop(signature);
+        drop(about);
+        return Err(NoMemory);
+    };
+    let Ok(answers) = answers_of(alloc, about, signature) else {
+        drop(query);
+        return Err(NoMemory);
+    };
+    let Ok(message) = message_with(alloc, &query, answers) else {
+        drop(query);
+        return Err(NoMemory);
+    };
     handle.push(query, Ok(response_with(alloc, message)))
 }
 
@@ -151,9 +175,11 @@ fn tell_zones(alloc: Global, handle: &mut Recorded, zones: ZoneCount) -> Result<
 pub fn bench_replies(alloc: Global, zones: ZoneCount) -> Result<Recorded, NoMemory>
     ensures { IfOk result (λ r. r ≡ upstream zones) }
 {
-    let mut handle = Recorded::new(alloc);
     let last = Zone::last(alloc, zones)?;
-    tell_host(alloc, &mut handle, &last)?;
+    let mut handle = Recorded::new(alloc);
+    let told = tell_host(alloc, &mut handle, &last);
+    drop(last);
+    told?;
     tell_zones(alloc, &mut handle, zones)?;
     Ok(handle)
 }
