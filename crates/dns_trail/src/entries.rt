@@ -44,6 +44,7 @@ pub(crate) fn judged_sets<V: Verifier>(
     placed.reverse();
     'sets: while let Some(next) = placed.pop() {
         let Some((entry, others)) = entries.split_first() else {
+            drop(next);
             return Ok(None);
         };
         let Some(set) = judged_set(context, next, entry)? else {
@@ -68,16 +69,23 @@ fn judged_set<V: Verifier>(
     ensures { IfOk result (IsMarkedBy entry_holds (step_context_by V.answers context.now) placed entry.now) }
 {
     if !is_entry_of(&placed, entry) {
+        drop(placed);
         return Ok(None);
     }
     match entry.origin {
         MarkOrigin::Table => judged_by_rules(context, placed, entry),
         MarkOrigin::Repeat(number) => {
-            let repeated = is_repeated(context, &placed, entry, number)?;
+            let Ok(repeated) = is_repeated(context, &placed, entry, number) else {
+                drop(placed);
+                return Err(NoMemory);
+            };
             Ok(marked_if(context.alloc, repeated, placed, entry))
         }
         MarkOrigin::Cache => {
-            let served = is_served(context, &placed, entry)?;
+            let Ok(served) = is_served(context, &placed, entry) else {
+                drop(placed);
+                return Err(NoMemory);
+            };
             Ok(marked_if(context.alloc, served, placed, entry))
         }
     }
@@ -108,6 +116,7 @@ fn marked_if(
     if follows {
         Some(marked(alloc, placed, entry))
     } else {
+        drop(placed);
         None
     }
 }
@@ -140,6 +149,7 @@ fn as_in_entry(alloc: Global, set: ChainedSet, entry: &JudgedSet) -> Option<Chai
             chain: Vec::new(alloc),
         })
     } else {
+        drop(judged);
         None
     }
 }
@@ -196,6 +206,7 @@ fn judged_key_set<V: Verifier>(
             if asks.is_empty() {
                 Ok(as_in_entry(context.alloc, set, entry))
             } else {
+                drop(set);
                 Ok(None)
             }
         }
@@ -213,12 +224,19 @@ fn judged_by_one_ask<V: Verifier>(
     ensures { IfOk result (IsMarkedBy keys_hold (step_context_by V.answers context.now) placed entry.now) }
 {
     let Some((ask, left)) = asks_of(entry).split_first() else {
+        drop(placed);
         return Ok(None);
     };
-    let question = ds_ask_of(set_of(&placed))?;
+    let Ok(question) = ds_ask_of(set_of(&placed)) else {
+        drop(placed);
+        return Err(NoMemory);
+    };
     if !left.is_empty() || !is_ask(context, &question, *ask) {
+        drop(question);
+        drop(placed);
         return Ok(None);
     }
+    drop(question);
     let answer = answer_of(&context.earlier, *ask);
     let set = judged_by_ds(context.alloc, context.judge, placed, answer)?;
     Ok(as_in_entry(context.alloc, set, entry))
@@ -238,7 +256,10 @@ fn judged_unsigned<V: Verifier>(
             unsigned_set(context.alloc, placed, mark),
             entry,
         )),
-        None => Ok(None),
+        None => {
+            drop(placed);
+            Ok(None)
+        }
     }
 }
 
@@ -266,6 +287,7 @@ fn judged_signed<V: Verifier>(
     let set = set_of(&placed);
     let signatures = first_signatures(set);
     let Some(verdicts) = verdicts_by(context, set, signatures, asks_of(entry))? else {
+        drop(placed);
         return Ok(None);
     };
     let set = chained_by(placed, verdicts)?;

@@ -36,8 +36,10 @@ pub(crate) fn search_zone<V: Verifier>(
     };
     let question = ns_query(name, class)?;
     if !is_plain_ask(context, &question, *ask) {
+        drop(question);
         return Ok(None);
     }
+    drop(question);
     match probe_by(&context.earlier, name, *ask) {
         NsProbe::Found => ask_zone(context, class, name, left),
         NsProbe::Absent => {
@@ -74,8 +76,10 @@ fn ask_zone<V: Verifier>(
     };
     let question = ds_query(zone.try_clone()?, class);
     if !left.is_empty() || !is_ask(context, &question, *ask) {
+        drop(question);
         return Ok(None);
     }
+    drop(question);
     let answer = answer_of(&context.earlier, *ask);
     let mark = zone_mark(context.alloc, context.judge.verifier, class, zone, answer)?;
     Ok(Some(mark))

@@ -33,11 +33,17 @@ pub(crate) fn is_served<V: Verifier>(
     let key = CacheKey::of(context.query, &placed.set)?;
     let mut left = context.cached.places_with(&key);
     'kept: while let Some((place, more)) = left.split_first() {
-        if serves_at(context, &key, placed, entry, *place)? {
+        let Ok(serves) = serves_at(context, &key, placed, entry, *place) else {
+            drop(key);
+            return Err(NoMemory);
+        };
+        if serves {
+            drop(key);
             return Ok(true);
         }
         left = more;
     }
+    drop(key);
     Ok(false)
 }
 

@@ -87,8 +87,10 @@ fn try_signature<'a, V: Verifier>(
     };
     let question = key_query(context.alloc, set, &read)?;
     if !is_ask(context, &question, *ask) {
+        drop(question);
         return Ok(None);
     }
+    drop(question);
     let answer = answer_of(&context.earlier, *ask);
     let signature = SetSignature {
         set,

@@ -43,8 +43,8 @@ returns-in-Found g t c =
     (λ m h start. h ∙ cut_proof gr c.args.class.0 start c.args.name.now c.args.asks.now c.in-Some.ask.now c.in-Some.left.now named first plain sees)
     c.ask_zone.ensures
 
-pub returns-in-Absent : goal.returns-in-Absent
-returns-in-Absent g t c =
+pub returns-in_ok-above-in-Absent : goal.returns-in_ok-above-in-Absent
+returns-in_ok-above-in-Absent g t c =
     let gr = step_context_by g.V.Verifier.answers c.args.context.now in
     let named = named_if c.is_root.result _ c.is_root.ensures c.if-is_root.false in
     let first : c.args.asks.now ≡ c.in-Some.ask.now ∷ c.in-Some.left.now = search rules in
@@ -58,8 +58,8 @@ returns-in-Absent g t c =
     ∙ onward_proof gr c.args.class.0 start c.args.name.now c.args.asks.now c.in-Some.ask.now c.in-Some.left.now named first plain sees)
     c.search_zone.ensures
 
-pub returns : goal.returns
-returns g t c =
+pub returns-in-Failed : goal.returns-in-Failed
+returns-in-Failed g t c =
     let gr = step_context_by g.V.Verifier.answers c.args.context.now in
     let named = named_if c.is_root.result _ c.is_root.ensures c.if-is_root.false in
     let first : c.args.asks.now ≡ c.in-Some.ask.now ∷ c.in-Some.left.now = search rules in
