@@ -70,9 +70,12 @@ impl ItemQueue {
         requires { has_room self.old.items ≡ true }
         ensures { self.new ≡ record self.old { items = self.old.items ++ reply_of item ∷ [] } }
     {
-        let Ok(()) = self.items.push_back(item) else {
+        let pushed = self.items.push_back(item);
+        let is_pushed = pushed.is_ok();
+        drop(pushed);
+        if !is_pushed {
             unreachable!()
-        };
+        }
     }
 
     /// Takes the first item out.

@@ -111,9 +111,9 @@ fn add(
         (tree.get nat_cmp holders.new) (tree.get nat_cmp queues.new)) }
 {
     let queue = ItemQueue::new(alloc, id)?;
-    queues.insert(holder.number, queue)?;
+    drop(queues.insert(holder.number, queue)?);
     if holders.insert(id, holder).is_err() {
-        queues.remove(&holder.number);
+        drop(queues.remove(&holder.number));
         return Err(NoMemory);
     }
     Ok(())
@@ -204,6 +204,7 @@ impl RequestTable {
         ensures after { self.new ≡ after_queued result response self.old }
     {
         let Some(holder) = self.holders.get(&id).copied() else {
+            drop(response);
             return Arrival::Stranger;
         };
         if !push_item(&mut self.queues, holder.number, Ok(response)) {
@@ -221,7 +222,7 @@ impl RequestTable {
         if self.is_live(number) {
             return Taken::Pending;
         }
-        self.queues.remove(&number);
+        drop(self.queues.remove(&number));
         Taken::Ended
     }
 
@@ -243,8 +244,10 @@ impl RequestTable {
         let Some(queue) = self.queues.remove(&number) else {
             return;
         };
-        if is_held_by(&self.holders, queue.id(), number) {
-            self.holders.remove(&queue.id());
+        let id = queue.id();
+        drop(queue);
+        if is_held_by(&self.holders, id, number) {
+            self.holders.remove(&id);
         }
     }
 

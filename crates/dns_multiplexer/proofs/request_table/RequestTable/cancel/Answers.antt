@@ -68,8 +68,8 @@ invariant_of-self-else-is_held_by c =
     (away_dead (tree.get nat_cmp c.self.inside.holders) (tree.get nat_cmp c.self.inside.queues) c.self.inside.count c.args.number c.self.invariant dead)
     (removed_at c.self.inside.queues c.remove.new.self c.args.number c.remove.ensures.updates) c.self.invariant
 
-pub returns : goal.returns
-returns c =
+pub returns-else-is_held_by : goal.returns-else-is_held_by
+returns-else-is_held_by c =
     cancelled_table (tree.get nat_cmp c.self.inside.holders) (tree.get nat_cmp c.self.inside.holders)
     (tree.get nat_cmp c.self.inside.queues) (tree.get nat_cmp c.remove.new.self) c.self.inside.count
     c.args.number (λ i. inl refl)
