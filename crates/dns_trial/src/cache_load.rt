@@ -52,23 +52,7 @@ fn copy(key: &CacheKey, chain: &Chain) -> Result<(), NoMemory> {
     Ok(())
 }
 
-// Does what is asked for with one key: whether it went well.
-fn do_one<S: Store>(
-    alloc: Global,
-    work: Work,
-    store: &mut S,
-    key: &CacheKey,
-    chain: &Chain,
-) -> Result<bool, NoMemory> {
-    match work {
-        Work::Get | Work::MapGet => return store.find(alloc, key),
-        Work::Insert | Work::MapPut => store.fill(alloc, key, chain)?,
-        _ => copy(key, chain)?,
-    }
-    Ok(true)
-}
-
-// Goes over all keys once: how often it went well.
+// Does what is asked for with each key once: how often it went well.
 fn pass<S: Store>(
     alloc: Global,
     work: Work,
@@ -78,7 +62,13 @@ fn pass<S: Store>(
 ) -> Result<u64, NoMemory> {
     let mut count: u64 = 0;
     for key in keys {
-        count = count.saturating_add(u64::from(do_one(alloc, work, store, key, chain)?));
+        let mut held = true;
+        match work {
+            Work::Get | Work::MapGet => held = store.find(alloc, key)?,
+            Work::Insert | Work::MapPut => store.fill(alloc, key, chain)?,
+            _ => copy(key, chain)?,
+        }
+        count = count.saturating_add(u64::from(held));
     }
     Ok(count)
 }
@@ -109,16 +99,15 @@ fn room(work: Work, keys: usize) -> usize {
     }
 }
 
-// How often it went well on a cache, in so many passes.
+// How often it went well on a cache.
 fn cache_passes(
     alloc: Global,
-    work: Work,
+    form: Form,
     keys: &[CacheKey],
     chain: &Chain,
-    times: u32,
 ) -> Result<u64, NoMemory> {
-    let mut cache = LruValidationCache::new(alloc, room(work, keys.len()))?;
-    let count = passes(alloc, work, &mut cache, keys, chain, times);
+    let mut cache = LruValidationCache::new(alloc, room(form.work, keys.len()))?;
+    let count = passes(alloc, form.work, &mut cache, keys, chain, form.third);
     drop(cache);
     count
 }
@@ -133,34 +122,27 @@ fn map_for(alloc: Global, capacity: usize) -> Result<LruCache<CacheKey, u64>, No
 // The same on a map, which keeps no chain.
 fn map_passes(
     alloc: Global,
-    work: Work,
+    form: Form,
     keys: &[CacheKey],
     chain: &Chain,
-    times: u32,
 ) -> Result<u64, NoMemory> {
-    let mut map = map_for(alloc, room(work, keys.len()))?;
-    let count = passes(alloc, work, &mut map, keys, chain, times);
+    let mut map = map_for(alloc, room(form.work, keys.len()))?;
+    let count = passes(alloc, form.work, &mut map, keys, chain, form.second);
     drop(map);
     count
 }
 
-// How many links the chain has, and how many passes there are.
-fn links_and_passes(form: Form) -> (u32, u32) {
-    match form.work {
-        Work::MapGet | Work::MapPut => (0, form.second),
-        _ => (form.second, form.third),
-    }
-}
-
 /// How often it was done with so many keys in so many passes: on a cache, where each entry has a chain of so many links, or on a map.
 pub(crate) fn worked_on(alloc: Global, form: Form) -> Result<u64, NoMemory> {
-    let (links, times) = links_and_passes(form);
+    let is_map = matches!(form.work, Work::MapGet | Work::MapPut);
     let keys = keys_of(alloc, form.first)?;
-    let chain = chain_of(alloc, links)?;
-    let count = match form.work {
-        Work::MapGet | Work::MapPut => map_passes(alloc, form.work, &keys, &chain, times),
-        _ => cache_passes(alloc, form.work, &keys, &chain, times),
+    let chain = chain_of(alloc, if is_map { 0 } else { form.second })?;
+    let count = if is_map {
+        map_passes(alloc, form, &keys, &chain)
+    } else {
+        cache_passes(alloc, form, &keys, &chain)
     };
     drop(chain);
+    drop(keys);
     count
 }

@@ -28,11 +28,6 @@ struct Call<'a> {
     value: u32,
 }
 
-fn insert<C: ValidationCache>(alloc: Global, cache: &mut C, call: Call) -> Result<(), NoMemory> {
-    let entry = plain_entry(call.key, call.moment, call.value)?;
-    cache.insert(alloc, entry)
-}
-
 // Puts one entry into all three.
 fn insert_alike(
     alloc: Global,
@@ -41,8 +36,10 @@ fn insert_alike(
     plain: &mut Plain,
     call: Call,
 ) -> Result<(), NoMemory> {
-    insert(alloc, list, call)?;
-    insert(alloc, hashed, call)?;
+    let entry = plain_entry(call.key, call.moment, call.value)?;
+    list.insert(alloc, entry)?;
+    let entry = plain_entry(call.key, call.moment, call.value)?;
+    hashed.insert(alloc, entry)?;
     plain.insert(call.number, call.moment, call.value)
 }
 

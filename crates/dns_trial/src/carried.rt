@@ -19,19 +19,12 @@ const FRAME: usize = 512;
 /// So many messages go over a link.
 const MESSAGES: u32 = 100;
 
-/// The message behind its length (RFC 1035, 4.2.2).
-fn frame(alloc: Global) -> Result<Vec<u8>, NoMemory> {
-    let mut bytes = Vec::from_slice(alloc, b"\x01\xfe")?;
-    bytes.extend_from_slice(MESSAGE)?;
-    Ok(bytes)
-}
-
-/// The frames of a hundred messages, one behind the other.
+/// The frames of a hundred messages, one behind the other: each message behind its length (RFC 1035, 4.2.2).
 fn frames(alloc: Global) -> Result<Vec<u8>, NoMemory> {
-    let frame = frame(alloc)?;
     let mut bytes = Vec::new(alloc);
     for _ in 0..MESSAGES {
-        bytes.extend_from_slice(&frame)?;
+        bytes.extend_from_slice(b"\x01\xfe")?;
+        bytes.extend_from_slice(MESSAGE)?;
     }
     Ok(bytes)
 }
@@ -44,28 +37,18 @@ fn link_for(alloc: Global, work: Work, frames: &[u8]) -> Result<PairLink, NoMemo
     }
 }
 
-/// How many messages a read gave; none where it ended or failed.
-fn given(reply: &Result<Feed, NetError>) -> Option<u64> {
-    match reply {
-        Ok(Feed::More) => Some(0),
-        Ok(Feed::Message(_)) => Some(1),
-        _ => None,
-    }
-}
-
-/// The same of the next read.
-fn fed(stream: &mut TcpStream<PairLink>) -> Option<u64> {
-    let reply = stream.feed();
-    let given = given(&reply);
-    drop(reply);
-    given
-}
-
 /// How many messages a stream gives until it ends.
 fn read_all(stream: &mut TcpStream<PairLink>) -> u64 {
     let mut read: u64 = 0;
     for _ in 0..u64::MAX {
-        match fed(stream) {
+        let reply = stream.feed();
+        let given = match &reply {
+            Ok(Feed::More) => Some(0),
+            Ok(Feed::Message(_)) => Some(1),
+            _ => None,
+        };
+        drop(reply);
+        match given {
             Some(count) => read = read.saturating_add(count),
             None => break,
         }
@@ -79,58 +62,43 @@ fn copy_of(alloc: Global, bytes: &[u8]) -> Result<Vec<u8>, NoMemory> {
     Ok(Vec::from_slice(alloc, bytes)?)
 }
 
-/// Whether bytes are copied.
-fn is_copied(alloc: Global, bytes: &[u8]) -> bool {
-    let copy = copy_of(alloc, bytes);
-    let held = copy.is_ok();
-    drop(copy);
-    held
-}
-
 /// How many frames are read plainly off a link, each copied into a vector of its own.
-fn copy_all(alloc: Global, link: &mut PairLink, buf: &mut [u8]) -> u64 {
+fn copy_all(alloc: Global, link: &mut PairLink) -> Result<u64, NoMemory> {
+    let mut buf = Vec::new(alloc);
+    buf.resize(FRAME, 0)?;
     let mut copied: u64 = 0;
     for _ in 0..MESSAGES {
-        if matches!(link.read(buf), Ok(FRAME)) && is_copied(alloc, buf) {
-            copied = copied.saturating_add(1);
+        if matches!(link.read(&mut buf), Ok(FRAME)) {
+            let copy = copy_of(alloc, &buf);
+            copied = copied.saturating_add(u64::from(copy.is_ok()));
+            drop(copy);
         }
     }
-    copied
+    Ok(copied)
 }
 
-/// The same, or how many there are where they are left on the link.
-fn plain(alloc: Global, work: Work, link: &mut PairLink) -> Result<u64, NoMemory> {
-    match work {
-        Work::Copied => {
-            let mut buf = frame(alloc)?;
-            Ok(copy_all(alloc, link, &mut buf))
-        }
-        _ => Ok(u64::from(MESSAGES)),
-    }
-}
-
-/// Puts a message into a stream's queue, and tells whether it took it.
-fn is_put(
+/// Whether a message is put into a stream's queue and written, so that nothing waits.
+fn is_written(
+    alloc: Global,
     stream: &mut TcpStream<PairLink>,
     handle: &mut BufDnsStreamHandle,
-    message: SerialMessage,
-) -> bool {
-    if message.bytes.is_empty() {
-        drop(message);
-        return false;
+) -> Result<bool, NoMemory> {
+    let bytes = Octets::from_slice(alloc, MESSAGE)?;
+    if bytes.is_empty() {
+        drop(bytes);
+        return Ok(false);
     }
-    let put = stream.enqueue(handle, message);
-    let held = put.is_ok();
+    let addr = server();
+    let put = stream.enqueue(handle, SerialMessage { bytes, addr });
+    let is_put = put.is_ok();
     drop(put);
-    held
-}
-
-/// Whether a write leaves nothing that waits.
-fn is_drained(stream: &mut TcpStream<PairLink>) -> bool {
-    let reply = stream.drain();
-    let held = matches!(&reply, Ok(true));
-    drop(reply);
-    held
+    if !is_put {
+        return Ok(false);
+    }
+    let drained = stream.drain();
+    let is_drained = matches!(&drained, Ok(true));
+    drop(drained);
+    Ok(is_drained)
 }
 
 /// How many of a hundred messages are written.
@@ -141,14 +109,7 @@ fn write_all(
 ) -> Result<u64, NoMemory> {
     let mut written: u64 = 0;
     for _ in 0..MESSAGES {
-        let bytes = Octets::from_slice(alloc, MESSAGE)?;
-        let message = SerialMessage {
-            bytes,
-            addr: server(),
-        };
-        if is_put(stream, handle, message) && is_drained(stream) {
-            written = written.saturating_add(1);
-        }
+        written = written.saturating_add(u64::from(is_written(alloc, stream, handle)?));
     }
     Ok(written)
 }
@@ -168,14 +129,15 @@ fn streamed(alloc: Global, work: Work, link: PairLink) -> Result<u64, NoMemory> 
 /// How often it went well over one link.
 fn carried_once(alloc: Global, work: Work, frames: &[u8]) -> Result<u64, NoMemory> {
     let mut link = link_for(alloc, work, frames)?;
-    match work {
-        Work::Read | Work::Written => streamed(alloc, work, link),
-        _ => {
-            let count = plain(alloc, work, &mut link);
-            drop(link);
-            count
-        }
+    if let Work::Read | Work::Written = work {
+        return streamed(alloc, work, link);
     }
+    let count = match work {
+        Work::Copied => copy_all(alloc, &mut link),
+        _ => Ok(u64::from(MESSAGES)),
+    };
+    drop(link);
+    count
 }
 
 /// How often it went well over so many links.

@@ -19,58 +19,64 @@ fn owner(alloc: Global) -> Result<Name, NoMemory> {
 // As many bytes as a signature or a key has. As an array of a function they would be dear to prove.
 const SOME_BYTES: &[u8; 96] = &[7; 96];
 
-fn some_bytes(alloc: Global) -> Result<Rdata, NoMemory> {
-    Rdata::from_slice(alloc, SOME_BYTES)
-}
-
 // One record of a type.
 fn record(alloc: Global, record_type: RecordType, bytes: &[u8]) -> Result<Record, NoMemory>
     requires { length bytes.now ≤ 65535 }
 {
     let rdata = Rdata::from_slice(alloc, bytes)?;
-    let name = owner(alloc)?;
-    Ok(Record {
-        name,
-        record_type,
-        dns_class: DNSClass::IN,
-        ttl: 3600,
-        rdata,
-        proof: Proof::Indeterminate,
-    })
+    match owner(alloc) {
+        Ok(name) => Ok(Record {
+            name,
+            record_type,
+            dns_class: DNSClass::IN,
+            ttl: 3600,
+            rdata,
+            proof: Proof::Indeterminate,
+        }),
+        Err(error) => {
+            drop(rdata);
+            Err(error)
+        }
+    }
 }
 
-fn records(alloc: Global, record_type: RecordType, bytes: &[u8]) -> Result<Vec<Record>, NoMemory>
-    requires { length bytes.now ≤ 65535 }
-{
-    let mut records = Vec::new(alloc);
-    records.push(record(alloc, record_type, bytes)?)?;
-    Ok(records)
+// Puts a signature behind those of a set.
+fn sign(alloc: Global, set: &mut RecordSet) -> Result<(), NoMemory> {
+    let signature = record(alloc, RecordType::RRSIG, SOME_BYTES)?;
+    set.rrsigs.push(signature)?;
+    Ok(())
 }
 
 // A set of one address, which is the number, and one signature.
 fn set_of(alloc: Global, number: u32) -> Result<RecordSet, NoMemory> {
-    let records = records(alloc, RecordType::A, &number.to_be_bytes())?;
-    let rrsigs = self::records(alloc, RecordType::RRSIG, SOME_BYTES)?;
-    let name = owner(alloc)?;
-    Ok(RecordSet {
-        name,
-        record_type: RecordType::A,
-        dns_class: DNSClass::IN,
-        records,
-        rrsigs,
-    })
+    let address = record(alloc, RecordType::A, &number.to_be_bytes())?;
+    let mut set = RecordSet::of(alloc, address)?;
+    match sign(alloc, &mut set) {
+        Ok(()) => Ok(set),
+        Err(error) => {
+            drop(set);
+            Err(error)
+        }
+    }
 }
 
 // The key for a number.
 fn key_of(alloc: Global, number: u32) -> Result<CacheKey, NoMemory> {
-    let name = owner(alloc)?;
     let set = set_of(alloc, number)?;
-    let query = Query {
-        name,
-        query_type: RecordType::A,
-        query_class: DNSClass::IN,
-    };
-    Ok(CacheKey { query, set })
+    match owner(alloc) {
+        Ok(name) => Ok(CacheKey {
+            query: Query {
+                name,
+                query_type: RecordType::A,
+                query_class: DNSClass::IN,
+            },
+            set,
+        }),
+        Err(error) => {
+            drop(set);
+            Err(error)
+        }
+    }
 }
 
 /// So many keys, no two equal.
@@ -82,33 +88,49 @@ pub(crate) fn keys_of(alloc: Global, count: u32) -> Result<Vec<CacheKey>, NoMemo
     Ok(keys)
 }
 
-fn rdatas(alloc: Global) -> Result<Vec<Rdata>, NoMemory> {
-    let mut rdatas = Vec::new(alloc);
-    rdatas.push(some_bytes(alloc)?)?;
-    Ok(rdatas)
+fn some_bytes(alloc: Global) -> Result<Rdata, NoMemory> {
+    Rdata::from_slice(alloc, SOME_BYTES)
 }
 
 // A signature and the key that made it.
 fn signed(alloc: Global) -> Result<(Rdata, Rdata), NoMemory> {
     let sig = some_bytes(alloc)?;
-    let key = some_bytes(alloc)?;
-    Ok((sig, key))
+    match some_bytes(alloc) {
+        Ok(key) => Ok((sig, key)),
+        Err(error) => {
+            drop(sig);
+            Err(error)
+        }
+    }
 }
 
 // A signed link of one rdata.
 fn link(alloc: Global, number: u32) -> Result<Link, NoMemory> {
-    let rdatas = rdatas(alloc)?;
-    let owner = owner(alloc)?;
-    let (sig, key) = signed(alloc)?;
-    Ok(Link::Signed {
-        owner,
-        class: DNSClass::IN,
-        record_type: RecordType::DNSKEY,
-        rdatas,
-        sig,
-        key_link: number,
-        key,
-    })
+    let mut rdatas = Vec::new(alloc);
+    rdatas.push(some_bytes(alloc)?)?;
+    let owner = match owner(alloc) {
+        Ok(owner) => owner,
+        Err(error) => {
+            drop(rdatas);
+            return Err(error);
+        }
+    };
+    match signed(alloc) {
+        Ok((sig, key)) => Ok(Link::Signed {
+            owner,
+            class: DNSClass::IN,
+            record_type: RecordType::DNSKEY,
+            rdatas,
+            sig,
+            key_link: number,
+            key,
+        }),
+        Err(error) => {
+            drop(owner);
+            drop(rdatas);
+            Err(error)
+        }
+    }
 }
 
 /// A chain of so many signed links.
@@ -131,8 +153,13 @@ pub(crate) fn secure_entry(key: &CacheKey, chain: &Chain) -> Result<Entry, NoMem
         rrsig_index: Some(0),
     };
     let chain = chain.try_clone()?;
-    let key = key.try_clone()?;
-    Ok(Entry::new(key, u64::MAX, Ok(found), Some(chain)))
+    match key.try_clone() {
+        Ok(key) => Ok(Entry::new(key, u64::MAX, Ok(found), Some(chain))),
+        Err(error) => {
+            drop(chain);
+            Err(error)
+        }
+    }
 }
 
 /// An entry of a key without a chain; its value tells it from others.

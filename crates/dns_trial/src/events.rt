@@ -10,73 +10,24 @@ use std::alloc::Global;
 /// So many events are played on one pair of machines at most.
 const MOST_EVENTS: u32 = 600;
 
-/// The time of a pair of machines, in milliseconds, and whether they are closed.
-#[derive(Clone, Copy)]
-struct Clock {
-    now: u64,
-    is_closed: bool,
-}
-
-/// How the events of a pair ended.
-#[derive(Clone, Copy)]
-enum Played {
-    /// All up to this number were answered alike, and it is the next.
-    UpTo(u32),
-    /// The event with this number wasn't.
-    Different(u32),
-}
-
-// One of the last requests, or the one that isn't sent yet.
-fn some_number(random: &mut RandDraws, count: u64) -> u64 {
-    count.saturating_sub(u64::from(random.id() % 8))
-}
-
-// A moment up to 300 milliseconds later.
-fn later(random: &mut RandDraws, now: u64) -> u64 {
-    now.saturating_add(u64::from(random.id() % 300))
-}
-
-// The next event, where so many requests were sent. After a close nothing is sent.
-fn next_event(random: &mut RandDraws, clock: Clock, count: u64) -> Event {
+// The next event. After a close nothing is sent. A number is one of the last requests', or of the one that isn't sent yet, and a moment
+// is up to 300 milliseconds later.
+fn next_event(random: &mut RandDraws, plain: &Plain) -> Event {
+    let number = plain.count().saturating_sub(u64::from(random.id() % 8));
+    let moment = plain.now.saturating_add(u64::from(random.id() % 300));
     match random.id() % 200 {
-        0..=49 if !clock.is_closed => Event::Send(later(random, clock.now)),
+        0..=49 if !plain.is_closed => Event::Send(moment),
         0..=109 => Event::Arrive(random.id() % 4, (random.id() % 16) as u8),
-        110..=159 => Event::Take(some_number(random, count)),
-        160..=163 => Event::Cancel(some_number(random, count)),
-        164..=173 => Event::Tick(later(random, clock.now)),
+        110..=159 => Event::Take(number),
+        160..=163 => Event::Cancel(number),
+        164..=173 => Event::Tick(moment),
         174 => Event::Close,
         _ => Event::Pop,
     }
 }
 
-// The clock after an event.
-fn clock_after(clock: Clock, event: Event) -> Clock {
-    match event {
-        Event::Tick(now) => Clock {
-            now,
-            is_closed: clock.is_closed,
-        },
-        Event::Close => Clock {
-            now: clock.now,
-            is_closed: true,
-        },
-        _ => clock,
-    }
-}
-
-// Whether both machines answer an event alike.
-fn answer_alike(
-    alloc: Global,
-    mux: &mut DnsMultiplexer<FewIds>,
-    plain: &mut Plain,
-    response: &mut [u8; 50],
-    event: Event,
-) -> Result<bool, NoMemory> {
-    let real = answer(alloc, mux, response, event)?;
-    Ok(real == plain.answer(event)?)
-}
-
-// Plays events up to a number on a pair, from another one. A closed one is played on for some events.
+// Plays events up to a number on a pair, from another one. A closed one is played on for some events. The number of the next event, or
+// of the first one that wasn't answered alike, and whether all were.
 fn play_on(
     alloc: Global,
     random: &mut RandDraws,
@@ -84,23 +35,19 @@ fn play_on(
     plain: &mut Plain,
     first: u32,
     end: u32,
-) -> Result<Played, NoMemory> {
+) -> Result<(u32, bool), NoMemory> {
     let mut response = response();
-    let mut clock = Clock {
-        now: 0,
-        is_closed: false,
-    };
     for number in first..end {
-        let event = next_event(random, clock, plain.count());
-        if !answer_alike(alloc, mux, plain, &mut response, event)? {
-            return Ok(Played::Different(number));
+        let event = next_event(random, plain);
+        let real = answer(alloc, mux, &mut response, event)?;
+        if real != plain.answer(event)? {
+            return Ok((number, false));
         }
-        clock = clock_after(clock, event);
-        if clock.is_closed && random.id() % 20 == 0 {
-            return Ok(Played::UpTo(number.saturating_add(1)));
+        if plain.is_closed && random.id() % 20 == 0 {
+            return Ok((number.saturating_add(1), true));
         }
     }
-    Ok(Played::UpTo(end))
+    Ok((end, true))
 }
 
 // The same on a new pair, both with the same draws of ids, which are below four.
@@ -110,7 +57,7 @@ fn play(
     seed: u64,
     first: u32,
     end: u32,
-) -> Result<Played, NoMemory> {
+) -> Result<(u32, bool), NoMemory> {
     let mut mux = multiplexer(alloc, FewIds::from_seed(seed, 3), MAXIMUM);
     let mut plain = Plain::new(alloc, FewIds::from_seed(seed, 3));
     let played = play_on(alloc, random, &mut mux, &mut plain, first, end);
@@ -133,10 +80,11 @@ fn difference_by(
             break;
         }
         let end = count.min(first.saturating_add(MOST_EVENTS));
-        match play(alloc, random, seed, first, end)? {
-            Played::Different(number) => return Ok(Some(number)),
-            Played::UpTo(next) => first = next,
+        let (next, is_alike) = play(alloc, random, seed, first, end)?;
+        if !is_alike {
+            return Ok(Some(next));
         }
+        first = next;
         seed = u64::from(random.id());
     }
     Ok(None)

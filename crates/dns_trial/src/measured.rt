@@ -8,7 +8,6 @@ use dns_multiplexer::{
     BufDnsStreamHandle, DnsMultiplexer, DnsRequestSender, RequestId, SerialMessage, Taken,
 };
 use dns_name::NoMemory;
-use dns_record::ResponseCode;
 use std::alloc::Global;
 use std::net::{IpAddr, Ipv4Addr, SocketAddr};
 
@@ -51,21 +50,15 @@ pub(crate) fn set_front(response: &mut [u8; 50], id: u16, mark: u8) {
     response[3] = 0x80 | (mark % 16);
 }
 
-fn refusal(error: &NetError) -> Answer {
-    match error {
-        NetError::Busy => Answer::Busy,
-        NetError::Message(Notice::IdSpaceExhausted) => Answer::Exhausted,
-        NetError::Message(Notice::SendQueueFull) => Answer::QueueFull,
-        _ => Answer::Other,
-    }
-}
-
 // What a send answered.
 fn told_by(sent: &Result<RequestId, NetError>) -> Result<Answer, NoMemory> {
     match sent {
         Ok(RequestId(number)) => Ok(Answer::Sent(*number)),
         Err(NetError::NoMemory) => Err(NoMemory),
-        Err(error) => Ok(refusal(error)),
+        Err(NetError::Busy) => Ok(Answer::Busy),
+        Err(NetError::Message(Notice::IdSpaceExhausted)) => Ok(Answer::Exhausted),
+        Err(NetError::Message(Notice::SendQueueFull)) => Ok(Answer::QueueFull),
+        Err(_) => Ok(Answer::Other),
     }
 }
 
@@ -86,13 +79,11 @@ pub(crate) fn send(
     told
 }
 
-fn mark_of(code: ResponseCode) -> u8 {
-    (code.0 % 16) as u8
-}
-
 fn given(taken: &Taken) -> Answer {
     match taken {
-        Taken::Item(Ok(response)) => Answer::Response(mark_of(response.message.response_code)),
+        Taken::Item(Ok(response)) => Answer::Response(
+            (response.message.response_code.0 % 16) as u8,
+        ),
         Taken::Item(Err(NetError::Io(IoKind::UnexpectedEof))) => Answer::Fault,
         Taken::Item(Err(_)) => Answer::Other,
         Taken::Pending => Answer::Pending,

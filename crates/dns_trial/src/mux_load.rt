@@ -21,21 +21,6 @@ fn send_one(
     }
 }
 
-// Sends so many requests: their ids.
-fn send_all(
-    alloc: Global,
-    mux: &mut DnsMultiplexer<FewIds>,
-    live: u32,
-    ids: &mut Vec<u16>,
-) -> Result<(), NoMemory> {
-    for _ in 0..live {
-        if let Some((_, id)) = send_one(alloc, mux)? {
-            ids.push(id)?;
-        }
-    }
-    Ok(())
-}
-
 // How many of so many requests are sent, each while so many others are live, of which the oldest is ended after it.
 fn sends(
     alloc: Global,
@@ -51,18 +36,6 @@ fn sends(
         }
     }
     Ok(count)
-}
-
-// Whether a response waits, and is taken.
-fn is_taken(
-    alloc: Global,
-    mux: &mut DnsMultiplexer<FewIds>,
-    response: &[u8; 50],
-) -> Result<bool, NoMemory> {
-    match mux.arrive(alloc, response)? {
-        Arrival::Queued(RequestId(number)) => Ok(matches!(taken(mux, number), Answer::Response(_))),
-        _ => Ok(false),
-    }
 }
 
 // How many of so many responses are taken, that come under these ids in turn.
@@ -81,20 +54,32 @@ fn arrivals(
         }
         if let Some(id) = ids.get(place) {
             set_front(&mut response, *id, 0);
-            count = count.saturating_add(u64::from(is_taken(alloc, mux, &response)?));
+            if let Arrival::Queued(RequestId(number)) = mux.arrive(alloc, &response)?
+                && let Answer::Response(_) = taken(mux, number)
+            {
+                count = count.saturating_add(1);
+            }
         }
         place = place.saturating_add(1);
     }
     Ok(count)
 }
 
-// Makes so many requests live, and then does what is asked for so many times: how often it went well.
-fn load_by(alloc: Global, mux: &mut DnsMultiplexer<FewIds>, form: Form) -> Result<u64, NoMemory> {
-    let mut ids = Vec::new(alloc);
-    send_all(alloc, mux, form.first, &mut ids)?;
+// Makes so many requests live, whose ids it puts behind others, and then does what is asked for so many times: how often it went well.
+fn load_by(
+    alloc: Global,
+    mux: &mut DnsMultiplexer<FewIds>,
+    form: Form,
+    ids: &mut Vec<u16>,
+) -> Result<u64, NoMemory> {
+    for _ in 0..form.first {
+        if let Some((_, id)) = send_one(alloc, mux)? {
+            ids.push(id)?;
+        }
+    }
     match form.work {
         Work::Sends => sends(alloc, mux, form.first, form.second),
-        _ => arrivals(alloc, mux, &ids, form.second),
+        _ => arrivals(alloc, mux, ids, form.second),
     }
 }
 
@@ -102,16 +87,11 @@ fn load_by(alloc: Global, mux: &mut DnsMultiplexer<FewIds>, form: Form) -> Resul
 pub(crate) fn load(alloc: Global, form: Form) -> Result<u64, NoMemory> {
     let draws = FewIds::from_seed(1, u16::MAX);
     let mut mux = multiplexer(alloc, draws, (form.first as usize).saturating_add(1));
-    let count = load_by(alloc, &mut mux, form);
+    let mut ids = Vec::new(alloc);
+    let count = load_by(alloc, &mut mux, form, &mut ids);
+    drop(ids);
     drop(mux);
     count
-}
-
-fn is_decoded(alloc: Global, bytes: &[u8; 50]) -> bool {
-    let message = Message::from_vec(alloc, bytes);
-    let held = message.is_ok();
-    drop(message);
-    held
 }
 
 /// How many of so many responses are decoded, without a multiplexer.
@@ -120,7 +100,9 @@ pub(crate) fn decoded(alloc: Global, times: u32) -> u64 {
     let mut count: u64 = 0;
     for number in 0..times {
         set_front(&mut response, (number % 65536) as u16, 0);
-        count = count.saturating_add(u64::from(is_decoded(alloc, &response)));
+        let message = Message::from_vec(alloc, &response);
+        count = count.saturating_add(u64::from(message.is_ok()));
+        drop(message);
     }
     count
 }

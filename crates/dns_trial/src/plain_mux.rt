@@ -71,6 +71,9 @@ struct Waiting {
 /// The requests in the order of their numbers, what waits for them in the order in which it came, and what is to be sent.
 #[derive(Drop)]
 pub(crate) struct Plain {
+    /// The last time that it was told, in milliseconds.
+    pub(crate) now: u64,
+    pub(crate) is_closed: bool,
     requests: Vec<PlainRequest>,
     waiting: Vec<Waiting>,
     outbound: Vec<u16>,
@@ -109,13 +112,6 @@ fn add(waiting: &mut Vec<Waiting>, number: usize, mark: Option<u8>) -> Result<bo
     Ok(true)
 }
 
-fn item_of(mark: Option<u8>) -> Answer {
-    match mark {
-        Some(mark) => Answer::Response(mark),
-        None => Answer::Fault,
-    }
-}
-
 fn live_count(requests: &[PlainRequest]) -> usize {
     let mut count: usize = 0;
     for request in requests {
@@ -139,6 +135,8 @@ fn holder(requests: &[PlainRequest], id: u16) -> Option<usize> {
 impl Plain {
     pub(crate) fn new(alloc: Global, draws: FewIds) -> Plain {
         Plain {
+            now: 0,
+            is_closed: false,
             requests: Vec::new(alloc),
             waiting: Vec::new(alloc),
             outbound: Vec::new(alloc),
@@ -201,7 +199,10 @@ impl Plain {
             return Answer::Ended;
         }
         match place_of(&self.waiting, number) {
-            Some(place) => item_of(self.waiting.remove(place).mark),
+            Some(place) => match self.waiting.remove(place).mark {
+                Some(mark) => Answer::Response(mark),
+                None => Answer::Fault,
+            },
             None if request.is_live => Answer::Pending,
             None => Answer::Ended,
         }
@@ -216,6 +217,7 @@ impl Plain {
     }
 
     fn tick(&mut self, now: u64) {
+        self.now = now;
         for request in &mut self.requests {
             if request.moment.saturating_add(TIMEOUT) <= now {
                 request.is_live = false;
@@ -224,6 +226,7 @@ impl Plain {
     }
 
     fn close(&mut self) -> Result<(), NoMemory> {
+        self.is_closed = true;
         for number in 0..self.requests.len() {
             if let Some(request) = self.requests.get_mut(number)
                 && request.is_live

@@ -11,40 +11,21 @@ use std::io::{Read, Write};
 use std::net::{SocketAddr, TcpListener, TcpStream};
 use std::thread::{Threads, join};
 
-/// Whether a request is answered by an exchange.
-fn is_answered<L: Link + Drop, D: Draws + Drop>(
-    alloc: Global,
-    exchange: &mut TcpExchange<L, D>,
-) -> bool {
-    let answer = exchange.send(alloc, request(alloc), 1000);
-    let held = answer.is_ok();
-    drop(answer);
-    held
-}
-
-/// Sends so many requests by an exchange, and counts the answers.
+/// Sends so many requests by an exchange, if one was made, and counts the answers.
 fn ask_all<L: Link + Drop, D: Draws + Drop>(
-    alloc: Global,
-    exchange: &mut TcpExchange<L, D>,
-    count: u32,
-) -> u64 {
-    let mut answered: u64 = 0;
-    for _ in 0..count {
-        answered = answered.saturating_add(u64::from(is_answered(alloc, exchange)));
-    }
-    answered
-}
-
-/// The same where an exchange was made.
-fn ask_by_made<L: Link + Drop, D: Draws + Drop>(
     alloc: Global,
     made: &mut Result<TcpExchange<L, D>, NetError>,
     count: u32,
 ) -> u64 {
-    match made {
-        Ok(exchange) => ask_all(alloc, exchange, count),
-        Err(_) => 0,
+    let mut answered: u64 = 0;
+    if let Ok(exchange) = made {
+        for _ in 0..count {
+            let answer = exchange.send(alloc, request(alloc), 1000);
+            answered = answered.saturating_add(u64::from(answer.is_ok()));
+            drop(answer);
+        }
     }
+    answered
 }
 
 /// The same over a new connection.
@@ -52,7 +33,7 @@ fn ask(rt: &HostRuntime, alloc: Global, server: SocketAddr, count: u32) -> u64 {
     let mut dial = SocketDialer::new(rt);
     let draws = RandDraws::from_seed(1);
     let mut made = TcpExchange::connect(alloc, &mut dial, server, None, 5000, None, draws);
-    let answered = ask_by_made(alloc, &mut made, count);
+    let answered = ask_all(alloc, &mut made, count);
     drop(made);
     answered
 }
