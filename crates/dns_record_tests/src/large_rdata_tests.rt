@@ -7,6 +7,7 @@ use dns_name::NoMemory;
 use dns_rdata::{Nsec3Record, NsecRecord, canonical_rdata};
 use dns_record::{Record, RecordSet, RecordType};
 use std::alloc::Global;
+use std::process::Abort;
 
 const MANY: usize = 70_000;
 
@@ -15,8 +16,9 @@ const WINDOWS: u8 = 255;
 
 const BITMAP: usize = 34 * 256;
 
-/// Whether a set takes one more record of its name, type and class.
-fn takes(set: &mut RecordSet, next: Record) -> bool {
+/// Whether a set takes one more record, whose name, type and class it has.
+fn takes_next(rt: &impl Abort, alloc: Global, set: &mut RecordSet) -> bool {
+    let next = record(alloc, ".", 2, b"\x01b\0").expect(rt, "memory");
     if set.name != next.name
         || set.record_type != next.record_type
         || set.dns_class != next.dns_class
@@ -27,16 +29,9 @@ fn takes(set: &mut RecordSet, next: Record) -> bool {
     set.push(next).is_ok()
 }
 
-fn takes_next(alloc: Global, set: &mut RecordSet) -> bool {
-    match record(alloc, ".", 2, b"\x01b\0") {
-        Ok(next) => takes(set, next),
-        Err(_) => false,
-    }
-}
-
-fn fill(alloc: Global, set: &mut RecordSet) -> bool {
+fn fill(rt: &impl Abort, alloc: Global, set: &mut RecordSet) -> bool {
     for _ in 0..MANY {
-        if !takes_next(alloc, set) {
+        if !takes_next(rt, alloc, set) {
             return false;
         }
     }
@@ -44,59 +39,37 @@ fn fill(alloc: Global, set: &mut RecordSet) -> bool {
 }
 
 /// The last record is one that was pushed.
-fn are_filled(records: &[Record]) -> bool {
-    match records.get(MANY) {
-        Some(last) => last.rdata.as_slice() == b"\x01b\0".as_slice(),
-        None => false,
-    }
+fn is_filled(set: &RecordSet) -> bool {
+    set.records.len() == MANY + 1
+        && matches!(set.records.get(MANY), Some(last) if last.rdata.as_slice() == b"\x01b\0".as_slice())
 }
 
-fn is_filled(copy: Result<RecordSet, NoMemory>) -> bool {
-    match copy {
-        Ok(set) => {
-            let held = set.records.len() == MANY + 1 && are_filled(&set.records);
-            drop(set);
-            held
-        }
-        Err(_) => false,
-    }
-}
-
-fn first_set(alloc: Global) -> Result<RecordSet, NameError> {
-    Ok(RecordSet::of(alloc, record(alloc, ".", 2, b"\x01a\0")?)?)
-}
-
-fn grows(alloc: Global) -> bool {
-    match first_set(alloc) {
-        Ok(mut set) => {
-            let held = fill(alloc, &mut set) && is_filled(set.try_clone());
-            drop(set);
-            held
-        }
-        Err(_) => false,
-    }
+fn grows(rt: &impl Abort, alloc: Global) -> bool {
+    let first = record(alloc, ".", 2, b"\x01a\0").expect(rt, "memory");
+    let mut set = RecordSet::of(alloc, first).expect(rt, "memory");
+    let filled = fill(rt, alloc, &mut set);
+    let copy = set.try_clone().expect(rt, "memory");
+    drop(set);
+    let held = filled && is_filled(&copy);
+    drop(copy);
+    held
 }
 
 #[test]
 fn a_set_of_70_000_records_is_made_and_copied(rt: HostRuntime) {
-    check_held(&rt, "NS records", grows(rt.alloc()));
+    check_held(&rt, "NS records", grows(&rt, rt.alloc()));
 }
 
 /// A window with every type. As an array of a function it would be dear to prove, and so would a long salt.
 const WINDOW: &[u8] = &[255; 32];
 
-fn add_windows(bytes: &mut Vec<u8>) -> Result<(), NoMemory> {
+/// A bitmap of every type behind a front.
+fn with_bitmap(alloc: Global, front: &[u8]) -> Result<Vec<u8>, NoMemory> {
+    let mut bytes = Vec::from_slice(alloc, front)?;
     for window in 0..=WINDOWS {
         bytes.extend_from_slice(&[window, 32])?;
         bytes.extend_from_slice(WINDOW)?;
     }
-    Ok(())
-}
-
-/// A bitmap of every type behind a front.
-fn with_bitmap(alloc: Global, front: &[u8]) -> Result<Vec<u8>, NoMemory> {
-    let mut bytes = Vec::from_slice(alloc, front)?;
-    add_windows(&mut bytes)?;
     Ok(bytes)
 }
 
@@ -107,39 +80,18 @@ fn at_root_with_bitmap(alloc: Global, number: u16, front: &[u8]) -> Result<Recor
 }
 
 /// The copy has the owner, the next name and the last type.
-fn is_nsec(copy: Result<NsecRecord, NoMemory>) -> bool {
-    match copy {
-        Ok(nsec) => {
-            let held = nsec.owner.is_root()
-                && nsec.next.wire() == b"\x01b\0".as_slice()
-                && nsec.type_set().contains(RecordType(65_535));
-            drop(nsec);
-            held
-        }
-        Err(_) => false,
-    }
-}
-
-fn is_nsec_copied(read: Result<Option<NsecRecord>, NoMemory>) -> bool {
-    match read {
-        Ok(Some(nsec)) => {
-            let held = is_nsec(nsec.try_clone());
-            drop(nsec);
-            held
-        }
-        _ => false,
-    }
-}
-
-fn nsec_is_copied(alloc: Global) -> bool {
-    match at_root_with_bitmap(alloc, 47, b"\x01b\0") {
-        Ok(from) => {
-            let held = is_nsec_copied(NsecRecord::of(alloc, &from));
-            drop(from);
-            held
-        }
-        Err(_) => false,
-    }
+fn nsec_is_copied(rt: &impl Abort, alloc: Global) -> bool {
+    let from = at_root_with_bitmap(alloc, 47, b"\x01b\0").expect(rt, "memory");
+    let read = NsecRecord::of(alloc, &from).expect(rt, "memory");
+    drop(from);
+    let nsec = read.expect(rt, "an NSEC record");
+    let copy = nsec.try_clone().expect(rt, "memory");
+    drop(nsec);
+    let held = copy.owner.is_root()
+        && copy.next.wire() == b"\x01b\0".as_slice()
+        && copy.type_set().contains(RecordType(65_535));
+    drop(copy);
+    held
 }
 
 /// A salt of 255 bytes and a next hash of as many, each behind its size, all of the same byte.
@@ -153,56 +105,29 @@ fn long_front(alloc: Global) -> Result<Vec<u8>, NoMemory> {
     Ok(front)
 }
 
-fn has_long_front(nsec3: &Nsec3Record) -> bool {
-    nsec3.owner.is_root()
-        && nsec3.iterations == 12
-        && *nsec3.salt.as_slice() == *PART
-        && *nsec3.next.as_slice() == *PART
-}
-
 /// The copy has the owner, the iterations, the salt, the next hash and the last type.
-fn is_nsec3(copy: Result<Nsec3Record, NoMemory>) -> bool {
-    match copy {
-        Ok(nsec3) => {
-            let held = has_long_front(&nsec3) && nsec3.type_set().contains(RecordType(65_535));
-            drop(nsec3);
-            held
-        }
-        Err(_) => false,
-    }
-}
-
-fn is_nsec3_copied(read: Result<Option<Nsec3Record>, NoMemory>) -> bool {
-    match read {
-        Ok(Some(nsec3)) => {
-            let held = is_nsec3(nsec3.try_clone());
-            drop(nsec3);
-            held
-        }
-        _ => false,
-    }
-}
-
-fn with_long_front(alloc: Global) -> Result<Record, NameError> {
-    let front = long_front(alloc)?;
-    at_root_with_bitmap(alloc, 50, &front)
-}
-
-fn nsec3_is_copied(alloc: Global) -> bool {
-    match with_long_front(alloc) {
-        Ok(from) => {
-            let held = is_nsec3_copied(Nsec3Record::of(alloc, &from));
-            drop(from);
-            held
-        }
-        Err(_) => false,
-    }
+fn nsec3_is_copied(rt: &impl Abort, alloc: Global) -> bool {
+    let front = long_front(alloc).expect(rt, "memory");
+    let from = at_root_with_bitmap(alloc, 50, &front).expect(rt, "memory");
+    drop(front);
+    let read = Nsec3Record::of(alloc, &from).expect(rt, "memory");
+    drop(from);
+    let nsec3 = read.expect(rt, "an NSEC3 record");
+    let copy = nsec3.try_clone().expect(rt, "memory");
+    drop(nsec3);
+    let held = copy.owner.is_root()
+        && copy.iterations == 12
+        && *copy.salt.as_slice() == *PART
+        && *copy.next.as_slice() == *PART
+        && copy.type_set().contains(RecordType(65_535));
+    drop(copy);
+    held
 }
 
 #[test]
 fn denials_of_every_type_are_copied(rt: HostRuntime) {
-    check_held(&rt, "NSEC", nsec_is_copied(rt.alloc()));
-    check_held(&rt, "NSEC3", nsec3_is_copied(rt.alloc()));
+    check_held(&rt, "NSEC", nsec_is_copied(&rt, rt.alloc()));
+    check_held(&rt, "NSEC3", nsec3_is_copied(&rt, rt.alloc()));
 }
 
 /// An rdata with every type in its bitmap is its own canonical form.

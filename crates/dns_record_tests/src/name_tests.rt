@@ -1,7 +1,6 @@
 //! Names: how they compare, their wire form and their labels (RFC 1035, 3.1; RFC 4034, 6.1).
 use crate::rdata_signed_tests::are_octets;
 use crate::rows::{NameRow, Row, check_held, check_names, check_rows};
-use dns_model::NameError;
 use dns_name::{Name, NameRef, NoMemory, Octets, Text};
 use std::alloc::Global;
 use std::cmp::Ordering;
@@ -20,22 +19,14 @@ pub(crate) fn is_text(made: Result<Text, NoMemory>, text: &str) -> bool {
 }
 
 /// Whether it is the name of this wire form.
-pub(crate) fn is_made(made: Result<Name, NoMemory>, wire: &[u8]) -> bool {
+pub(crate) fn is_name(made: Option<Name>, wire: &[u8]) -> bool {
     match made {
-        Ok(name) => {
+        Some(name) => {
             let held = *name.wire() == *wire;
             drop(name);
             held
         }
-        Err(_) => false,
-    }
-}
-
-/// The same of a name that is read.
-pub(crate) fn is_read(read: Result<Name, NameError>, wire: &[u8]) -> bool {
-    match read {
-        Ok(name) => is_made(Ok(name), wire),
-        Err(_) => false,
+        None => false,
     }
 }
 
@@ -72,24 +63,16 @@ const PAIRS: &[(&str, Pair)] = &[
     ("*.z.example.", Pair("\\200.z.example.", Ordering::Less, false, false)),
 ];
 
-/// Equality, also of the names lent, and what a hasher makes of them.
-fn are_equal_as(one: &Name, two: &Name, equal: bool) -> bool {
-    (one == two) == equal
-        && (one.borrowed() == two.borrowed()) == equal
-        && (hash_of(one) == hash_of(two)) == equal
-}
-
-/// The zone is at or above the name, strictly so where the two differ.
-fn is_above_as(zone: &Name, name: &Name, row: &Pair) -> bool {
-    zone.zone_of(name) == row.3
-        && zone.borrowed().strictly_above(&name.borrowed()) == (row.3 && row.1 != Ordering::Equal)
-}
-
+/// They are equal, also as names lent and for a hasher, where neither comes first. A zone that isn't equal stands strictly above.
 fn are_pair(one: &Name, two: &Name, row: &Pair) -> bool {
+    let equal = row.1 == Ordering::Equal;
     one.cmp(two) == row.1
         && one.eq_case(two) == row.2
-        && are_equal_as(one, two, row.1 == Ordering::Equal)
-        && is_above_as(one, two, row)
+        && (one == two) == equal
+        && (one.borrowed() == two.borrowed()) == equal
+        && (hash_of(one) == hash_of(two)) == equal
+        && one.zone_of(two) == row.3
+        && one.borrowed().strictly_above(&two.borrowed()) == (row.3 && !equal)
 }
 
 impl NameRow for Pair {
@@ -123,35 +106,22 @@ const FRONTS: &[(&str, Front)] = &[
     ("a pointer", Front(b"\x01a\xc0\0", None)),
 ];
 
-fn is_front(alloc: Global, text: &str, row: &Front) -> bool {
-    match NameRef::front(row.0) {
-        Some((name, rest)) => row.1 == Some(rest.len()) && is_text(name.to_ascii(alloc), text),
-        None => row.1.is_none(),
+/// Whether the whole of the bytes is a name, which it is exactly where nothing is left behind it.
+fn is_whole(alloc: Global, row: &Front) -> bool {
+    match Name::from_wire(alloc, row.0) {
+        Ok(Some(name)) => is_name(Some(name), row.0) && row.1 == Some(0),
+        Ok(None) => row.1 != Some(0),
+        Err(_) => false,
     }
-}
-
-/// Whether it is the name of these bytes, which are its whole wire form.
-pub(crate) fn is_wire(whole: Result<Option<Name>, NoMemory>, wire: &[u8]) -> bool {
-    match whole {
-        Ok(Some(name)) => is_made(Ok(name), wire),
-        _ => false,
-    }
-}
-
-/// Whether it is no name.
-fn is_none(whole: Result<Option<Name>, NoMemory>) -> bool {
-    matches!(whole, Ok(None))
 }
 
 impl Row for Front {
-    /// The whole of the bytes is a name exactly where nothing is left behind it.
     fn holds(&self, alloc: Global, text: &str) -> bool {
-        let whole = Name::from_wire(alloc, self.0);
-        let held = match self.1 {
-            Some(0) => is_wire(whole, self.0),
-            _ => is_none(whole),
+        let is_front = match NameRef::front(self.0) {
+            Some((name, rest)) => self.1 == Some(rest.len()) && is_text(name.to_ascii(alloc), text),
+            None => self.1.is_none(),
         };
-        held && is_front(alloc, text, self)
+        is_front && is_whole(alloc, self)
     }
 }
 
@@ -173,25 +143,22 @@ const COUNTED: &[(&str, Counted)] = &[
     ("*a.c.", Counted(2, 2, b"\x01c\0", b"\x02*a\x01c\0")),
 ];
 
-fn is_counted(name: &Name, labels: u8, without: u8) -> bool {
-    name.label_count() == labels
-        && name.num_labels() == without
-        && name.is_root() == (labels == 0)
-        && name.is_wildcard() == (without < labels)
-}
-
 impl NameRow for Counted {
     fn holds(&self, _alloc: Global, name: &Name) -> bool {
-        is_counted(name, self.0, self.1)
-            && is_made(name.base_name(), self.2)
-            && is_made(name.trim_to(2), self.3)
+        name.label_count() == self.0
+            && name.num_labels() == self.1
+            && name.is_root() == (self.0 == 0)
+            && name.is_wildcard() == (self.1 < self.0)
+            && is_name(name.base_name().ok(), self.2)
+            && is_name(name.trim_to(2).ok(), self.3)
     }
 }
 
 #[test]
 fn labels_and_wildcards(rt: HostRuntime) {
     check_names(&rt, rt.alloc(), COUNTED);
-    check_held(&rt, "the root", is_made(Name::root(rt.alloc()), b"\0"));
+    let root = Name::root(rt.alloc()).ok();
+    check_held(&rt, "the root", is_name(root, b"\0"));
 }
 
 /// The name's wire form with A to Z as a to z.

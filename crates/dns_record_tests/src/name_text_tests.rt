@@ -1,8 +1,9 @@
 //! Names: how they are printed and read, and how long they may be (RFC 1035, 2.3.4 and 5.1).
-use crate::name_tests::{is_read, is_text};
+use crate::name_tests::{is_name, is_text};
+use crate::record_tests::is_shown;
 use crate::rows::{NameRow, Row, check_names, check_rows};
 use dns_model::NameError;
-use dns_name::{Name, NoMemory, Octets};
+use dns_name::{Name, Octets};
 use std::alloc::Global;
 
 /// Four labels of 63 bytes, and one of 64.
@@ -52,17 +53,11 @@ const READ: &[(&str, Read)] = &[
     ("\\200.z.example.", Read(b"\x01\xc8\x01z\x07example\0", "\\200.z.example.")),
 ];
 
-/// Its Display prints the name so.
-fn is_shown(alloc: Global, name: &Name, printed: &str) -> Result<bool, NoMemory> {
-    let shown = format!(in alloc; "{name}")?;
-    Ok(shown.as_str() == printed)
-}
-
 impl NameRow for Read {
     fn holds(&self, alloc: Global, name: &Name) -> bool {
         *name.wire() == *self.0
             && is_text(name.to_ascii(), self.1)
-            && is_read(Name::from_bytes(alloc, self.1.as_bytes()), self.0)
+            && is_name(Name::from_bytes(alloc, self.1.as_bytes()).ok(), self.0)
             && matches!(is_shown(alloc, name, self.1), Ok(true))
     }
 }
@@ -91,15 +86,10 @@ const REFUSED: &[(&str, Refused)] = &[
     ("\\256..", Refused(NameError::BadEscape)),
 ];
 
-/// The error of what is read.
-fn fault_of(read: Result<Name, NameError>) -> Option<NameError> {
-    read.err()
-}
-
 impl Row for Refused {
     fn holds(&self, alloc: Global, text: &str) -> bool {
-        fault_of(Name::from_ascii(alloc, text)) == Some(self.0)
-            && fault_of(Name::from_bytes(alloc, text.as_bytes())) == Some(self.0)
+        Name::from_ascii(alloc, text).err() == Some(self.0)
+            && Name::from_bytes(alloc, text.as_bytes()).err() == Some(self.0)
     }
 }
 
@@ -140,11 +130,6 @@ const LIMITS: &[(&str, Limit)] = &[
     ("two below", Limit(Made::Below, LONG, 0, 2, Err(NameError::LongName))),
 ];
 
-fn push_label(alloc: Global, labels: &mut Vec<Octets>, label: &[u8]) -> Result<(), NameError> {
-    labels.push(Octets::from_slice(alloc, label)?)?;
-    Ok(())
-}
-
 /// The name of this label, so many times, and the other label.
 pub(crate) fn labelled(
     alloc: Global,
@@ -154,9 +139,9 @@ pub(crate) fn labelled(
 ) -> Result<Name, NameError> {
     let mut labels = Vec::new(alloc);
     for _ in 0..times {
-        push_label(alloc, &mut labels, label)?;
+        labels.push(Octets::from_slice(alloc, label)?)?;
     }
-    push_label(alloc, &mut labels, last)?;
+    labels.push(Octets::from_slice(alloc, last)?)?;
     Name::from_labels(alloc, labels.as_slice())
 }
 
@@ -179,21 +164,16 @@ fn named(alloc: Global, made: &Made, text: &str) -> Result<Name, NameError> {
     }
 }
 
-/// Whether it is a name whose wire form has this size, or this error.
-fn has_size(read: Result<Name, NameError>, want: Result<usize, NameError>) -> bool {
-    match read {
-        Ok(name) => {
-            let held = want == Ok(name.wire().len());
-            drop(name);
-            held
-        }
-        Err(error) => want == Err(error),
-    }
-}
-
 impl Row for Limit {
     fn holds(&self, alloc: Global, _name: &str) -> bool {
-        has_size(named(alloc, &self.0, part(self.1, self.2, self.3)), self.4)
+        match named(alloc, &self.0, part(self.1, self.2, self.3)) {
+            Ok(name) => {
+                let held = self.4 == Ok(name.wire().len());
+                drop(name);
+                held
+            }
+            Err(error) => self.4 == Err(error),
+        }
     }
 }
 
@@ -223,8 +203,8 @@ fn below_origin(alloc: Global, text: &str) -> Result<Name, NameError> {
 
 impl Row for Below {
     fn holds(&self, alloc: Global, text: &str) -> bool {
-        is_read(below_origin(alloc, text), self.0)
-            && is_read(Name::parse(alloc, text, None), self.1)
+        is_name(below_origin(alloc, text).ok(), self.0)
+            && is_name(Name::parse(alloc, text, None).ok(), self.1)
     }
 }
 

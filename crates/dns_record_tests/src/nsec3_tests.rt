@@ -90,11 +90,6 @@ impl NameRow for Hashed {
     }
 }
 
-#[test]
-fn names_are_hashed(rt: HostRuntime) {
-    check_names(&rt, rt.alloc(), HASHES);
-}
-
 /// Whether the row's text is a hash.
 struct HashText(bool);
 
@@ -127,20 +122,17 @@ impl Row for HashText {
 }
 
 #[test]
-fn texts_of_hashes_are_read_in_either_case(rt: HostRuntime) {
+fn names_are_hashed_and_texts_of_hashes_read_in_either_case(rt: HostRuntime) {
+    check_names(&rt, rt.alloc(), HASHES);
     check_rows(&rt, rt.alloc(), TEXTS);
-}
-
-fn nsec3_of(alloc: Global, told: &Told) -> Result<Option<Nsec3Record>, NameError> {
-    let from = record(alloc, told.0, 50, told.1)?;
-    let read = Nsec3Record::of(alloc, &from);
-    drop(from);
-    Ok(read?)
 }
 
 /// A record that can't be read fails its test by this error.
 fn push_nsec3(alloc: Global, records: &mut Vec<Nsec3Record>, told: &Told) -> Result<(), NameError> {
-    match nsec3_of(alloc, told)? {
+    let from = record(alloc, told.0, 50, told.1)?;
+    let read = Nsec3Record::of(alloc, &from);
+    drop(from);
+    match read? {
         Some(nsec3) => Ok(records.push(nsec3)?),
         None => Err(NameError::EmptyLabel),
     }
@@ -173,24 +165,13 @@ const LIMITED: &[(&str, Limited)] = &[
     ("example.", Limited("a.z.w.example.", AT_NS2, Answered::Expanded(4), Proof::Bogus)),
 ];
 
-fn verdict(query: &Query, zone: &Name, row: &Limited, records: &[Nsec3Record]) -> Proof {
-    verify_nsec3(
-        query,
-        zone,
-        ResponseCode::NO_ERROR,
-        row.2,
-        records,
-        100,
-        500,
-    )
-}
-
 fn is_limited(alloc: Global, query: &Query, zone: &Name, row: &Limited) -> bool {
     match records_of(alloc, row.1) {
         Ok(records) => {
-            let held = verdict(query, zone, row, &records) == row.3;
+            let code = ResponseCode::NO_ERROR;
+            let verdict = verify_nsec3(query, zone, code, row.2, &records, 100, 500);
             drop(records);
-            held
+            verdict == row.3
         }
         Err(_) => false,
     }
@@ -275,15 +256,11 @@ const COVERS: &[(&str, Covers)] = &[
     ("none of none", Covers(0, &[], None)),
 ];
 
-fn is_covering(hash: &[u8; 20], records: &[Nsec3Record], number: Option<u32>) -> bool {
-    records.len() < 10 && nsec3_covering(hash, records) == number
-}
-
 impl Row for Covers {
     fn holds(&self, alloc: Global, _name: &str) -> bool {
         match records_of(alloc, self.1) {
             Ok(records) => {
-                let held = is_covering(&[self.0; 20], &records, self.2);
+                let held = records.len() < 10 && nsec3_covering(&[self.0; 20], &records) == self.2;
                 drop(records);
                 held
             }

@@ -10,16 +10,12 @@ use std::alloc::Global;
 /// An NSEC record: its owner and its rdata.
 type Told = (&'static str, &'static [u8]);
 
-fn nsec_of(alloc: Global, told: &Told) -> Result<Option<NsecRecord>, NameError> {
+/// A record that can't be read fails its test by this error.
+fn push_nsec(alloc: Global, records: &mut Vec<NsecRecord>, told: &Told) -> Result<(), NameError> {
     let from = record(alloc, told.0, 47, told.1)?;
     let read = NsecRecord::of(alloc, &from);
     drop(from);
-    Ok(read?)
-}
-
-/// A record that can't be read fails its test by this error.
-fn push_nsec(alloc: Global, records: &mut Vec<NsecRecord>, told: &Told) -> Result<(), NameError> {
-    match nsec_of(alloc, told)? {
+    match read? {
         Some(nsec) => Ok(records.push(nsec)?),
         None => Err(NameError::EmptyLabel),
     }
@@ -58,15 +54,11 @@ const COVERS: &[(&str, Nearest)] = &[
     ("a.m.", Nearest(BELOW, None)),
 ];
 
-fn is_covering(name: &Name, records: &[NsecRecord], number: Option<u32>) -> bool {
-    records.len() < 10 && nsec_covering(name, records) == number
-}
-
 impl NameRow for Nearest {
     fn holds(&self, alloc: Global, name: &Name) -> bool {
         match records_of(alloc, self.0) {
             Ok(records) => {
-                let held = is_covering(name, &records, self.1);
+                let held = records.len() < 10 && nsec_covering(name, &records) == self.1;
                 drop(records);
                 held
             }

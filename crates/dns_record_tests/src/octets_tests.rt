@@ -60,16 +60,11 @@ fn are_counted(octets: &[u8], start: usize, end: usize) -> bool {
     place == end
 }
 
-/// The whole of octets that are gone, as a part of them.
-fn whole_of(octets: Octets) -> Result<Octets, NoMemory> {
-    let whole = octets.part(0, octets.len());
-    drop(octets);
-    whole
-}
-
 /// A part of a part of octets that are gone; an error where they end before.
 fn part_of(octets: Octets, row: &Part) -> Result<Octets, NoMemory> {
-    let whole = whole_of(octets)?;
+    let whole = octets.part(0, octets.len());
+    drop(octets);
+    let whole = whole?;
     if row.2 < row.1 || whole.len() < row.2 {
         drop(whole);
         return Err(NoMemory);

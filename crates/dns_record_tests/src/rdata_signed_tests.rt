@@ -66,15 +66,10 @@ const SIGNED: &[(&str, Signed)] = &[
     ),
 ];
 
-fn push_rdata(alloc: Global, rdatas: &mut Vec<Rdata>, bytes: &[u8]) -> Result<(), NoMemory> {
-    rdatas.push(rdata(alloc, bytes)?)?;
-    Ok(())
-}
-
 fn rdatas_of(alloc: Global, all: &[&[u8]]) -> Result<Vec<Rdata>, NoMemory> {
     let mut rdatas = Vec::new(alloc);
     for bytes in all {
-        push_rdata(alloc, &mut rdatas, bytes)?;
+        rdatas.push(rdata(alloc, bytes)?)?;
     }
     Ok(rdatas)
 }
@@ -145,16 +140,12 @@ const VIEWS: &[(&str, Viewed)] = &[
     ("NS", Viewed(2, b"\x01b\0", 6)),
 ];
 
-/// The views of signatures and keys there are.
-fn key_views(from: &Record, place: usize) -> bool {
+/// The view at this place is there, and no other.
+fn is_only_view(from: &Record, place: usize) -> bool {
     Rrsig::of(from).is_some() == (place == 0)
         && Dnskey::of(from).is_some() == (place == 1)
         && Ds::of(from).is_some() == (place == 2)
-}
-
-/// The other views there are.
-fn other_views(from: &Record, place: usize) -> bool {
-    Nsec::of(from).is_some() == (place == 3)
+        && Nsec::of(from).is_some() == (place == 3)
         && Nsec3::of(from).is_some() == (place == 4)
         && Soa::of(from).is_some() == (place == 5)
         && Ns::of(from).is_some() == (place == 6)
@@ -164,7 +155,7 @@ impl Row for Viewed {
     fn holds(&self, alloc: Global, _name: &str) -> bool {
         match record(alloc, ".", self.0, self.1) {
             Ok(from) => {
-                let held = key_views(&from, self.2) && other_views(&from, self.2);
+                let held = is_only_view(&from, self.2);
                 drop(from);
                 held
             }
@@ -178,23 +169,17 @@ fn views_read_their_own_type_alone(rt: HostRuntime) {
     check_rows(&rt, rt.alloc(), VIEWS);
 }
 
-fn is_root_sig(sig: &Rrsig) -> bool {
-    sig.type_covered == RecordType::NS
-        && sig.labels == 0
-        && sig.original_ttl == 3600
-        && sig.expiration == SerialNumber(2000)
-        && sig.inception == SerialNumber(900)
-        && sig.key_tag == 44745
-}
-
-fn is_counted_soa(soa: &Soa) -> bool {
-    soa.serial == 1 && soa.refresh == 2 && soa.retry == 3 && soa.expire == 4 && soa.minimum == 5
-}
-
 /// The signature above.
 fn sig_has_its_numbers() -> bool {
     match Rrsig::read(ROOT_SIG) {
-        Some(sig) => is_root_sig(&sig),
+        Some(sig) => {
+            sig.type_covered == RecordType::NS
+                && sig.labels == 0
+                && sig.original_ttl == 3600
+                && sig.expiration == SerialNumber(2000)
+                && sig.inception == SerialNumber(900)
+                && sig.key_tag == 44745
+        }
         None => false,
     }
 }
@@ -202,7 +187,13 @@ fn sig_has_its_numbers() -> bool {
 /// An SOA with the numbers from 1 to 5.
 fn soa_has_its_numbers() -> bool {
     match Soa::read(b"\0\x01r\0\0\0\0\x01\0\0\0\x02\0\0\0\x03\0\0\0\x04\0\0\0\x05") {
-        Some(soa) => is_counted_soa(&soa),
+        Some(soa) => {
+            soa.serial == 1
+                && soa.refresh == 2
+                && soa.retry == 3
+                && soa.expire == 4
+                && soa.minimum == 5
+        }
         None => false,
     }
 }

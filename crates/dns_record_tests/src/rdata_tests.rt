@@ -27,20 +27,12 @@ const SERIALS: &[(&str, Serials)] = &[
     ("1000 and 2147484647", Serials(1000, 2147484647, Some(Ordering::Less))),
 ];
 
-fn is_ordered(a: SerialNumber, b: SerialNumber, want: Option<Ordering>) -> bool {
-    a.serial_cmp(b) == want
-        && a.at_or_before(b) == (want == Some(Ordering::Less) || want == Some(Ordering::Equal))
-}
-
 impl Row for Serials {
     fn holds(&self, _alloc: Global, _name: &str) -> bool {
-        is_ordered(SerialNumber(self.0), SerialNumber(self.1), self.2)
+        let (one, two) = (SerialNumber(self.0), SerialNumber(self.1));
+        let comes_first = self.2 == Some(Ordering::Less) || self.2 == Some(Ordering::Equal);
+        one.serial_cmp(two) == self.2 && one.at_or_before(two) == comes_first
     }
-}
-
-#[test]
-fn serial_numbers_are_ordered_around_the_circle(rt: HostRuntime) {
-    check_rows(&rt, rt.alloc(), SERIALS);
 }
 
 /// A moment before or past 2^32 seconds, and how far expiration 2000 lies ahead of it.
@@ -60,7 +52,8 @@ impl Row for Moment {
 }
 
 #[test]
-fn moments_count_around_the_circle(rt: HostRuntime) {
+fn serial_numbers_and_moments_go_around_the_circle(rt: HostRuntime) {
+    check_rows(&rt, rt.alloc(), SERIALS);
     check_rows(&rt, rt.alloc(), MOMENTS);
 }
 
@@ -94,11 +87,6 @@ impl Row for Tagged {
     }
 }
 
-#[test]
-fn key_tags_are_those_of_the_standard(rt: HostRuntime) {
-    check_rows(&rt, rt.alloc(), TAGS);
-}
-
 /// A key, a DS, and whether it covers the key of the row's owner.
 struct Covered(&'static [u8], &'static [u8], bool);
 
@@ -129,7 +117,8 @@ impl NameRow for Covered {
 }
 
 #[test]
-fn digests_of_the_standard_cover_their_keys(rt: HostRuntime) {
+fn key_tags_and_digests_are_those_of_the_standard(rt: HostRuntime) {
+    check_rows(&rt, rt.alloc(), TAGS);
     check_names(&rt, rt.alloc(), COVERED);
 }
 
@@ -176,15 +165,11 @@ impl Row for Shaped {
     }
 }
 
-/// Types whose rdata is any bytes.
-fn are_opaque(text: &[u8], other: &[u8]) -> bool {
-    has_shape(RecordType::TXT, text) && has_shape(RecordType(65280), other)
-}
-
 #[test]
 fn rdata_has_its_types_shape_and_no_byte_less_or_more(rt: HostRuntime) {
     check_rows(&rt, rt.alloc(), SHAPES);
-    check_held(&rt, "TXT and 65280", are_opaque(b"", b"\xff"));
+    let are_opaque = has_shape(RecordType::TXT, b"") && has_shape(RecordType(65280), b"\xff");
+    check_held(&rt, "TXT and 65280", are_opaque);
 }
 
 /// A type, an rdata, and its canonical form.
@@ -232,16 +217,13 @@ const BITMAPS: &[(&str, Bitmap)] = &[
     ("a window cut off", Bitmap(b"\x01a\0\0\x01\x40\x01", false, (false, false, false))),
 ];
 
-fn has_types(types: &TypeSet, want: (bool, bool, bool)) -> bool {
-    types.contains(RecordType::A) == want.0
-        && types.contains(RecordType::NS) == want.1
-        && types.contains(RecordType(257)) == want.2
-}
-
 impl Row for Bitmap {
     fn holds(&self, _alloc: Global, _name: &str) -> bool {
         let types = TypeSet::over(self.0.get(3..).unwrap_or_default());
-        Nsec::read(self.0).is_some() == self.1 && has_types(&types, self.2)
+        Nsec::read(self.0).is_some() == self.1
+            && types.contains(RecordType::A) == self.2.0
+            && types.contains(RecordType::NS) == self.2.1
+            && types.contains(RecordType(257)) == self.2.2
     }
 }
 

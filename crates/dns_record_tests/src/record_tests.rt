@@ -6,6 +6,7 @@ use dns_name::{Name, NoMemory};
 use dns_record::{DNSClass, Query, Rdata, Record, RecordType};
 use std::alloc::Global;
 use std::cmp::Ordering;
+use std::fmt::Display;
 
 /// One that is too long fails its test by the error.
 pub(crate) fn rdata(alloc: Global, bytes: &[u8]) -> Result<Rdata, NoMemory> {
@@ -73,8 +74,13 @@ fn are_one(one: &Query, made: Result<Query, NameError>, same: bool) -> bool {
     }
 }
 
-fn is_shown(alloc: Global, query: &Query, text: &str) -> Result<bool, NoMemory> {
-    let shown = format!(in alloc; "{query}")?;
+/// Its Display prints the value so.
+pub(crate) fn is_shown<D: Display + Drop>(
+    alloc: Global,
+    value: &D,
+    text: &str,
+) -> Result<bool, NoMemory> {
+    let shown = format!(in alloc; "{value}")?;
     Ok(shown.as_str() == text)
 }
 
