@@ -19,12 +19,7 @@ fn row_is_read(rt: &impl Abort, alloc: Global) -> bool {
         push(rt, &mut bytes, &(49152 + target % 16384).to_be_bytes());
     }
     push(rt, &mut bytes, &[255, 0, 0, 3, 0, 0, 0, 0, 0, 0]);
-    is_seen(rt, alloc, &bytes, &Seen::Owner(b"\x01a\0"))
-}
-
-#[test]
-fn a_row_of_pointers(rt: HostRuntime) {
-    check_row(&rt, "1,000 pointers", row_is_read(&rt, rt.alloc()));
+    is_seen(rt, alloc, &bytes, Seen::Owner(b"\x01a\0"))
 }
 
 /// A message with a pointer at a place, and what it comes to: for each of the first targets a letter, which is a for the first
@@ -87,24 +82,20 @@ const POINTED: &[Pointed] = &[
     },
 ];
 
-// What a row says of a target.
-fn seen_at(row: &Pointed, target: u16) -> &Seen {
-    match row.first.get(usize::from(target)) {
-        Some(letter) => {
-            let place = usize::from(letter.wrapping_sub(b'a'));
-            row.seen.get(place).unwrap_or(&row.others)
-        }
-        None => &row.others,
-    }
-}
-
 // The row's message with this pointer is what the row says.
 fn is_read(rt: &impl Abort, alloc: Global, row: &Pointed, target: u16) -> bool {
+    let seen = match row.first.get(usize::from(target)) {
+        Some(letter) => {
+            let place = usize::from(letter.wrapping_sub(b'a'));
+            *row.seen.get(place).unwrap_or(&row.others)
+        }
+        None => row.others,
+    };
     let mut bytes = Vec::new(alloc);
     push(rt, &mut bytes, row.before);
     push(rt, &mut bytes, &(49_152 | target).to_be_bytes());
     push(rt, &mut bytes, row.after);
-    is_seen(rt, alloc, &bytes, seen_at(row, target))
+    is_seen(rt, alloc, &bytes, seen)
 }
 
 // The first target that comes to something else than the row says.
@@ -122,7 +113,8 @@ fn all_pointed() -> &'static [Pointed] {
 }
 
 #[test]
-fn every_pointer_at_a_place_is_read_so(rt: HostRuntime) {
+fn rows_of_pointers_and_every_pointer_at_a_place_are_read_so(rt: HostRuntime) {
+    check_row(&rt, "1,000 pointers", row_is_read(&rt, rt.alloc()));
     for row in all_pointed() {
         let other = first_other(&rt, rt.alloc(), row);
         assert!(rt; other.is_none(), "{} to {other:?}", row.name);

@@ -1,14 +1,14 @@
 //! What bytes come to as a message, and the tables of whole messages.
 use crate::parts::is_named;
-use crate::rows::{Row, check_row, check_rows};
-use dns_message::{DecodeError, DecodeKind, EncodeError, Message};
+use crate::rows::{Row, check_numbered, check_row};
+use dns_message::{DecodeKind, EncodeError, Message};
 use dns_model::Proof;
-use dns_record::{DNSClass, Rdata, Record, RecordType};
+use dns_record::{DNSClass, Record};
 use std::alloc::Global;
 use std::process::Abort;
 
 /// What a message comes to.
-#[derive(Drop)]
+#[derive(Clone, Copy)]
 pub(crate) enum Seen {
     /// The wire form of its last record's owner.
     Owner(&'static [u8]),
@@ -33,27 +33,9 @@ pub(crate) fn push(rt: &impl Abort, all: &mut Vec<u8>, bytes: &[u8]) {
     all.extend_from_slice(bytes).expect(rt, "memory");
 }
 
-fn is_fault(error: DecodeError, seen: &Seen) -> bool {
-    match seen {
-        Seen::Fault(kind, offset) => error.kind == *kind && error.offset == *offset,
-        _ => false,
-    }
-}
-
-fn is_rdata(rdata: &Rdata, bytes: &[u8]) -> bool {
-    rdata.as_slice() == bytes
-}
-
-fn last_owner_is(records: &[Record], wire: &[u8]) -> bool {
-    match records.last() {
-        Some(record) => is_named(&record.name, wire),
-        None => false,
-    }
-}
-
 fn last_rdata_is(records: &[Record], bytes: &[u8]) -> bool {
     match records.last() {
-        Some(record) => is_rdata(&record.rdata, bytes) && record.proof == Proof::Indeterminate,
+        Some(record) => { record.rdata.as_slice() == bytes && record.proof == Proof::Indeterminate }
         None => false,
     }
 }
@@ -61,7 +43,11 @@ fn last_rdata_is(records: &[Record], bytes: &[u8]) -> bool {
 /// Whether a message is written as these bytes, or isn't written by this error.
 pub(crate) fn is_written_as(message: &Message, bytes: &[u8], error: Option<EncodeError>) -> bool {
     match message.to_vec() {
-        Ok(written) => error.is_none() && written.as_slice() == bytes,
+        Ok(written) => {
+            let held = error.is_none() && written.as_slice() == bytes;
+            drop(written);
+            held
+        }
         Err(other) => error == Some(other),
     }
 }
@@ -85,8 +71,8 @@ fn has_pointers(message: &Message) -> bool {
         [a, ns] => {
             is_named(&a.name, b"\x01a\0")
                 && is_named(&ns.name, b"\x01a\0")
-                && is_rdata(&a.rdata, b"\xc0\0\x02\x01")
-                && is_rdata(&ns.rdata, b"\x01b\x01a\0")
+                && a.rdata.as_slice() == b"\xc0\0\x02\x01".as_slice()
+                && ns.rdata.as_slice() == b"\x01b\x01a\0".as_slice()
                 && a.ttl == 3600
                 && a.dns_class == DNSClass::IN
         }
@@ -121,9 +107,11 @@ fn has_edns(message: &Message) -> bool {
     }
 }
 
-fn shows(rt: &impl Abort, message: &Message, bytes: &[u8], seen: &Seen) -> bool {
+fn shows(rt: &impl Abort, message: &Message, bytes: &[u8], seen: Seen) -> bool {
     match seen {
-        Seen::Owner(wire) => last_owner_is(&message.answers, wire),
+        Seen::Owner(wire) => {
+            matches!(message.answers.last(), Some(record) if is_named(&record.name, wire))
+        }
         Seen::Rdata(bytes) => last_rdata_is(&message.answers, bytes),
         Seen::Fault(_, _) => false,
         Seen::Written(written) => both_are_written_as(rt, message, written, None),
@@ -135,7 +123,7 @@ fn shows(rt: &impl Abort, message: &Message, bytes: &[u8], seen: &Seen) -> bool 
 }
 
 /// Whether bytes come to this.
-pub(crate) fn is_seen(rt: &impl Abort, alloc: Global, bytes: &[u8], seen: &Seen) -> bool {
+pub(crate) fn is_seen(rt: &impl Abort, alloc: Global, bytes: &[u8], seen: Seen) -> bool {
     if bytes.len() >= 1_000_000 {
         return false;
     }
@@ -145,7 +133,9 @@ pub(crate) fn is_seen(rt: &impl Abort, alloc: Global, bytes: &[u8], seen: &Seen)
             drop(message);
             held
         }
-        Err(error) => is_fault(error, seen),
+        Err(error) => {
+            matches!(seen, Seen::Fault(kind, place) if error.kind == kind && error.offset == place)
+        }
     }
 }
 
@@ -154,7 +144,7 @@ struct Read(&'static [u8], Seen);
 
 impl Row for Read {
     fn holds(&self, rt: &impl Abort, alloc: Global) -> bool {
-        is_seen(rt, alloc, self.0, &self.1)
+        is_seen(rt, alloc, self.0, self.1)
     }
 }
 
@@ -181,105 +171,111 @@ const POINTERS_WRITTEN: &[u8] =
 const Z_WRITTEN: &[u8] =
     b"\xab\xcd\xff\xbf\0\0\0\0\0\0\0\x02\0\xff\0\0\x03\0\0\0\0\0\x01\x01\0\0\x29\x04\xd0\x12\x05\x80\x03\0\x02\xaa\xbb";
 
-/// Messages as they are read and written.
+/// Messages as they are read and written; and bytes that are no message, the first fault from the left, and its place.
 #[rattlefmt::skip]
-const WHOLE: &[(&str, Read)] = &[
-    ("names are spelled out", Read(POINTERS, Seen::Pointers)),
-    ("bits stand apart", Read(WITH_OPT, Seen::Bits)),
-    ("pointers", Read(POINTERS, Seen::Written(POINTERS_WRITTEN))),
-    ("no pointers", Read(POINTERS_WRITTEN, Seen::Same)),
-    ("the bit Z",
-        Read(b"\xab\xcd\xff\xff\0\0\0\0\0\0\0\x02\0\0\x29\x04\xd0\x12\x05\x80\x03\0\x02\xaa\xbb\0\xff\0\0\x03\0\0\0\0\0\x01\x01",
-        Seen::Written(Z_WRITTEN))),
-    ("no bit Z", Read(Z_WRITTEN, Seen::Same)),
-    ("an OPT", Read(WITH_OPT, Seen::Same)),
-    ("the longest name", Read(LONGEST_NAME, Seen::Same)),
-];
-
-fn whole() -> &'static [(&'static str, Read)] {
-    WHOLE
-}
-
-fn empty_query_is(alloc: Global, want: &[u8]) -> bool {
-    is_written_as(&Message::query(alloc), want, None)
-}
-
-#[test]
-fn messages_are_read_and_written(rt: HostRuntime) {
-    check_rows(&rt, rt.alloc(), whole());
-    let twelve_zeros = b"\0\0\0\0\0\0\0\0\0\0\0\0";
-    check_row(
-        &rt,
-        "an empty query",
-        empty_query_is(rt.alloc(), twelve_zeros),
-    );
-}
-
-/// Bytes that are no message, the first fault from the left, and its place.
-#[rattlefmt::skip]
-const FAULTS: &[(&str, Read)] = &[
-    ("no byte", Read(b"", Seen::Fault(DecodeKind::Short, 0))),
-    ("three bytes", Read(b"\0\0\0", Seen::Fault(DecodeKind::Short, 2))),
-    ("eleven bytes", Read(b"\0\0\0\0\0\0\0\0\0\0\0", Seen::Fault(DecodeKind::Short, 10))),
-    ("a byte behind the message", Read(b"\0\0\0\0\0\0\0\0\0\0\0\0\xff", Seen::Fault(DecodeKind::Trailing, 12))),
-    ("an A of three bytes", Read(b"\0\0\x80\0\0\0\0\x01\0\0\0\0\0\0\x01\0\x01\0\0\0\0\0\x03\x01\x02\x03",
-        Seen::Fault(DecodeKind::BadRdata, 23))),
-    ("an A that reaches past the end", Read(b"\0\0\x80\0\0\0\0\x01\0\0\0\0\0\0\x01\0\x01\0\0\0\0\0\x04\x01\x02\x03",
-        Seen::Fault(DecodeKind::Short, 23))),
-    ("a ttl that is cut", Read(b"\0\0\x80\0\0\0\0\x01\0\0\0\0\0\0\x01\0\x01\0\0\0", Seen::Fault(DecodeKind::Short, 17))),
-    ("an OPT among the answers", Read(b"\0\0\x80\0\0\0\0\x01\0\0\0\0\0\0\x29\x04\xd0\0\0\0\0\0\0",
-        Seen::Fault(DecodeKind::BadOpt, 12))),
-    ("an OPT among the answers, cut behind its type", Read(b"\0\0\x80\0\0\0\0\x01\0\0\0\0\0\0\x29",
-        Seen::Fault(DecodeKind::BadOpt, 12))),
-    ("a type that is cut", Read(b"\0\0\x80\0\0\0\0\x01\0\0\0\0\0\0", Seen::Fault(DecodeKind::Short, 13))),
-    ("a second OPT", Read(b"\0\0\0\0\0\0\0\0\0\0\0\x02\0\0\x29\x02\0\0\0\0\0\0\0\0\0\x29\x02\0\0\0\0\0\0\0",
-        Seen::Fault(DecodeKind::BadOpt, 23))),
-    ("an OPT that isn't at the root", Read(b"\0\0\0\0\0\0\0\0\0\0\0\x01\x01\x61\0\0\x29\x02\0\0\0\0\0\0\0",
-        Seen::Fault(DecodeKind::BadOpt, 12))),
-    ("an OPT that is cut", Read(b"\0\0\0\0\0\0\0\0\0\0\0\x01\0\0\x29\x02", Seen::Fault(DecodeKind::Short, 15))),
-    ("a pointer to its own row", Read(b"\0\0\x84\0\0\x01\0\0\0\0\0\0\xc0\x0c\0\x01\0\x01", Seen::Fault(DecodeKind::BadName, 12))),
-    ("a pointer forward", Read(b"\0\0\x84\0\0\x01\0\0\0\0\0\0\xc0\x0d\0\x01\0\x01", Seen::Fault(DecodeKind::BadName, 12))),
-    ("a pointer to the front of the row that it ends", Read(b"\0\0\x84\0\0\x01\0\0\0\0\0\0\x01\x61\xc0\x0c\0\x01\0\x01",
-        Seen::Fault(DecodeKind::BadName, 14))),
-    ("a pointer that is cut", Read(b"\0\0\x84\0\0\x01\0\0\0\0\0\0\x01\x61\xc0", Seen::Fault(DecodeKind::Short, 14))),
-    ("the top bits 01", Read(b"\0\0\x84\0\0\x01\0\0\0\0\0\0\x40\0\0\x01\0\x01", Seen::Fault(DecodeKind::BadName, 12))),
-    ("the top bits 10", Read(b"\0\0\x84\0\0\x01\0\0\0\0\0\0\x01\x61\xbf\0\0\x01\0\x01", Seen::Fault(DecodeKind::BadName, 14))),
-    ("a label that is cut", Read(b"\0\0\x84\0\0\x01\0\0\0\0\0\0\x03\x61\x62", Seen::Fault(DecodeKind::Short, 12))),
-    ("no length byte", Read(b"\0\0\x84\0\0\x01\0\0\0\0\0\0\x01\x61", Seen::Fault(DecodeKind::Short, 14))),
-    ("a pointer to its own row in an rdata", Read(b"\0\0\x80\0\0\0\0\x01\0\0\0\0\0\0\x02\0\x01\0\0\0\0\0\x02\xc0\x17",
-        Seen::Fault(DecodeKind::BadRdata, 23))),
-    ("a name that goes on past the rdata", Read(b"\0\0\x80\0\0\0\0\x02\0\0\0\0\0\0\x02\0\x01\0\0\0\0\0\x01\x01\0",
-        Seen::Fault(DecodeKind::BadRdata, 23))),
-    (
-        "a name of 256 bytes",
-        Read(
+const READ: &[Read] = &[
+    // names are spelled out
+    Read(POINTERS, Seen::Pointers),
+    // bits stand apart
+    Read(WITH_OPT, Seen::Bits),
+    // pointers
+    Read(POINTERS, Seen::Written(POINTERS_WRITTEN)),
+    // no pointers
+    Read(POINTERS_WRITTEN, Seen::Same),
+    // the bit Z
+    Read(b"\xab\xcd\xff\xff\0\0\0\0\0\0\0\x02\0\0\x29\x04\xd0\x12\x05\x80\x03\0\x02\xaa\xbb\0\xff\0\0\x03\0\0\0\0\0\x01\x01",
+        Seen::Written(Z_WRITTEN)),
+    // no bit Z
+    Read(Z_WRITTEN, Seen::Same),
+    // an OPT
+    Read(WITH_OPT, Seen::Same),
+    // the longest name
+    Read(LONGEST_NAME, Seen::Same),
+    // no byte
+    Read(b"", Seen::Fault(DecodeKind::Short, 0)),
+    // three bytes
+    Read(b"\0\0\0", Seen::Fault(DecodeKind::Short, 2)),
+    // eleven bytes
+    Read(b"\0\0\0\0\0\0\0\0\0\0\0", Seen::Fault(DecodeKind::Short, 10)),
+    // a byte behind the message
+    Read(b"\0\0\0\0\0\0\0\0\0\0\0\0\xff", Seen::Fault(DecodeKind::Trailing, 12)),
+    // an A of three bytes
+    Read(b"\0\0\x80\0\0\0\0\x01\0\0\0\0\0\0\x01\0\x01\0\0\0\0\0\x03\x01\x02\x03",
+        Seen::Fault(DecodeKind::BadRdata, 23)),
+    // an A that reaches past the end
+    Read(b"\0\0\x80\0\0\0\0\x01\0\0\0\0\0\0\x01\0\x01\0\0\0\0\0\x04\x01\x02\x03",
+        Seen::Fault(DecodeKind::Short, 23)),
+    // a ttl that is cut
+    Read(b"\0\0\x80\0\0\0\0\x01\0\0\0\0\0\0\x01\0\x01\0\0\0", Seen::Fault(DecodeKind::Short, 17)),
+    // an OPT among the answers
+    Read(b"\0\0\x80\0\0\0\0\x01\0\0\0\0\0\0\x29\x04\xd0\0\0\0\0\0\0",
+        Seen::Fault(DecodeKind::BadOpt, 12)),
+    // an OPT among the answers, cut behind its type
+    Read(b"\0\0\x80\0\0\0\0\x01\0\0\0\0\0\0\x29",
+        Seen::Fault(DecodeKind::BadOpt, 12)),
+    // a type that is cut
+    Read(b"\0\0\x80\0\0\0\0\x01\0\0\0\0\0\0", Seen::Fault(DecodeKind::Short, 13)),
+    // a second OPT
+    Read(b"\0\0\0\0\0\0\0\0\0\0\0\x02\0\0\x29\x02\0\0\0\0\0\0\0\0\0\x29\x02\0\0\0\0\0\0\0",
+        Seen::Fault(DecodeKind::BadOpt, 23)),
+    // an OPT that isn't at the root
+    Read(b"\0\0\0\0\0\0\0\0\0\0\0\x01\x01\x61\0\0\x29\x02\0\0\0\0\0\0\0",
+        Seen::Fault(DecodeKind::BadOpt, 12)),
+    // an OPT that is cut
+    Read(b"\0\0\0\0\0\0\0\0\0\0\0\x01\0\0\x29\x02", Seen::Fault(DecodeKind::Short, 15)),
+    // a pointer to its own row
+    Read(b"\0\0\x84\0\0\x01\0\0\0\0\0\0\xc0\x0c\0\x01\0\x01", Seen::Fault(DecodeKind::BadName, 12)),
+    // a pointer forward
+    Read(b"\0\0\x84\0\0\x01\0\0\0\0\0\0\xc0\x0d\0\x01\0\x01", Seen::Fault(DecodeKind::BadName, 12)),
+    // a pointer to the front of the row that it ends
+    Read(b"\0\0\x84\0\0\x01\0\0\0\0\0\0\x01\x61\xc0\x0c\0\x01\0\x01",
+        Seen::Fault(DecodeKind::BadName, 14)),
+    // a pointer that is cut
+    Read(b"\0\0\x84\0\0\x01\0\0\0\0\0\0\x01\x61\xc0", Seen::Fault(DecodeKind::Short, 14)),
+    // the top bits 01
+    Read(b"\0\0\x84\0\0\x01\0\0\0\0\0\0\x40\0\0\x01\0\x01", Seen::Fault(DecodeKind::BadName, 12)),
+    // the top bits 10
+    Read(b"\0\0\x84\0\0\x01\0\0\0\0\0\0\x01\x61\xbf\0\0\x01\0\x01", Seen::Fault(DecodeKind::BadName, 14)),
+    // a label that is cut
+    Read(b"\0\0\x84\0\0\x01\0\0\0\0\0\0\x03\x61\x62", Seen::Fault(DecodeKind::Short, 12)),
+    // no length byte
+    Read(b"\0\0\x84\0\0\x01\0\0\0\0\0\0\x01\x61", Seen::Fault(DecodeKind::Short, 14)),
+    // a pointer to its own row in an rdata
+    Read(b"\0\0\x80\0\0\0\0\x01\0\0\0\0\0\0\x02\0\x01\0\0\0\0\0\x02\xc0\x17",
+        Seen::Fault(DecodeKind::BadRdata, 23)),
+    // a name that goes on past the rdata
+    Read(b"\0\0\x80\0\0\0\0\x02\0\0\0\0\0\0\x02\0\x01\0\0\0\0\0\x01\x01\0",
+        Seen::Fault(DecodeKind::BadRdata, 23)),
+    // a name of 256 bytes
+    Read(
             b"\0\0\0\0\0\x01\0\0\0\0\0\0\
                   \x3faaaaaaaaaaaaaaaaaaaaaaaaaaaaaaaaaaaaaaaaaaaaaaaaaaaaaaaaaaaaaaa\
                   \x3faaaaaaaaaaaaaaaaaaaaaaaaaaaaaaaaaaaaaaaaaaaaaaaaaaaaaaaaaaaaaaa\
                   \x3faaaaaaaaaaaaaaaaaaaaaaaaaaaaaaaaaaaaaaaaaaaaaaaaaaaaaaaaaaaaaaa\
                   \x3eaaaaaaaaaaaaaaaaaaaaaaaaaaaaaaaaaaaaaaaaaaaaaaaaaaaaaaaaaaaaaa\0\0\x01\0\x01",
             Seen::Fault(DecodeKind::BadName, 204),
-        ),
     ),
     // the label that passes the limit also reaches past the end
-    (
-        "a name of 256 bytes that is cut",
-        Read(
+    // a name of 256 bytes that is cut
+    Read(
             b"\0\0\0\0\0\x01\0\0\0\0\0\0\
                   \x3faaaaaaaaaaaaaaaaaaaaaaaaaaaaaaaaaaaaaaaaaaaaaaaaaaaaaaaaaaaaaaa\
                   \x3faaaaaaaaaaaaaaaaaaaaaaaaaaaaaaaaaaaaaaaaaaaaaaaaaaaaaaaaaaaaaaa\
                   \x3faaaaaaaaaaaaaaaaaaaaaaaaaaaaaaaaaaaaaaaaaaaaaaaaaaaaaaaaaaaaaaa\
                   \x3eaaaaaaaaaaaaaaaaaaaaaaaaaaaaaaaaaaaaaaaaaaaaa",
             Seen::Fault(DecodeKind::Short, 204),
-        ),
     ),
 ];
 
-fn faults() -> &'static [(&'static str, Read)] {
-    FAULTS
+fn all_read() -> &'static [Read] {
+    READ
 }
 
 #[test]
-fn first_fault_with_its_place(rt: HostRuntime) {
-    check_rows(&rt, rt.alloc(), faults());
+fn messages_are_read_and_written_or_refused_by_the_first_fault(rt: HostRuntime) {
+    check_numbered(&rt, rt.alloc(), "read", all_read());
+    let query = Message::query(rt.alloc());
+    let held = is_written_as(&query, b"\0\0\0\0\0\0\0\0\0\0\0\0", None);
+    drop(query);
+    check_row(&rt, "an empty query", held);
 }

@@ -10,39 +10,23 @@ use std::alloc::Global;
 use std::process::Abort;
 
 /// An error of each kind.
-#[derive(Clone, Copy, Drop)]
+#[derive(Clone, Copy)]
 enum Sample {
     Busy,
-    Refused,
-    NameErrorCode,
+    Code(u16),
     Bogus,
-    ExpiredRrsig,
-    WrongDnskey,
-    WrongRrsig,
-    NoQueryInRequest,
-    TooDeep,
-    TooMany,
-    NoId,
-    FullQueue,
-    PolledAgain,
-    CutDatagram,
+    Fixed(Notice),
     NoConnections,
-    Short,
-    DecodedNoMemory,
+    Undecoded(DecodeKind),
     TooLong,
-    BrokenPipe,
-    TimedOut,
+    Outside(IoKind),
     Timeout,
     Case,
     Truncated,
     NoMemory,
-    /// No records of a name with odd labels, with nothing beside.
-    MissingOdd,
-    /// No records of `a.b. TXT`, by NXDOMAIN.
-    MissingName,
-    /// No records of `a.b. TXT`, by NOERROR.
-    MissingType,
-    /// No records, as a referral says.
+    /// No records of a name and a type, by a code, with nothing beside.
+    Missing(&'static str, u16, u16),
+    /// No records of `a.b. TXT`, as a referral says.
     Referred,
     Denied,
     OwnText,
@@ -70,31 +54,43 @@ struct Shown(Sample, Tells, &'static str);
 #[rattlefmt::skip]
 const SHOWN: &[Shown] = &[
     Shown(Sample::Busy, Tells::Nothing, "resource too busy"),
-    Shown(Sample::Refused, Tells::Nothing, "DNS error: error response: 5"),
-    Shown(Sample::NameErrorCode, Tells::Nothing, "DNS error: error response: 3"),
-    Shown(Sample::MissingOdd, Tells::NameMissing, "DNS error: no records found for o\\.g.\\128-. IN DNSKEY"),
-    Shown(Sample::MissingName, Tells::NameMissing, "DNS error: no records found for a.b. IN TXT"),
-    Shown(Sample::MissingType, Tells::TypeMissing, "DNS error: no records found for a.b. IN TXT"),
+    Shown(Sample::Code(5), Tells::Nothing, "DNS error: error response: 5"),
+    Shown(Sample::Code(3), Tells::Nothing, "DNS error: error response: 3"),
+    Shown(Sample::Missing("o\\.g.\\128-.", 48, 3), Tells::NameMissing, "DNS error: no records found for o\\.g.\\128-. IN DNSKEY"),
+    Shown(Sample::Missing("a.b.", 16, 3), Tells::NameMissing, "DNS error: no records found for a.b. IN TXT"),
+    Shown(Sample::Missing("a.b.", 16, 0), Tells::TypeMissing, "DNS error: no records found for a.b. IN TXT"),
     Shown(Sample::Referred, Tells::Referral, "DNS error: no records found for a.b. IN TXT"),
     Shown(Sample::Denied, Tells::Nothing, "DNS error: DNSSEC Negative Record Response for o\\.g.\\128-. IN DNSKEY, Bogus"),
     Shown(Sample::Bogus, Tells::Nothing, "DNS error: DNSSEC validation failed"),
-    Shown(Sample::ExpiredRrsig, Tells::Nothing, "ExpiredRrsig"),
-    Shown(Sample::WrongDnskey, Tells::Nothing, "WrongDnskey"),
-    Shown(Sample::WrongRrsig, Tells::Nothing, "WrongRrsig"),
-    Shown(Sample::NoQueryInRequest, Tells::Nothing, "no query in request"),
-    Shown(Sample::TooDeep, Tells::Nothing, "exceeded max validation depth"),
-    Shown(Sample::TooMany, Tells::Nothing, "exceeded max nested queries"),
-    Shown(Sample::NoId, Tells::Nothing, "id space exhausted, consider filing an issue"),
-    Shown(Sample::FullQueue, Tells::Nothing, "send queue full"),
-    Shown(Sample::PolledAgain, Tells::Nothing, "polled after completion"),
-    Shown(Sample::CutDatagram, Tells::Nothing, "not all bytes of message sent"),
+    Shown(Sample::Fixed(Notice::ExpiredRrsig), Tells::Nothing, "ExpiredRrsig"),
+    Shown(Sample::Fixed(Notice::WrongDnskey), Tells::Nothing, "WrongDnskey"),
+    Shown(Sample::Fixed(Notice::WrongRrsig), Tells::Nothing, "WrongRrsig"),
+    Shown(Sample::Fixed(Notice::NoQueryInRequest), Tells::Nothing, "no query in request"),
+    Shown(Sample::Fixed(Notice::ExceededMaxValidationDepth), Tells::Nothing, "exceeded max validation depth"),
+    Shown(Sample::Fixed(Notice::ExceededMaxNestedQueries), Tells::Nothing, "exceeded max nested queries"),
+    Shown(Sample::Fixed(Notice::IdSpaceExhausted), Tells::Nothing, "id space exhausted, consider filing an issue"),
+    Shown(Sample::Fixed(Notice::SendQueueFull), Tells::Nothing, "send queue full"),
+    Shown(Sample::Fixed(Notice::PolledAfterCompletion), Tells::Nothing, "polled after completion"),
+    Shown(Sample::Fixed(Notice::NotAllBytesSent), Tells::Nothing, "not all bytes of message sent"),
     Shown(Sample::OwnText, Tells::Nothing, "the pool is closed"),
     Shown(Sample::NoConnections, Tells::Nothing, "no connections available"),
-    Shown(Sample::Short, Tells::Nothing, "protocol error: Short 12"),
-    Shown(Sample::DecodedNoMemory, Tells::NoMemory, "out of memory"),
+    Shown(Sample::Undecoded(DecodeKind::Short), Tells::Nothing, "protocol error: Short 12"),
+    Shown(Sample::Undecoded(DecodeKind::NoMemory), Tells::NoMemory, "out of memory"),
     Shown(Sample::TooLong, Tells::Nothing, "protocol error: TooLong"),
-    Shown(Sample::BrokenPipe, Tells::Closed, "io error: BrokenPipe"),
-    Shown(Sample::TimedOut, Tells::Nothing, "request timed out"),
+    // five kinds of faults outside say that a connection is gone, and one is `Timeout`
+    Shown(Sample::Outside(IoKind::PermissionDenied), Tells::Nothing, "io error: PermissionDenied"),
+    Shown(Sample::Outside(IoKind::ConnectionRefused), Tells::Nothing, "io error: ConnectionRefused"),
+    Shown(Sample::Outside(IoKind::ConnectionReset), Tells::Closed, "io error: ConnectionReset"),
+    Shown(Sample::Outside(IoKind::ConnectionAborted), Tells::Closed, "io error: ConnectionAborted"),
+    Shown(Sample::Outside(IoKind::NotConnected), Tells::Closed, "io error: NotConnected"),
+    Shown(Sample::Outside(IoKind::AddrInUse), Tells::Nothing, "io error: AddrInUse"),
+    Shown(Sample::Outside(IoKind::AddrNotAvailable), Tells::Nothing, "io error: AddrNotAvailable"),
+    Shown(Sample::Outside(IoKind::BrokenPipe), Tells::Closed, "io error: BrokenPipe"),
+    Shown(Sample::Outside(IoKind::InvalidData), Tells::Nothing, "io error: InvalidData"),
+    Shown(Sample::Outside(IoKind::TimedOut), Tells::Nothing, "request timed out"),
+    Shown(Sample::Outside(IoKind::UnexpectedEof), Tells::Closed, "io error: UnexpectedEof"),
+    Shown(Sample::Outside(IoKind::RequestTooLong), Tells::Nothing, "io error: RequestTooLong"),
+    Shown(Sample::Outside(IoKind::Other), Tells::Nothing, "io error: Other"),
     Shown(Sample::Timeout, Tells::Nothing, "request timed out"),
     Shown(Sample::Case, Tells::Nothing, "case of query name in response did not match"),
     Shown(Sample::Foreign, Tells::Nothing, "foreign class record in response: . CH TYPE65534"),
@@ -106,37 +102,17 @@ fn shown_rows() -> &'static [Shown] {
     SHOWN
 }
 
-fn failed(code: u16) -> NetError {
-    NetError::from(DnsError::ResponseCode(ResponseCode(code)))
-}
-
-fn undecoded(kind: DecodeKind) -> NetError {
-    NetError::from(DecodeError { kind, offset: 12 })
-}
-
 /// An error that holds nothing; another sample is taken for `NoMemory`.
 fn plain(sample: Sample) -> NetError {
     match sample {
         Sample::Busy => NetError::Busy,
-        Sample::Refused => failed(5),
-        Sample::NameErrorCode => failed(3),
+        Sample::Code(code) => NetError::from(DnsError::ResponseCode(ResponseCode(code))),
         Sample::Bogus => NetError::from(DnsError::DnssecBogus),
-        Sample::ExpiredRrsig => NetError::from(Notice::ExpiredRrsig),
-        Sample::WrongDnskey => NetError::from(Notice::WrongDnskey),
-        Sample::WrongRrsig => NetError::from(Notice::WrongRrsig),
-        Sample::NoQueryInRequest => NetError::from(Notice::NoQueryInRequest),
-        Sample::TooDeep => NetError::from(Notice::ExceededMaxValidationDepth),
-        Sample::TooMany => NetError::from(Notice::ExceededMaxNestedQueries),
-        Sample::NoId => NetError::from(Notice::IdSpaceExhausted),
-        Sample::FullQueue => NetError::from(Notice::SendQueueFull),
-        Sample::PolledAgain => NetError::from(Notice::PolledAfterCompletion),
-        Sample::CutDatagram => NetError::from(Notice::NotAllBytesSent),
+        Sample::Fixed(notice) => NetError::from(notice),
         Sample::NoConnections => NetError::NoConnections,
-        Sample::Short => undecoded(DecodeKind::Short),
-        Sample::DecodedNoMemory => undecoded(DecodeKind::NoMemory),
+        Sample::Undecoded(kind) => NetError::from(DecodeError { kind, offset: 12 }),
         Sample::TooLong => NetError::from(ProtoError::TooLong),
-        Sample::BrokenPipe => NetError::from(IoKind::BrokenPipe),
-        Sample::TimedOut => NetError::from(IoKind::TimedOut),
+        Sample::Outside(kind) => NetError::from(kind),
         Sample::Timeout => NetError::Timeout,
         Sample::Case => NetError::QueryCaseMismatch,
         Sample::Truncated => NetError::Truncated,
@@ -168,9 +144,7 @@ fn foreign(rt: &impl Abort, alloc: Global) -> NetError {
 
 fn error_of(rt: &impl Abort, alloc: Global, sample: Sample) -> NetError {
     match sample {
-        Sample::MissingOdd => missing(rt, alloc, "o\\.g.\\128-.", 48, 3),
-        Sample::MissingName => missing(rt, alloc, "a.b.", 16, 3),
-        Sample::MissingType => missing(rt, alloc, "a.b.", 16, 0),
+        Sample::Missing(text, record_type, code) => missing(rt, alloc, text, record_type, code),
         Sample::Referred => denied_by_referral(rt, alloc),
         Sample::Denied => denied(rt, alloc),
         Sample::OwnText => {
@@ -217,40 +191,5 @@ impl Row for Shown {
 
 #[test]
 fn errors_show_their_texts(rt: HostRuntime) {
-    check_numbered(&rt, rt.alloc(), shown_rows());
-}
-
-/// A kind of fault outside, and whether it says that a connection is gone. None says what is missing.
-struct Outside(IoKind, Tells);
-
-const OUTSIDE: &[Outside] = &[
-    // five kinds say that a connection is gone
-    Outside(IoKind::PermissionDenied, Tells::Nothing),
-    Outside(IoKind::ConnectionRefused, Tells::Nothing),
-    Outside(IoKind::ConnectionReset, Tells::Closed),
-    Outside(IoKind::ConnectionAborted, Tells::Closed),
-    Outside(IoKind::NotConnected, Tells::Closed),
-    Outside(IoKind::AddrInUse, Tells::Nothing),
-    Outside(IoKind::AddrNotAvailable, Tells::Nothing),
-    Outside(IoKind::BrokenPipe, Tells::Closed),
-    Outside(IoKind::InvalidData, Tells::Nothing),
-    // `Timeout`
-    Outside(IoKind::TimedOut, Tells::Nothing),
-    Outside(IoKind::UnexpectedEof, Tells::Closed),
-    Outside(IoKind::RequestTooLong, Tells::Nothing),
-    Outside(IoKind::Other, Tells::Nothing),
-];
-
-impl Row for Outside {
-    fn holds(&self, _rt: &impl Abort, _alloc: Global) -> bool {
-        let error = NetError::from(self.0);
-        let held = is_told(&error, self.1);
-        drop(error);
-        held
-    }
-}
-
-#[test]
-fn errors_of_the_outside_tell_whether_a_connection_is_gone(rt: HostRuntime) {
-    check_numbered(&rt, rt.alloc(), OUTSIDE);
+    check_numbered(&rt, rt.alloc(), "shown", shown_rows());
 }

@@ -1,7 +1,7 @@
 use crate::net_negative_tests::{Asked, Became, Held, fill, from_message};
 use crate::parts::is_named;
 use crate::rows::{Row, check_numbered};
-use dns_handle::{DnsError, ForwardNSData, NetError, NoRecords};
+use dns_handle::{DnsError, ForwardNSData, NetError};
 use dns_message::Message;
 use dns_model::Section;
 use dns_record::{DNSClass, Record, ResponseCode};
@@ -134,16 +134,21 @@ fn are_servers(servers: &[ForwardNSData]) -> bool {
     }
 }
 
-fn is_missing(missing: &NoRecords, row: &Missing) -> bool {
-    is_named(&missing.query.name, row.name)
-        && missing.query.query_type.0 == row.record_type
-        && missing.query.query_class == DNSClass::IN
-        && missing.response_code.0 == row.code
-        && has_soa(&missing.soa, row.soa)
-        && missing.negative_ttl == row.negative_ttl
-        && missing.authorities.len() == row.authorities
-        && missing.ns.is_empty() == row.records.is_empty()
-        && (missing.ns.is_empty() || are_servers(&missing.ns))
+fn is_missing(became: &Became, row: &Missing) -> bool {
+    match became {
+        Err(DnsError::NoRecordsFound(missing)) => {
+            is_named(&missing.query.name, row.name)
+                && missing.query.query_type.0 == row.record_type
+                && missing.query.query_class == DNSClass::IN
+                && missing.response_code.0 == row.code
+                && has_soa(&missing.soa, row.soa)
+                && missing.negative_ttl == row.negative_ttl
+                && missing.authorities.len() == row.authorities
+                && missing.ns.is_empty() == row.records.is_empty()
+                && (missing.ns.is_empty() || are_servers(&missing.ns))
+        }
+        _ => false,
+    }
 }
 
 /// What becomes of the row's response.
@@ -154,17 +159,10 @@ fn became_of(rt: &impl Abort, alloc: Global, row: &Missing) -> Became {
     from_message(rt, alloc, message)
 }
 
-fn holds_missing(became: &Became, row: &Missing) -> bool {
-    match became {
-        Err(DnsError::NoRecordsFound(missing)) => is_missing(missing, row),
-        _ => false,
-    }
-}
-
 impl Row for Missing {
     fn holds(&self, rt: &impl Abort, alloc: Global) -> bool {
         let became = became_of(rt, alloc, self);
-        let held = holds_missing(&became, self);
+        let held = is_missing(&became, self);
         drop(became);
         held
     }
@@ -172,7 +170,7 @@ impl Row for Missing {
 
 #[test]
 fn no_records_keep_what_the_server_said(rt: HostRuntime) {
-    check_numbered(&rt, rt.alloc(), rows());
+    check_numbered(&rt, rt.alloc(), "missing", rows());
 }
 
 /// The error that a referral becomes.

@@ -28,17 +28,14 @@ pub(crate) struct Held(
     pub(crate) &'static [u8],
 );
 
-fn section_of(message: &mut Message, section: Section) -> &mut Vec<Record> {
-    match section {
+fn add(rt: &impl Abort, alloc: Global, message: &mut Message, held: &Held, ttl: u32) {
+    let next = record(rt, alloc, held.1, held.2, held.3.unwrap_or(ttl), held.4);
+    let section = match held.0 {
         Section::Answer => &mut message.answers,
         Section::Authority => &mut message.authorities,
         Section::Additional => &mut message.additionals,
-    }
-}
-
-fn add(rt: &impl Abort, alloc: Global, message: &mut Message, held: &Held, ttl: u32) {
-    let next = record(rt, alloc, held.1, held.2, held.3.unwrap_or(ttl), held.4);
-    section_of(message, held.0).push(next).expect(rt, "memory");
+    };
+    section.push(next).expect(rt, "memory");
 }
 
 /// Puts questions and records into a message.
@@ -83,9 +80,6 @@ fn becomes(rt: &impl Abort, alloc: Global, message: Message, want: Outcome) -> b
     held
 }
 
-/// A question; a record by its section, name and type; what becomes of a response that has just these.
-struct One(&'static str, u16, Section, &'static str, u16, Outcome);
-
 const A: u16 = 1;
 
 const NS: u16 = 2;
@@ -95,6 +89,9 @@ const CNAME: u16 = 5;
 const SOA: u16 = 6;
 
 const ANY: u16 = 255;
+
+/// A question; a record by its section, name and type; what becomes of a response that has just these.
+struct One(&'static str, u16, Section, &'static str, u16, Outcome);
 
 #[rattlefmt::skip]
 const ROWS: &[One] = &[
@@ -140,70 +137,92 @@ impl Row for One {
     }
 }
 
-#[test]
-fn a_contained_answer_is_no_denial(rt: HostRuntime) {
-    check_numbered(&rt, rt.alloc(), rows());
+/// What a response was asked: for the address of `a.b.`, and for the SOA of `b.` or of `c.`, or nothing.
+#[derive(Clone, Copy)]
+enum Asking {
+    Host,
+    HostAndZone,
+    HostAndOther,
+    Nothing,
 }
 
-/// The questions of a response, its records, whether it was cut off, and its code; what becomes of it.
-struct Case(&'static [Asked], &'static [Held], bool, u16, Outcome);
+fn questions(asking: Asking) -> &'static [Asked] {
+    match asking {
+        Asking::Host => &[("a.b.", A)],
+        Asking::HostAndZone => &[("a.b.", A), ("b.", SOA)],
+        Asking::HostAndOther => &[("a.b.", A), ("c.", SOA)],
+        Asking::Nothing => &[],
+    }
+}
 
-const QUESTION: &[Asked] = &[("a.b.", A)];
+/// The records of a response: none, an SOA that denies, or that and an answer.
+#[derive(Clone, Copy)]
+enum Holding {
+    Nothing,
+    Denial,
+    AnsweredDenial,
+}
 
-/// An SOA that denies.
-const DENIAL: &[Held] = &[Held(Section::Authority, "b.", SOA, None, b"")];
+fn records(holding: Holding) -> &'static [Held] {
+    match holding {
+        Holding::Nothing => &[],
+        Holding::Denial => &[Held(Section::Authority, "b.", SOA, None, b"")],
+        Holding::AnsweredDenial => &[
+            Held(Section::Authority, "b.", SOA, None, b""),
+            Held(Section::Answer, "a.b.", A, None, b""),
+        ],
+    }
+}
 
-const ANSWERED_DENIAL: &[Held] = &[
-    Held(Section::Authority, "b.", SOA, None, b""),
-    Held(Section::Answer, "a.b.", A, None, b""),
-];
+/// What a response was asked, its records, whether it was cut off, and its code; what becomes of it.
+struct Case(Asking, Holding, bool, u16, Outcome);
 
 #[rattlefmt::skip]
 const CASES: &[Case] = &[
     // the codes by which a server says that it failed (RFC 6895, 2.3): FORMERR, SERVFAIL, NOTIMP to NOTZONE, BADVERS to BADCOOKIE
-    Case(QUESTION, &[], false, 1, Outcome::Failure(1)),
-    Case(QUESTION, &[], false, 2, Outcome::Failure(2)),
-    Case(QUESTION, &[], false, 4, Outcome::Failure(4)),
-    Case(QUESTION, &[], false, 5, Outcome::Failure(5)),
-    Case(QUESTION, &[], false, 6, Outcome::Failure(6)),
-    Case(QUESTION, &[], false, 7, Outcome::Failure(7)),
-    Case(QUESTION, &[], false, 8, Outcome::Failure(8)),
-    Case(QUESTION, &[], false, 9, Outcome::Failure(9)),
-    Case(QUESTION, &[], false, 10, Outcome::Failure(10)),
-    Case(QUESTION, &[], false, 16, Outcome::Failure(16)),
-    Case(QUESTION, &[], false, 17, Outcome::Failure(17)),
-    Case(QUESTION, &[], false, 18, Outcome::Failure(18)),
-    Case(QUESTION, &[], false, 19, Outcome::Failure(19)),
-    Case(QUESTION, &[], false, 20, Outcome::Failure(20)),
-    Case(QUESTION, &[], false, 21, Outcome::Failure(21)),
-    Case(QUESTION, &[], false, 22, Outcome::Failure(22)),
-    Case(QUESTION, &[], false, 23, Outcome::Failure(23)),
+    Case(Asking::Host, Holding::Nothing, false, 1, Outcome::Failure(1)),
+    Case(Asking::Host, Holding::Nothing, false, 2, Outcome::Failure(2)),
+    Case(Asking::Host, Holding::Nothing, false, 4, Outcome::Failure(4)),
+    Case(Asking::Host, Holding::Nothing, false, 5, Outcome::Failure(5)),
+    Case(Asking::Host, Holding::Nothing, false, 6, Outcome::Failure(6)),
+    Case(Asking::Host, Holding::Nothing, false, 7, Outcome::Failure(7)),
+    Case(Asking::Host, Holding::Nothing, false, 8, Outcome::Failure(8)),
+    Case(Asking::Host, Holding::Nothing, false, 9, Outcome::Failure(9)),
+    Case(Asking::Host, Holding::Nothing, false, 10, Outcome::Failure(10)),
+    Case(Asking::Host, Holding::Nothing, false, 16, Outcome::Failure(16)),
+    Case(Asking::Host, Holding::Nothing, false, 17, Outcome::Failure(17)),
+    Case(Asking::Host, Holding::Nothing, false, 18, Outcome::Failure(18)),
+    Case(Asking::Host, Holding::Nothing, false, 19, Outcome::Failure(19)),
+    Case(Asking::Host, Holding::Nothing, false, 20, Outcome::Failure(20)),
+    Case(Asking::Host, Holding::Nothing, false, 21, Outcome::Failure(21)),
+    Case(Asking::Host, Holding::Nothing, false, 22, Outcome::Failure(22)),
+    Case(Asking::Host, Holding::Nothing, false, 23, Outcome::Failure(23)),
     // NOERROR and NXDOMAIN
-    Case(QUESTION, &[], false, 0, Outcome::Missing),
-    Case(QUESTION, &[], false, 3, Outcome::Missing),
+    Case(Asking::Host, Holding::Nothing, false, 0, Outcome::Missing),
+    Case(Asking::Host, Holding::Nothing, false, 3, Outcome::Missing),
     // codes that aren't assigned to any answer of a server
-    Case(QUESTION, &[], false, 11, Outcome::Response),
-    Case(QUESTION, &[], false, 12, Outcome::Response),
-    Case(QUESTION, &[], false, 13, Outcome::Response),
-    Case(QUESTION, &[], false, 14, Outcome::Response),
-    Case(QUESTION, &[], false, 15, Outcome::Response),
-    Case(QUESTION, &[], false, 24, Outcome::Response),
-    Case(QUESTION, &[], false, 256, Outcome::Response),
-    Case(QUESTION, &[], false, 4095, Outcome::Response),
+    Case(Asking::Host, Holding::Nothing, false, 11, Outcome::Response),
+    Case(Asking::Host, Holding::Nothing, false, 12, Outcome::Response),
+    Case(Asking::Host, Holding::Nothing, false, 13, Outcome::Response),
+    Case(Asking::Host, Holding::Nothing, false, 14, Outcome::Response),
+    Case(Asking::Host, Holding::Nothing, false, 15, Outcome::Response),
+    Case(Asking::Host, Holding::Nothing, false, 24, Outcome::Response),
+    Case(Asking::Host, Holding::Nothing, false, 256, Outcome::Response),
+    Case(Asking::Host, Holding::Nothing, false, 4095, Outcome::Response),
     // with an SOA
-    Case(QUESTION, DENIAL, false, 0, Outcome::Missing),
-    Case(QUESTION, DENIAL, false, 3, Outcome::Missing),
-    Case(QUESTION, DENIAL, true, 0, Outcome::Response),
-    Case(QUESTION, DENIAL, true, 3, Outcome::Response),
+    Case(Asking::Host, Holding::Denial, false, 0, Outcome::Missing),
+    Case(Asking::Host, Holding::Denial, false, 3, Outcome::Missing),
+    Case(Asking::Host, Holding::Denial, true, 0, Outcome::Response),
+    Case(Asking::Host, Holding::Denial, true, 3, Outcome::Response),
     // a failure stays one
-    Case(QUESTION, DENIAL, true, 2, Outcome::Failure(2)),
+    Case(Asking::Host, Holding::Denial, true, 2, Outcome::Failure(2)),
     // a second question that the authority section answers, and one without an answer
-    Case(&[("a.b.", A), ("b.", SOA)], DENIAL, false, 3, Outcome::Response),
-    Case(&[("a.b.", A), ("c.", SOA)], DENIAL, false, 3, Outcome::Missing),
-    Case(&[], DENIAL, false, 0, Outcome::Missing),
-    Case(&[], DENIAL, false, 2, Outcome::Failure(2)),
+    Case(Asking::HostAndZone, Holding::Denial, false, 3, Outcome::Response),
+    Case(Asking::HostAndOther, Holding::Denial, false, 3, Outcome::Missing),
+    Case(Asking::Nothing, Holding::Denial, false, 0, Outcome::Missing),
+    Case(Asking::Nothing, Holding::Denial, false, 2, Outcome::Failure(2)),
     // no question has an answer then
-    Case(&[], ANSWERED_DENIAL, false, 0, Outcome::Missing),
+    Case(Asking::Nothing, Holding::AnsweredDenial, false, 0, Outcome::Missing),
 ];
 
 fn cases() -> &'static [Case] {
@@ -215,12 +234,20 @@ impl Row for Case {
         let mut message = Message::query(alloc);
         message.truncated = self.2;
         message.response_code = ResponseCode(self.3);
-        fill(rt, alloc, &mut message, self.0, self.1, 60);
+        fill(
+            rt,
+            alloc,
+            &mut message,
+            questions(self.0),
+            records(self.1),
+            60,
+        );
         becomes(rt, alloc, message, self.4)
     }
 }
 
 #[test]
 fn a_denial_is_whole_and_answers_no_question(rt: HostRuntime) {
-    check_numbered(&rt, rt.alloc(), cases());
+    check_numbered(&rt, rt.alloc(), "answers", rows());
+    check_numbered(&rt, rt.alloc(), "denials", cases());
 }

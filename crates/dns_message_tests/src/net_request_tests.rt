@@ -76,29 +76,19 @@ fn two_questions(rt: &impl Abort, alloc: Global, name: &str) -> DnsRequest {
     request
 }
 
-/// The questions are for this name, in this case, and for `b. NS`.
-fn ask(queries: &[Query], name: &[u8]) -> bool {
-    match queries {
-        [one, other] => {
-            is_named(&one.name, name)
+/// The request asks for this name, in this case, and for `b. NS`, and says in which case it asked before.
+fn is_changed(request: &DnsRequest, changed: &[u8], original: &[u8]) -> bool {
+    match (request.message.queries.as_slice(), &request.original) {
+        ([one, other], Some(before)) => {
+            is_named(&one.name, changed)
                 && one.query_type.0 == 48
                 && is_named(&other.name, b"\x01b\0")
                 && other.query_type.0 == 2
+                && is_named(&before.name, original)
+                && before.query_type.0 == 48
         }
         _ => false,
     }
-}
-
-fn is_original(original: &Option<Query>, name: &[u8]) -> bool {
-    match original {
-        Some(query) => is_named(&query.name, name) && query.query_type.0 == 48,
-        None => false,
-    }
-}
-
-/// The request asks so, and says what was asked before.
-fn is_changed(request: &DnsRequest, changed: &[u8], original: &[u8]) -> bool {
-    ask(&request.message.queries, changed) && is_original(&request.original, original)
 }
 
 /// The request and its copy ask so, and say what was asked before.
@@ -142,7 +132,7 @@ fn stays_without_a_question(rt: &impl Abort, alloc: Global) -> bool {
 #[test]
 fn letters_change_where_their_bit_is_set(rt: HostRuntime) {
     let alloc = rt.alloc();
-    check_numbered(&rt, alloc, cased_rows());
+    check_numbered(&rt, alloc, "cased", cased_rows());
     check_row(
         &rt,
         "without a question",
@@ -177,19 +167,16 @@ fn written_rows() -> &'static [Written] {
     WRITTEN
 }
 
-fn options_of(row: &Written) -> DnsRequestOptions {
-    DnsRequestOptions {
-        use_edns: row.0,
-        edns_payload_len: row.1,
-        edns_set_dnssec_ok: row.2,
-        recursion_desired: row.3,
-        ..BY_DEFAULT
-    }
-}
-
 impl Row for Written {
     fn holds(&self, rt: &impl Abort, alloc: Global) -> bool {
-        let request = request(rt, alloc, query(rt, alloc, ".", 2), options_of(self));
+        let options = DnsRequestOptions {
+            use_edns: self.0,
+            edns_payload_len: self.1,
+            edns_set_dnssec_ok: self.2,
+            recursion_desired: self.3,
+            ..BY_DEFAULT
+        };
+        let request = request(rt, alloc, query(rt, alloc, ".", 2), options);
         let held = request.original.is_none() && is_written_as(&request.message, self.4, None);
         drop(request);
         held
@@ -198,6 +185,6 @@ impl Row for Written {
 
 #[test]
 fn requests_are_written(rt: HostRuntime) {
-    check_numbered(&rt, rt.alloc(), written_rows());
+    check_numbered(&rt, rt.alloc(), "written", written_rows());
     assert!(rt; DnsRequestOptions::default() == BY_DEFAULT);
 }

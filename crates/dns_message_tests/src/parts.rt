@@ -47,12 +47,7 @@ pub(crate) fn response(alloc: Global, message: Message) -> DnsResponse {
     }
 }
 
-/// An rdata of these bytes, which are fewer than 65,536.
-pub(crate) fn rdata(rt: &impl Abort, alloc: Global, bytes: &[u8]) -> Rdata {
-    let few = if bytes.len() < 65_536 { bytes } else { b"" };
-    Rdata::from_slice(alloc, few).expect(rt, "memory")
-}
-
+/// A record whose rdata are these bytes, which are fewer than 65,536.
 pub(crate) fn record(
     rt: &impl Abort,
     alloc: Global,
@@ -61,12 +56,13 @@ pub(crate) fn record(
     ttl: u32,
     bytes: &[u8],
 ) -> Record {
+    let few = if bytes.len() < 65_536 { bytes } else { b"" };
     Record {
         name: name(rt, alloc, text),
         record_type: RecordType(record_type),
         dns_class: DNSClass::IN,
         ttl,
-        rdata: rdata(rt, alloc, bytes),
+        rdata: Rdata::from_slice(alloc, few).expect(rt, "memory"),
         proof: Proof::Indeterminate,
     }
 }

@@ -24,5 +24,5 @@ impl Row for Kind {
 
 #[test]
 fn protocols_have_a_name_and_a_kind(rt: HostRuntime) {
-    check_numbered(&rt, rt.alloc(), KINDS);
+    check_numbered(&rt, rt.alloc(), "kinds", KINDS);
 }

@@ -13,18 +13,11 @@ pub(crate) fn check_row(rt: &impl Abort, row: &str, held: bool) {
     assert!(rt; held, "{row}");
 }
 
-/// Each row of a table holds.
-pub(crate) fn check_rows<R: Row>(rt: &impl Abort, alloc: Global, rows: &[(&str, R)]) {
-    for row in rows {
-        check_row(rt, row.0, row.1.holds(rt, alloc));
-    }
-}
-
-/// Each row of a table without names holds; the message says which row doesn't.
-pub(crate) fn check_numbered<R: Row>(rt: &impl Abort, alloc: Global, rows: &[R]) {
+/// Each row of a table holds; the message says which row of which table doesn't. The first one is row 0.
+pub(crate) fn check_numbered<R: Row>(rt: &impl Abort, alloc: Global, table: &str, rows: &[R]) {
     let mut number = 0usize;
     for row in rows {
-        assert!(rt; row.holds(rt, alloc), "row {number}");
+        assert!(rt; row.holds(rt, alloc), "{table}: row {number}");
         number = number.wrapping_add(1);
     }
 }
