@@ -35,13 +35,6 @@ fn is_read(rt: &impl Abort, alloc: Global, pieces: Vec<Octets>, frame: &[u8]) ->
     first == Heard::Message && is_whole && second == Heard::Closed
 }
 
-/// Whether a frame that is cut at a place gives its message.
-fn is_read_when_cut(rt: &impl Abort, alloc: Global, frame: &[u8], at: usize) -> bool {
-    let (front, back) = frame.split_at(at.min(frame.len()));
-    let pieces = pieces_of(rt, alloc, &[front, back]);
-    is_read(rt, alloc, pieces, frame)
-}
-
 /// Whether a frame gives its message, at whichever of so many places it is cut, each so far behind the last.
 fn is_read_at_each(
     rt: &impl Abort,
@@ -52,7 +45,8 @@ fn is_read_at_each(
 ) -> bool {
     let mut at: usize = 0;
     for _ in 0..places {
-        if !is_read_when_cut(rt, alloc, frame, at) {
+        let (front, back) = frame.split_at(at.min(frame.len()));
+        if !is_read(rt, alloc, pieces_of(rt, alloc, &[front, back]), frame) {
             return false;
         }
         at = at.saturating_add(apart);
@@ -108,12 +102,9 @@ fn unframed(rt: &impl Abort, alloc: Global, bytes: &[u8]) -> Result<usize, Heard
 #[test]
 fn ten_thousand_frames_are_unframed(rt: HostRuntime) {
     let bytes = frames(&rt, rt.alloc(), 10_000);
-    check(
-        &rt,
-        "each frame is one message",
-        unframed(&rt, rt.alloc(), &bytes) == Ok(10_000),
-    );
+    let count = unframed(&rt, rt.alloc(), &bytes);
     drop(bytes);
+    check(&rt, "each frame is one message", count == Ok(10_000));
 }
 
 #[test]

@@ -30,6 +30,7 @@ fn served<L: Link + Drop>(
     stream: &mut TcpStream<L>,
     read: &mut Vec<u8>,
 ) -> (u32, Heard) {
+    let peer = stream.peer_addr();
     let mut count: u32 = 0;
     for _ in 0..2000u32 {
         read.clear();
@@ -37,7 +38,7 @@ fn served<L: Link + Drop>(
         if heard != Heard::Message {
             return (count, heard);
         }
-        put(rt, alloc, stream, &response_to(read));
+        put(rt, alloc, stream, peer, &response_to(read));
         if write_all(stream) == Heard::Written {
             count = count.saturating_add(1);
         }

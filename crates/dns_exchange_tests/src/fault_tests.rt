@@ -59,15 +59,13 @@ fn exchange(rt: &impl Abort, stream: &mut TcpStream<SlowLink>, read: &mut Vec<u8
     heard
 }
 
+/// A message of twelve bytes.
+const TWELVE: &[u8] = &[1, 2, 3, 4, 5, 6, 7, 8, 9, 10, 11, 12];
+
 /// Whether a fault of a kind at the call with this number is answered, once, and then that there is no connection.
 fn is_told(rt: &impl Abort, alloc: Global, at: u64, kind: IoKind) -> bool {
     let mut stream = stream_over(alloc, failing(rt, alloc, at, kind));
-    put(
-        rt,
-        alloc,
-        &mut stream,
-        &[1, 2, 3, 4, 5, 6, 7, 8, 9, 10, 11, 12],
-    );
+    put(rt, alloc, &mut stream, server(), TWELVE);
     let mut read = Vec::new(alloc);
     let told = exchange(rt, &mut stream, &mut read);
     let after = drain(&mut stream);

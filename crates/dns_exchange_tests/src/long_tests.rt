@@ -57,7 +57,7 @@ fn the_longest_message_is_carried(rt: HostRuntime) {
     let mut stream = stream_by(&rt, alloc, &mut dial);
     drop(dial);
     let mut read = Vec::new(alloc);
-    put(&rt, alloc, &mut stream, behind(&frame));
+    put(&rt, alloc, &mut stream, server(), behind(&frame));
     check(
         &rt,
         "the message is written and read",
@@ -86,33 +86,6 @@ fn client_by(
     made.ok().expect(rt, "a stream")
 }
 
-/// Puts a message of these bytes into the queue of a client's stream, and tells whether it took it.
-fn put_for_client(
-    rt: &impl Abort,
-    alloc: Global,
-    stream: &mut TcpClientStream<PairLink>,
-    handle: &mut BufDnsStreamHandle,
-    bytes: &[u8],
-) -> bool {
-    check(rt, "a queue with room", stream.has_room(handle));
-    let put = stream.enqueue(handle, message_of(rt, alloc, bytes));
-    let held = heard_made(&put) == Heard::Made;
-    drop(put);
-    held
-}
-
-/// Reads once for a client.
-fn feed_for_client(
-    rt: &impl Abort,
-    stream: &mut TcpClientStream<PairLink>,
-    read: &mut Vec<u8>,
-) -> Heard {
-    let reply = stream.feed();
-    let heard = heard_feed(rt, &reply, read);
-    drop(reply);
-    heard
-}
-
 /// Reads until something else than a part of a message comes for a client.
 fn next_for_client(
     rt: &impl Abort,
@@ -120,20 +93,14 @@ fn next_for_client(
     read: &mut Vec<u8>,
 ) -> Heard {
     for _ in 0..200_000u32 {
-        let heard = feed_for_client(rt, stream, read);
+        let reply = stream.feed();
+        let heard = heard_feed(rt, &reply, read);
+        drop(reply);
         if heard != Heard::More {
             return heard;
         }
     }
     Heard::More
-}
-
-/// Writes once for a client.
-fn drain_for_client(stream: &mut TcpClientStream<PairLink>) -> Heard {
-    let reply = stream.drain();
-    let heard = heard_drain(&reply);
-    drop(reply);
-    heard
 }
 
 /// Whether a client's stream takes the message of a frame, writes it, and reads one.
@@ -145,9 +112,14 @@ fn carries_for_client(
     frame: &[u8],
     read: &mut Vec<u8>,
 ) -> bool {
-    put_for_client(rt, alloc, stream, handle, behind(frame))
-        && drain_for_client(stream) == Heard::Written
-        && next_for_client(rt, stream, read) == Heard::Message
+    check(rt, "a queue with room", stream.has_room(handle));
+    let put = stream.enqueue(handle, message_of(rt, alloc, behind(frame)));
+    let is_taken = heard_made(&put) == Heard::Made;
+    drop(put);
+    let drained = stream.drain();
+    let is_written = heard_drain(&drained) == Heard::Written;
+    drop(drained);
+    is_taken && is_written && next_for_client(rt, stream, read) == Heard::Message
 }
 
 /// The longest message is written and read by a client's stream.

@@ -80,8 +80,8 @@ pub(crate) fn put_by<L: Link + Drop>(
     held
 }
 
-/// Puts it there by a handle of the usual size to an address.
-pub(crate) fn put_to<L: Link + Drop>(
+/// Puts it there by a handle of the usual size to an address, and it is taken.
+pub(crate) fn put<L: Link + Drop>(
     rt: &impl Abort,
     alloc: Global,
     stream: &mut TcpStream<L>,
@@ -94,17 +94,6 @@ pub(crate) fn put_to<L: Link + Drop>(
         "a message is taken",
         put_by(rt, alloc, stream, &mut handle, bytes),
     );
-}
-
-/// The same to the other side.
-pub(crate) fn put<L: Link + Drop>(
-    rt: &impl Abort,
-    alloc: Global,
-    stream: &mut TcpStream<L>,
-    bytes: &[u8],
-) {
-    let addr = stream.peer_addr();
-    put_to(rt, alloc, stream, addr, bytes);
 }
 
 /// What stands behind the length in a frame.

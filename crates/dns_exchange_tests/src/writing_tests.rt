@@ -1,8 +1,8 @@
 use crate::heard::Heard;
-use crate::parts::check;
+use crate::parts::{check, server};
 use crate::slow_link::SlowLink;
 use crate::stream_heard::{drain, feed, write_all};
-use crate::stream_parts::{link_of, put, put_by, put_to, stream_over};
+use crate::stream_parts::{link_of, put, put_by, stream_over};
 use dns_handle::IoKind;
 use dns_link::PairLink;
 use dns_multiplexer::BufDnsStreamHandle;
@@ -28,7 +28,7 @@ fn ends(rt: &impl Abort, alloc: Global, row: &(usize, u8, IoKind)) -> bool {
     let mut bytes = Vec::new(alloc);
     bytes.resize(row.0.min(70_000), 7u8).expect(rt, "memory");
     let mut stream = stream_over(alloc, link_of(rt, alloc, &[]));
-    put_to(rt, alloc, &mut stream, address(row.1), &bytes);
+    put(rt, alloc, &mut stream, address(row.1), &bytes);
     bytes.clear();
     let first = drain(&mut stream);
     let second = feed(rt, &mut stream, &mut bytes);
@@ -56,14 +56,14 @@ fn frames_are_written_to_a_link_that_takes_a_byte_at_a_time(rt: HostRuntime) {
     let alloc = rt.alloc();
     let slow = SlowLink::new(link_of(&rt, alloc, &[]), u64::MAX, IoKind::Other);
     let mut stream = stream_over(alloc, slow);
-    put(&rt, alloc, &mut stream, &[7]);
-    put(&rt, alloc, &mut stream, &[8, 9]);
+    put(&rt, alloc, &mut stream, server(), &[7]);
+    put(&rt, alloc, &mut stream, server(), &[8, 9]);
     check(
         &rt,
         "two messages are written",
         write_all(&mut stream) == Heard::Written,
     );
-    put(&rt, alloc, &mut stream, &[1, 2, 3]);
+    put(&rt, alloc, &mut stream, server(), &[1, 2, 3]);
     check(
         &rt,
         "the third message is written",
@@ -85,8 +85,8 @@ const FILLING: &[u8] = &[7; 98];
 fn a_link_that_takes_nothing_is_a_fault(rt: HostRuntime) {
     let alloc = rt.alloc();
     let mut stream = stream_over(alloc, link_of(&rt, alloc, &[]));
-    put(&rt, alloc, &mut stream, FILLING);
-    put(&rt, alloc, &mut stream, &[8]);
+    put(&rt, alloc, &mut stream, server(), FILLING);
+    put(&rt, alloc, &mut stream, server(), &[8]);
     check(
         &rt,
         "the link is filled",
