@@ -3,37 +3,11 @@ use crate::replying::Replying;
 use crate::root::{BOGUS, REPORT, SESSION};
 use crate::rows::check_row;
 use crate::runs::{bytes_of, sure_ends, words_of};
-use dns_handle::IoKind;
-use dns_link::ListDialer;
 use std::alloc::Global;
 use std::process::Abort;
 
-/// A dialer of one link, which is refused.
-fn refusing(rt: &impl Abort, alloc: Global) -> ListDialer {
-    let mut links = Vec::new(alloc);
-    let pushed = links.push(Err(IoKind::ConnectionRefused));
-    pushed.expect(rt, "memory");
-    ListDialer::new(links, Vec::new(alloc))
-}
-
-/// Over a server that refuses a connection the program ends for that.
-fn is_refused(rt: &impl Abort, alloc: Global) -> bool {
-    let words = words_of(rt, alloc, &["ask", "tcp", "127.0.0.1:53"]);
-    let session = bytes_of(rt, alloc, SESSION);
-    let dial = refusing(rt, alloc);
-    let text = b"fault io ConnectionRefused\n";
-    let held = sure_ends(alloc, &words, session, dial, 1, text);
-    drop(words);
-    held
-}
-
-#[test]
-fn a_connection_that_is_refused_is_a_fault(rt: HostRuntime) {
-    check_row(&rt, "refused", is_refused(&rt, rt.alloc()));
-}
-
 /// What is shown, the protocol, the session, the numbers of the calls of a link, the first and the last, of which one fails, and how the
-/// run then ends.
+/// run then ends. Where the number is 0, there is no link.
 struct FailRow {
     name: &'static str,
     protocol: &'static str,
@@ -45,6 +19,15 @@ struct FailRow {
 }
 
 const FAILS: &[FailRow] = &[
+    FailRow {
+        name: "a connection that is refused",
+        protocol: "tcp",
+        session: SESSION,
+        first: 0,
+        last: 0,
+        status: 1,
+        text: b"fault io ConnectionRefused\n",
+    },
     FailRow {
         name: "the first request, or its reply",
         protocol: "tcp",

@@ -104,7 +104,7 @@ impl Datagrams for Quiet {
     }
 }
 
-/// A dialer whose links fail at the call with a number, from 1, and whose sockets are quiet.
+/// A dialer whose links fail at the call with a number, from 1, or are refused at 0; its sockets are quiet.
 #[derive(Drop)]
 pub(crate) struct Replying {
     alloc: Global,
@@ -139,13 +139,18 @@ impl Dialer for Replying {
         _bind: Option<SocketAddr>,
         _timeout_ms: u64,
     ) -> Result<ReplyLink, IoKind> {
-        Ok(ReplyLink {
-            reply: Vec::new(self.alloc),
-            read: 0,
-            calls: 0,
-            fails: self.fails,
-            counts: Counts::new(),
-        })
+        let result = match self.fails {
+            0 => Err(IoKind::ConnectionRefused),
+            fails => Ok(ReplyLink {
+                reply: Vec::new(self.alloc),
+                read: 0,
+                calls: 0,
+                fails,
+                counts: Counts::new(),
+            }),
+        };
+        self.counts.count_dial(&result);
+        result
     }
 
     fn bind(&mut self, _local: SocketAddr) -> Result<Quiet, IoKind> {

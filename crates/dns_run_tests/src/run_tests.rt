@@ -1,9 +1,9 @@
 //! `run` over sources and sinks in memory, for a row.
+use crate::replying::Replying;
 use crate::rows::check_row;
 use crate::runs::{bytes_of, status_over, sure_ends, words_of};
 use crate::worked_rows::{Row, rows};
-use dns_io::{Sink, SinkFault, Source, SureSource, TextSink, TextSource};
-use dns_link::ListDialer;
+use dns_io::{Sink, SinkFault, SureSource, TextSink, TextSource};
 use std::alloc::Global;
 use std::process::Abort;
 
@@ -37,18 +37,7 @@ impl Sink for Slow {
     }
 }
 
-// The status of a run that has no server to ask.
-fn status_of<S: Source, W: Sink>(
-    alloc: Global,
-    words: &[Vec<u8>],
-    source: &mut S,
-    sink: &mut W,
-) -> u8 {
-    let dial = ListDialer::new(Vec::new(alloc), Vec::new(alloc));
-    status_over(alloc, words, source, sink, dial)
-}
-
-// Over a source whose numbered reads fail, and a sink that may fail, the words end with this status and this text.
+// With no server to ask, over a source whose numbered reads fail, and a sink that may fail, the words end with this status and this text.
 fn failing_ends(
     rt: &impl Abort,
     alloc: Global,
@@ -61,7 +50,8 @@ fn failing_ends(
     let failing = failing.to_vec(alloc).expect(rt, "memory");
     let mut source = TextSource::new(bytes_of(rt, alloc, session), failing);
     let mut sink = TextSink::new(alloc, Vec::new(alloc));
-    let ended = status_of(alloc, words, &mut source, &mut sink);
+    let dial = Replying::new(alloc, 0);
+    let ended = status_over(alloc, words, &mut source, &mut sink, dial);
     let held = ended == status && *sink.taken() == *text;
     drop(sink);
     drop(source);
@@ -75,7 +65,8 @@ fn slow_ends(rt: &impl Abort, alloc: Global, words: &[Vec<u8>], row: &Row) -> bo
         taken: Vec::new(alloc),
         faults: 0,
     };
-    let ended = status_of(alloc, words, &mut source, &mut sink);
+    let dial = Replying::new(alloc, 0);
+    let ended = status_over(alloc, words, &mut source, &mut sink, dial);
     let held = ended == 5 && *sink.taken.as_slice() == *row.text.get(..1).unwrap_or_default();
     drop(sink);
     drop(source);
@@ -85,19 +76,9 @@ fn slow_ends(rt: &impl Abort, alloc: Global, words: &[Vec<u8>], row: &Row) -> bo
 // Both kinds of source and sink end as the row says, which asks no server.
 fn ends_so(rt: &impl Abort, alloc: Global, words: &[Vec<u8>], row: &Row) -> bool {
     let session = bytes_of(rt, alloc, row.session);
-    let dial = ListDialer::new(Vec::new(alloc), Vec::new(alloc));
+    let dial = Replying::new(alloc, 0);
     sure_ends(alloc, words, session, dial, row.status, row.text)
         && failing_ends(rt, alloc, words, row.session, &[], row.status, row.text)
-}
-
-#[test]
-fn rows_end_as_they_say(rt: HostRuntime) {
-    for row in rows() {
-        let words = words_of(&rt, rt.alloc(), row.words);
-        let held = ends_so(&rt, rt.alloc(), &words, row);
-        drop(words);
-        check_row(&rt, row.name, held);
-    }
 }
 
 // The words ask for a session to be read.
@@ -109,26 +90,23 @@ fn is_reading(words: &[&str]) -> bool {
     }
 }
 
-// Over a source whose first or second read fails a row ends for that; no bytes are read by one read.
-fn breaks_so(rt: &impl Abort, alloc: Global, words: &[Vec<u8>], session: &[u8]) -> bool {
-    failing_ends(rt, alloc, words, session, &[0], 4, b"")
-        && (session.is_empty() || failing_ends(rt, alloc, words, session, &[1], 4, b""))
-}
-
-// Over a source whose reads fail a row ends for that if its words ask for a reading, and else as it says.
+// Over a source whose first or second read fails a row ends for that if its words ask for a reading, and else as it says; no bytes are
+// read by one read.
 fn fails_so(rt: &impl Abort, alloc: Global, words: &[Vec<u8>], row: &Row) -> bool {
     if is_reading(row.words) {
-        breaks_so(rt, alloc, words, row.session)
+        failing_ends(rt, alloc, words, row.session, &[0], 4, b"")
+            && (row.session.is_empty() || failing_ends(rt, alloc, words, row.session, &[1], 4, b""))
     } else {
         failing_ends(rt, alloc, words, row.session, &[0], row.status, row.text)
     }
 }
 
 #[test]
-fn rows_end_where_the_outside_fails(rt: HostRuntime) {
+fn rows_end_as_they_say_and_where_the_outside_fails(rt: HostRuntime) {
     for row in rows() {
         let words = words_of(&rt, rt.alloc(), row.words);
-        let held = slow_ends(&rt, rt.alloc(), &words, row)
+        let held = ends_so(&rt, rt.alloc(), &words, row)
+            && slow_ends(&rt, rt.alloc(), &words, row)
             && fails_so(&rt, rt.alloc(), &words, row);
         drop(words);
         check_row(&rt, row.name, held);
