@@ -6,7 +6,7 @@ use std::net::{IpAddr, Ipv4Addr, Ipv6Addr, SocketAddr};
 use std::process::Abort;
 
 /// What a datagram comes to.
-#[derive(Clone, Copy, PartialEq, Eq)]
+#[derive(Clone, Copy, PartialEq)]
 enum Kind {
     Ignored,
     Undecodable(DecodeKind, u32),
@@ -28,16 +28,17 @@ enum Origin {
 fn address(from: Origin) -> SocketAddr {
     match from {
         Origin::Server => SocketAddr::new(IpAddr::V4(Ipv4Addr::new(127, 0, 0, 1)), 53),
-        Origin::Mapped => SocketAddr::new(mapped(0x7f00), 53),
+        Origin::Mapped => SocketAddr::new(
+            IpAddr::V6(Ipv6Addr::new(0, 0, 0, 0, 0, 0xffff, 0x7f00, 1)),
+            53,
+        ),
         Origin::OtherPort => SocketAddr::new(IpAddr::V4(Ipv4Addr::new(127, 0, 0, 1)), 54),
-        Origin::OtherAddress => SocketAddr::new(mapped(0x7f01), 53),
+        Origin::OtherAddress => SocketAddr::new(
+            IpAddr::V6(Ipv6Addr::new(0, 0, 0, 0, 0, 0xffff, 0x7f01, 1)),
+            53,
+        ),
         Origin::Version6 => SocketAddr::new(IpAddr::V6(Ipv6Addr::LOCALHOST), 53),
     }
-}
-
-/// An IPv4 address in the form of version 6, whose first two bytes these are.
-fn mapped(first: u16) -> IpAddr {
-    IpAddr::V6(Ipv6Addr::new(0, 0, 0, 0, 0, 0xffff, first, 1))
 }
 
 /// The kind of what became of a datagram.

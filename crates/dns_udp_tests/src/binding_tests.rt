@@ -124,17 +124,8 @@ fn rows() -> &'static [Row] {
     ROWS
 }
 
-/// A set of one port at most.
-fn avoided(rt: &impl Abort, alloc: Global, port: Option<u16>) -> BTreeSet<u16> {
-    let mut ports = BTreeSet::new(alloc);
-    if let Some(port) = port {
-        ports.insert(port).expect(rt, "memory");
-    }
-    ports
-}
-
 /// 2000 so often, and then 2001.
-fn drawn(rt: &impl Abort, alloc: Global, times: u32) -> Vec<u16>
+pub(crate) fn drawn(rt: &impl Abort, alloc: Global, times: u32) -> Vec<u16>
     ensures { All (λ port. 1024 ≤ port) result.items }
 {
     let mut ports = Vec::new(alloc);
@@ -148,7 +139,10 @@ fn drawn(rt: &impl Abort, alloc: Global, times: u32) -> Vec<u16>
 /// How a stream is made over a dialer.
 fn heard_over(rt: &impl Abort, alloc: Global, dial: &mut Watching, row: &Row) -> Heard {
     let mut draws = ListDraws::new(Vec::new(alloc), drawn(rt, alloc, row.drawn));
-    let avoid = avoided(rt, alloc, row.avoided);
+    let mut avoid = BTreeSet::new(alloc);
+    if let Some(port) = row.avoided {
+        avoid.insert(port).expect(rt, "memory");
+    }
     let bind = match row.chosen {
         Some(port) => Some(any(port)),
         None => None,
@@ -197,14 +191,8 @@ fn socket_bound(local: Option<SocketAddr>) -> Option<SocketAddr> {
 
 #[test]
 fn a_socket_is_bound_once(rt: HostRuntime) {
-    check(
-        &rt,
-        "a socket is bound at any address",
-        socket_bound(None) == Some(any(0)),
-    );
-    check(
-        &rt,
-        "a socket is bound where it is told to",
-        socket_bound(Some(any(7))) == Some(any(7)),
-    );
+    let anywhere = socket_bound(None) == Some(any(0));
+    check(&rt, "a socket is bound at any address", anywhere);
+    let as_told = socket_bound(Some(any(7))) == Some(any(7));
+    check(&rt, "a socket is bound where it is told to", as_told);
 }

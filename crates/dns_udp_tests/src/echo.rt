@@ -1,5 +1,4 @@
 ghost use Rattle.std.specs.Prelude.{◌≡◌, ◌≤◌, None, IfSome, length};
-ghost use Rattle.std.specs.Io.{WritesAtMost};
 
 use crate::parts::server;
 use dns_handle::IoKind;
@@ -41,17 +40,6 @@ impl Echo {
         self.came = self.came.saturating_add(2);
         Some((2, server()))
     }
-
-    /// Keeps what is sent.
-    fn keep(&mut self, bytes: &[u8]) -> Result<usize, IoKind>
-        ensures bound { WritesAtMost result bytes.now }
-        ensures counts { self.new.counts ≡ self.old.counts }
-    {
-        match self.sent.extend_from_slice(bytes) {
-            Ok(()) => Ok(bytes.len()),
-            Err(_) => Err(IoKind::Other),
-        }
-    }
 }
 
 impl Datagrams for Echo {
@@ -60,7 +48,10 @@ impl Datagrams for Echo {
     ghost given = { λ _. None };
 
     fn send_to(&mut self, bytes: &[u8], _to: SocketAddr) -> Result<usize, IoKind> {
-        let result = self.keep(bytes);
+        let result = match self.sent.extend_from_slice(bytes) {
+            Ok(()) => Ok(bytes.len()),
+            Err(_) => Err(IoKind::Other),
+        };
         self.counts.count_send(bytes.len(), &result);
         result
     }

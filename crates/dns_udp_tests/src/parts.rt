@@ -4,6 +4,7 @@ ghost use Rattle.std.specs.Prelude.{◌≡◌, true};
 use dns_handle::{DnsRequest, DnsRequestOptions};
 use dns_message::Message;
 use dns_multiplexer::ListDraws;
+use dns_record::Query;
 use std::alloc::Global;
 use std::net::{IpAddr, Ipv4Addr, SocketAddr};
 use std::process::Abort;
@@ -28,13 +29,18 @@ pub(crate) fn server() -> SocketAddr {
     SocketAddr::new(IpAddr::V4(Ipv4Addr::new(127, 0, 0, 1)), 53)
 }
 
-/// The request of these bytes, of which there are few.
-pub(crate) fn request_of(rt: &impl Abort, alloc: Global, bytes: &[u8]) -> DnsRequest {
+/// The request of these bytes, of which there are few, in place of an original question.
+pub(crate) fn request_of(
+    rt: &impl Abort,
+    alloc: Global,
+    bytes: &[u8],
+    original: Option<Query>,
+) -> DnsRequest {
     check(rt, "a short message", bytes.len() <= 512);
     DnsRequest {
         message: Message::from_vec(alloc, bytes).expect(rt, "a message"),
         options: DnsRequestOptions::default(),
-        original: None,
+        original,
     }
 }
 

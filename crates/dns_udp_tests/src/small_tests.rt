@@ -1,35 +1,40 @@
+use crate::binding_tests::drawn;
 use crate::parts::check;
 use dns_datagrams::{Retries, next_port};
 use dns_handle::IoKind;
 use dns_link::{Clock, Dialer, FixedClock, SocketDialer, SystemClock};
 use dns_multiplexer::ListDraws;
-use dns_name::NoMemory;
 use std::alloc::Global;
 use std::collections::BTreeSet;
 use std::net::{IpAddr, Ipv4Addr, SocketAddr};
+use std::process::Abort;
 
 /// The port that is drawn where 2000 is avoided and so many draws give it before 2001, and how many attempts there were.
-fn attempted(alloc: Global, avoided: usize) -> Result<(u16, u8), NoMemory> {
-    let mut ports = Vec::new(alloc);
-    for _ in 0..avoided {
-        ports.push(2000u16)?;
-    }
-    ports.push(2001u16)?;
-    let mut draws = ListDraws::new(Vec::new(alloc), ports);
+fn attempted(rt: &impl Abort, alloc: Global, avoided: u32) -> (u16, u8) {
     let mut avoid = BTreeSet::new(alloc);
-    let _ = avoid.insert(2000u16)?;
+    avoid.insert(2000u16).expect(rt, "memory");
+    let mut draws = ListDraws::new(Vec::new(alloc), drawn(rt, alloc, avoided));
     let mut attempted = 0;
     let port = next_port(&mut draws, &mut attempted, &avoid);
-    Ok((port, attempted))
+    drop(draws);
+    drop(avoid);
+    (port, attempted)
 }
+
+/// How many draws give a port that is avoided, the port that is drawn then, and the attempts.
+const AVOIDED: &[(&str, u32, (u16, u8))] = &[
+    ("none is avoided", 0, (2001, 0)),
+    ("one is avoided", 1, (2001, 1)),
+    ("nine are avoided", 9, (2001, 9)),
+    ("ten draws and none more", 10, (0, 10)),
+];
 
 #[test]
 fn an_avoided_port_is_passed(rt: HostRuntime) {
-    let alloc = rt.alloc();
-    let first = attempted(alloc, 0) == Ok((2001, 0)) && attempted(alloc, 1) == Ok((2001, 1));
-    check(&rt, "the first draw that isn't avoided", first);
-    let last = attempted(alloc, 9) == Ok((2001, 9)) && attempted(alloc, 10) == Ok((0, 10));
-    check(&rt, "ten draws and none more", last);
+    for row in AVOIDED {
+        let held = attempted(&rt, rt.alloc(), row.1) == row.2;
+        check(&rt, row.0, held);
+    }
 }
 
 #[test]

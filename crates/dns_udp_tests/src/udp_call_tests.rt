@@ -3,8 +3,7 @@ ghost use Rattle.std.specs.Prelude.{◌≡◌, false};
 use crate::heard::{Heard, heard_reply};
 use crate::parts::{ANSWER, ASKED, check, draws_of, request_of, server};
 use crate::watching::{Coming, Watching};
-use dns_handle::{DnsRequest, DnsRequestOptions, DnsResponse, NetError};
-use dns_message::Message;
+use dns_handle::{DnsRequest, DnsResponse, NetError};
 use dns_name::Name;
 use dns_record::{DNSClass, Query, RecordType};
 use dns_udp::{UdpClientStream, UdpClientStreamBuilder};
@@ -44,7 +43,6 @@ const OF_4097: &[u8] = b"\x00\x01\x81\x80\x00\x01\x00\x01\x00\x00\x00\x00\x01a\x
 \x00\xff\x00\x00\x01\x00\x00\x00\x00\x0f\xe3";
 
 /// A call: what it asks, what comes to its sockets, and what it comes to.
-#[derive(Clone, Copy)]
 struct Call {
     message: &'static str,
     asked: &'static [u8],
@@ -159,79 +157,108 @@ const CALLS: &[Call] = &[
         sockets: 1,
         ..PLAIN
     },
+    Call {
+        message: "512 bytes fit where no OPT says otherwise",
+        coming: &[Coming(OF_512, 512, 1)],
+        heard: Heard::Id(1),
+        sockets: 1,
+        ..PLAIN
+    },
+    Call {
+        message: "513 bytes don't",
+        coming: &[Coming(OF_513, 513, 1)],
+        heard: Heard::Undecodable,
+        sockets: 1,
+        ..PLAIN
+    },
+    Call {
+        message: "as many fit as an OPT names",
+        asked: LARGE,
+        coming: &[Coming(OF_1232, 1232, 1)],
+        heard: Heard::Id(1),
+        sockets: 1,
+        ..PLAIN
+    },
+    Call {
+        message: "one more doesn't",
+        asked: LARGE,
+        coming: &[Coming(OF_1233, 1233, 1)],
+        heard: Heard::Undecodable,
+        sockets: 1,
+        ..PLAIN
+    },
+    Call {
+        message: "4,096 bytes fit where an OPT names more",
+        asked: LARGEST,
+        coming: &[Coming(OF_4096, 4096, 1)],
+        heard: Heard::Id(1),
+        sockets: 1,
+        ..PLAIN
+    },
+    Call {
+        message: "4,097 bytes don't",
+        asked: LARGEST,
+        coming: &[Coming(OF_4097, 4097, 1)],
+        heard: Heard::Undecodable,
+        sockets: 1,
+        ..PLAIN
+    },
+    Call {
+        message: "there is no time to send again",
+        tries: Some((200, 5)),
+        timeout: 100,
+        sockets: 1,
+        ..PLAIN
+    },
+    Call {
+        message: "a request is sent again after each interval",
+        tries: Some((200, 5)),
+        timeout: 600,
+        ..PLAIN
+    },
+    Call {
+        message: "five times at most",
+        tries: Some((200, 5)),
+        timeout: 1600,
+        sockets: 5,
+        ..PLAIN
+    },
+    Call {
+        message: "once at least",
+        tries: Some((200, 0)),
+        timeout: 1600,
+        sockets: 1,
+        ..PLAIN
+    },
 ];
 
 fn calls() -> &'static [Call] {
     CALLS
 }
 
-/// What fits is read whole, and what doesn't is lost: the request, the response and its length, and what is heard.
-const ROOMS: &[(&[u8], &[Coming], Heard)] = &[
-    (ASKED, &[Coming(OF_512, 512, 1)], Heard::Id(1)),
-    (ASKED, &[Coming(OF_513, 513, 1)], Heard::Undecodable),
-    (LARGE, &[Coming(OF_1232, 1232, 1)], Heard::Id(1)),
-    (LARGE, &[Coming(OF_1233, 1233, 1)], Heard::Undecodable),
-    (LARGEST, &[Coming(OF_4096, 4096, 1)], Heard::Id(1)),
-    (LARGEST, &[Coming(OF_4097, 4097, 1)], Heard::Undecodable),
-];
-
-fn rooms() -> &'static [(&'static [u8], &'static [Coming], Heard)] {
-    ROOMS
-}
-
-/// A request is sent again: its least interval, most sends and timeout, and on how many sockets it is sent.
-const TRIES: &[(u64, u8, u64, u32)] = &[
-    (200, 5, 100, 1),
-    (200, 5, 600, 3),
-    (200, 5, 1600, 5),
-    (200, 0, 1600, 1),
-];
-
-/// The question for `a.`.
-fn question(rt: &impl Abort, alloc: Global) -> Query {
-    Query {
-        name: Name::from_ascii(alloc, "a.").expect(rt, "a name"),
-        query_type: RecordType::A,
-        query_class: DNSClass::IN,
-    }
-}
-
-/// A request that asks for `A.` in place of `a.`, with letters that count or not.
-fn upper(rt: &impl Abort, alloc: Global, case: bool) -> DnsRequest {
-    let message = Message::from_vec(alloc, UPPER).expect(rt, "a message");
-    let original = question(rt, alloc);
-    let mut options = DnsRequestOptions::default();
-    options.case_randomization = case;
-    DnsRequest {
-        message,
-        options,
-        original: Some(original),
-    }
-}
-
+/// The request of a call. Where letters count or don't, it asks in place of a question for `a.`.
 fn request_for(rt: &impl Abort, alloc: Global, call: &Call) -> DnsRequest {
-    match call.case {
-        Some(case) => upper(rt, alloc, case),
-        None => request_of(rt, alloc, call.asked),
-    }
+    let original = match call.case {
+        Some(_) => Some(Query {
+            name: Name::from_ascii(alloc, "a.").expect(rt, "a name"),
+            query_type: RecordType::A,
+            query_class: DNSClass::IN,
+        }),
+        None => None,
+    };
+    let mut request = request_of(rt, alloc, call.asked, original);
+    request.options.case_randomization = call.case == Some(true);
+    request
 }
 
-/// Whether the response asks for the original question, letter for letter.
-fn is_original(request: &DnsRequest, reply: &Result<DnsResponse, NetError>) -> bool {
+/// What a reply is heard as; a response may ask for the original question, letter for letter.
+fn heard_for(request: &DnsRequest, reply: &Result<DnsResponse, NetError>) -> Heard {
     match (reply, &request.original) {
         (Ok(response), Some(original)) => match response.message.queries.first() {
-            Some(query) => query.name.eq_case(&original.name),
-            None => false,
+            Some(query) if query.name.eq_case(&original.name) => Heard::Original,
+            _ => Heard::Id(response.message.id),
         },
-        _ => false,
-    }
-}
-
-fn heard_for(request: &DnsRequest, reply: &Result<DnsResponse, NetError>) -> Heard {
-    if is_original(request, reply) {
-        Heard::Original
-    } else {
-        heard_reply(reply)
+        _ => heard_reply(reply),
     }
 }
 
@@ -279,36 +306,5 @@ fn holds(rt: &impl Abort, alloc: Global, call: &Call) -> bool {
 fn calls_come_to_what_the_cases_say(rt: HostRuntime) {
     for call in calls() {
         check(&rt, call.message, holds(&rt, rt.alloc(), call));
-    }
-}
-
-#[test]
-fn what_does_not_fit_is_lost(rt: HostRuntime) {
-    for row in rooms() {
-        let call = Call {
-            asked: row.0,
-            coming: row.1,
-            heard: row.2,
-            sockets: 1,
-            ..PLAIN
-        };
-        check(&rt, "what fits is read", holds(&rt, rt.alloc(), &call));
-    }
-}
-
-#[test]
-fn a_request_is_sent_again(rt: HostRuntime) {
-    for row in TRIES {
-        let call = Call {
-            tries: Some((row.0, row.1)),
-            timeout: row.2,
-            sockets: row.3,
-            ..PLAIN
-        };
-        check(
-            &rt,
-            "a request is sent again",
-            holds(&rt, rt.alloc(), &call),
-        );
     }
 }

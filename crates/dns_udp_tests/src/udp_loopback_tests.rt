@@ -21,19 +21,12 @@ fn bound<R: Net + Abort>(rt: &R) -> UdpSocket {
 }
 
 /// What a server does before it answers.
-#[derive(Clone, Copy, PartialEq, Eq)]
+#[derive(Clone, Copy, PartialEq)]
 enum Before {
     /// It leaves the first request unanswered.
     LetsOneGo,
     /// The same answer comes from another port.
     AnswersElsewhere,
-}
-
-/// The request as a response.
-fn reply(bytes: &mut [u8]) {
-    if bytes.len() > 2 {
-        bytes[2] = 0x81;
-    }
 }
 
 /// The next request: its length, and where it came from.
@@ -55,7 +48,8 @@ fn serve(rt: &impl Abort, socket: &UdpSocket, other: &UdpSocket, before: Before)
         let _ = request_to(rt, socket, &mut buf);
     }
     let (len, from) = request_to(rt, socket, &mut buf);
-    reply(&mut buf);
+    // the request as a response
+    buf[2] = 0x81;
     let bytes = &buf[..len];
     if before == Before::AnswersElsewhere {
         answer(rt, other, bytes, from);
@@ -77,7 +71,7 @@ fn is_answer(reply: &Result<DnsResponse, NetError>) -> bool {
 /// Whether a server's answer to a request comes.
 fn is_answered<R: Net + Alloc<A = Global> + Abort>(rt: &R, server: SocketAddr) -> bool {
     let alloc = rt.alloc();
-    let request = request_of(rt, alloc, ASKED);
+    let request = request_of(rt, alloc, ASKED, None);
     let mut dial = SocketDialer::new(rt);
     let mut draws = RandDraws::from_seed(5);
     let mut stream = UdpClientStream::builder(alloc, server)
@@ -105,19 +99,13 @@ fn is_served<R: Net + Alloc<A = Global> + Threads + Abort + Sync>(rt: &R, before
 }
 
 #[test]
-fn a_late_server_is_heard(rt: HostRuntime) {
-    check(
-        &rt,
-        "a late server is heard",
-        is_served(&rt, Before::LetsOneGo),
-    );
-}
-
-#[test]
-fn an_answer_from_another_port_is_passed_over(rt: HostRuntime) {
+fn a_server_is_heard_late_and_by_its_own_port(rt: HostRuntime) {
+    let late = is_served(&rt, Before::LetsOneGo);
+    check(&rt, "a late server is heard", late);
+    let by_its_port = is_served(&rt, Before::AnswersElsewhere);
     check(
         &rt,
         "an answer from another port is passed over",
-        is_served(&rt, Before::AnswersElsewhere),
+        by_its_port,
     );
 }
