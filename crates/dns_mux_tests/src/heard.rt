@@ -2,7 +2,7 @@
 use dns_handle::{DnsResponse, IoKind, NetError, Notice, ProtoError};
 
 /// What a call answered.
-#[derive(Clone, Copy, PartialEq, Eq)]
+#[derive(Clone, Copy, PartialEq)]
 pub(crate) enum Heard {
     /// A response with the id.
     Id(u16),

@@ -18,7 +18,7 @@ pub(crate) fn question(rt: &impl Abort, alloc: Global, name: &str, record_type: 
 }
 
 /// A reply, as far as tests tell one from another.
-#[derive(Clone, Copy, PartialEq, Eq)]
+#[derive(Clone, Copy, PartialEq)]
 pub(crate) enum Said {
     /// A response with the id.
     Response(u16),

@@ -1,44 +1,35 @@
 use crate::parts::{check, query};
 use dns_handle::NetError;
-use dns_mux::{BufDnsRequestStreamHandle, DnsResponseReceiver, OneshotDnsRequest};
+use dns_mux::{BufDnsRequestStreamHandle, DnsResponseReceiver};
 use std::alloc::Global;
 
 /// What a queue tells whoever sends a request.
-#[derive(Clone, Copy, PartialEq, Eq)]
+#[derive(Clone, Copy, PartialEq)]
 enum Told {
     Slot(u64),
     Busy,
     Other,
 }
 
-fn told_by(sent: &Result<DnsResponseReceiver, NetError>) -> Told {
-    match sent {
-        Ok(DnsResponseReceiver::Receiver(slot)) => Told::Slot(*slot),
-        Err(NetError::Busy) => Told::Busy,
-        _ => Told::Other,
-    }
-}
-
 /// What the queue tells of one request more.
 fn send(alloc: Global, queue: &mut BufDnsRequestStreamHandle) -> Told {
     let sent = queue.send(query(alloc));
-    let told = told_by(&sent);
+    let told = match &sent {
+        Ok(DnsResponseReceiver::Receiver(slot)) => Told::Slot(*slot),
+        Err(NetError::Busy) => Told::Busy,
+        _ => Told::Other,
+    };
     drop(sent);
     told
-}
-
-/// The slot of a request that waited.
-fn slot_of(waiting: &Option<OneshotDnsRequest>) -> Option<u64> {
-    match waiting {
-        Some(first) => Some(first.slot),
-        None => None,
-    }
 }
 
 /// The slot of the request that waited longest, which leaves the queue.
 fn first_slot(queue: &mut BufDnsRequestStreamHandle) -> Option<u64> {
     let waiting = queue.pop();
-    let slot = slot_of(&waiting);
+    let slot = match &waiting {
+        Some(first) => Some(first.slot),
+        None => None,
+    };
     drop(waiting);
     slot
 }
@@ -60,14 +51,11 @@ fn is_full(alloc: Global, queue: &mut BufDnsRequestStreamHandle, next: u64) -> b
         && send(alloc, queue) == Told::Slot(next)
 }
 
-fn takes_33(alloc: Global) -> bool {
+#[test]
+fn a_queue_takes_33_requests(rt: HostRuntime) {
+    let alloc = rt.alloc();
     let mut queue = BufDnsRequestStreamHandle::new(alloc);
     let held = fills(alloc, &mut queue, 33) && is_full(alloc, &mut queue, 33);
     drop(queue);
-    held
-}
-
-#[test]
-fn a_queue_takes_33_requests(rt: HostRuntime) {
-    check(&rt, "33 requests", takes_33(rt.alloc()));
+    check(&rt, "33 requests", held);
 }

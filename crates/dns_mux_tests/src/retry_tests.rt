@@ -10,70 +10,87 @@ use std::process::Abort;
 /// So many attempts of a client that is busy so often, and then gives these replies: each of them is asked for, and the last
 /// one answered.
 struct Row {
-    message: &'static str,
     attempts: usize,
     busy: usize,
     replies: &'static [Said],
 }
 
-const ROWS: &[Row] = &[
-    Row {
-        message: "two attempts over a client that fails once",
-        attempts: 2,
-        busy: 0,
-        replies: &[Said::Reset, Said::Response(1)],
-    },
-    Row {
-        message: "one attempt over a client that is busy 64 times",
-        attempts: 1,
-        busy: 63,
-        replies: &[Said::Busy],
-    },
-    Row {
-        message: "a client that is busy 63 times",
-        attempts: 1,
-        busy: 63,
-        replies: &[Said::Response(1)],
-    },
-    Row {
-        message: "with no attempt a busy client is answered at once",
-        attempts: 0,
-        busy: 0,
-        replies: &[Said::Busy],
-    },
-    Row {
-        message: "with no attempt an error is answered at once",
-        attempts: 0,
-        busy: 0,
-        replies: &[Said::Reset],
-    },
-    Row {
-        message: "a resend costs an attempt, and one after being busy none",
-        attempts: 1,
-        busy: 2,
-        replies: &[Said::Reset, Said::TimedOut],
-    },
-    Row {
-        message: "with no attempt left a busy client is answered",
-        attempts: 1,
-        busy: 1,
-        replies: &[Said::Reset, Said::Busy],
-    },
-    Row {
-        message: "no connections",
-        attempts: 9,
-        busy: 0,
-        replies: &[Said::NoConnections],
-    },
-    Row {
-        message: "validation failed",
-        attempts: 9,
-        busy: 1,
-        replies: &[Said::Bogus],
-    },
+const ROWS: &[(&str, Row)] = &[
+    (
+        "two attempts over a client that fails once",
+        Row {
+            attempts: 2,
+            busy: 0,
+            replies: &[Said::Reset, Said::Response(1)],
+        },
+    ),
+    (
+        "one attempt over a client that is busy 64 times",
+        Row {
+            attempts: 1,
+            busy: 63,
+            replies: &[Said::Busy],
+        },
+    ),
+    (
+        "a client that is busy 63 times",
+        Row {
+            attempts: 1,
+            busy: 63,
+            replies: &[Said::Response(1)],
+        },
+    ),
+    (
+        "with no attempt a busy client is answered at once",
+        Row {
+            attempts: 0,
+            busy: 0,
+            replies: &[Said::Busy],
+        },
+    ),
+    (
+        "with no attempt an error is answered at once",
+        Row {
+            attempts: 0,
+            busy: 0,
+            replies: &[Said::Reset],
+        },
+    ),
+    (
+        "a resend costs an attempt, and one after being busy none",
+        Row {
+            attempts: 1,
+            busy: 2,
+            replies: &[Said::Reset, Said::TimedOut],
+        },
+    ),
+    (
+        "with no attempt left a busy client is answered",
+        Row {
+            attempts: 1,
+            busy: 1,
+            replies: &[Said::Reset, Said::Busy],
+        },
+    ),
+    (
+        "no connections",
+        Row {
+            attempts: 9,
+            busy: 0,
+            replies: &[Said::NoConnections],
+        },
+    ),
+    (
+        "validation failed",
+        Row {
+            attempts: 9,
+            busy: 1,
+            replies: &[Said::Bogus],
+        },
+    ),
 ];
 
-fn rows() -> &'static [Row] {
+fn rows() -> &'static [(&'static str, Row)] {
     ROWS
 }
 
@@ -161,10 +178,6 @@ fn polls(rt: &impl Abort, alloc: Global, row: &Row, task: &MockTask) -> bool {
 }
 
 impl Waiting for Row {
-    fn message(&self) -> &str {
-        self.message
-    }
-
     fn holds(&self, rt: &impl Abort, alloc: Global, task: &MockTask) -> bool {
         is_sent(rt, alloc, self) && polls(rt, alloc, self, task)
     }

@@ -9,7 +9,7 @@ use std::alloc::Global;
 use std::process::Abort;
 
 /// What a poll of a stream gives.
-#[derive(Clone, Copy, PartialEq, Eq)]
+#[derive(Clone, Copy, PartialEq)]
 enum Given {
     Item(Said),
     End,
@@ -36,68 +36,81 @@ enum Made {
 
 /// What a receiver is settled with, what its polls give then, and its first answer.
 struct Row {
-    message: &'static str,
     made: Made,
     polls: &'static [Given],
     first: Said,
 }
 
-const ROWS: &[Row] = &[
-    Row {
-        message: "a stream ends at a time-out, again and again",
-        made: Made::Items(&[
-            Said::Response(1),
-            Said::Reset,
-            Said::TimedOut,
-            Said::Response(3),
-        ]),
-        polls: &[
-            Given::Item(Said::Response(1)),
-            Given::Item(Said::Reset),
-            Given::End,
-            Given::End,
-        ],
-        first: Said::Response(1),
-    },
-    Row {
-        message: "a stream without an item has ended",
-        made: Made::Items(&[]),
-        polls: &[Given::End, Given::End],
-        first: Said::TimedOut,
-    },
-    Row {
-        message: "a first time-out is the end",
-        made: Made::Items(&[Said::TimedOut, Said::Response(1)]),
-        polls: &[Given::End, Given::End],
-        first: Said::TimedOut,
-    },
-    Row {
-        message: "an error is an item",
-        made: Made::Items(&[Said::Busy]),
-        polls: &[Given::Item(Said::Busy), Given::End],
-        first: Said::Busy,
-    },
-    Row {
-        message: "a single response is given once",
-        made: Made::Single(Said::Response(7)),
-        polls: &[Given::Item(Said::Response(7)), Given::End],
-        first: Said::Response(7),
-    },
-    Row {
-        message: "a single time-out is the end",
-        made: Made::Single(Said::TimedOut),
-        polls: &[Given::End],
-        first: Said::TimedOut,
-    },
-    Row {
-        message: "a refusal is given once",
-        made: Made::Refusal,
-        polls: &[Given::Item(Said::Busy), Given::End],
-        first: Said::Busy,
-    },
+const ROWS: &[(&str, Row)] = &[
+    (
+        "a stream ends at a time-out, again and again",
+        Row {
+            made: Made::Items(&[
+                Said::Response(1),
+                Said::Reset,
+                Said::TimedOut,
+                Said::Response(3),
+            ]),
+            polls: &[
+                Given::Item(Said::Response(1)),
+                Given::Item(Said::Reset),
+                Given::End,
+                Given::End,
+            ],
+            first: Said::Response(1),
+        },
+    ),
+    (
+        "a stream without an item has ended",
+        Row {
+            made: Made::Items(&[]),
+            polls: &[Given::End, Given::End],
+            first: Said::TimedOut,
+        },
+    ),
+    (
+        "a first time-out is the end",
+        Row {
+            made: Made::Items(&[Said::TimedOut, Said::Response(1)]),
+            polls: &[Given::End, Given::End],
+            first: Said::TimedOut,
+        },
+    ),
+    (
+        "an error is an item",
+        Row {
+            made: Made::Items(&[Said::Busy]),
+            polls: &[Given::Item(Said::Busy), Given::End],
+            first: Said::Busy,
+        },
+    ),
+    (
+        "a single response is given once",
+        Row {
+            made: Made::Single(Said::Response(7)),
+            polls: &[Given::Item(Said::Response(7)), Given::End],
+            first: Said::Response(7),
+        },
+    ),
+    (
+        "a single time-out is the end",
+        Row {
+            made: Made::Single(Said::TimedOut),
+            polls: &[Given::End],
+            first: Said::TimedOut,
+        },
+    ),
+    (
+        "a refusal is given once",
+        Row {
+            made: Made::Refusal,
+            polls: &[Given::Item(Said::Busy), Given::End],
+            first: Said::Busy,
+        },
+    ),
 ];
 
-fn rows() -> &'static [Row] {
+fn rows() -> &'static [(&'static str, Row)] {
     ROWS
 }
 
@@ -178,10 +191,6 @@ fn is_answered(rt: &impl Abort, alloc: Global, row: &Row, task: &MockTask) -> bo
 }
 
 impl Waiting for Row {
-    fn message(&self) -> &str {
-        self.message
-    }
-
     fn holds(&self, rt: &impl Abort, alloc: Global, task: &MockTask) -> bool {
         is_streamed(rt, alloc, self, task) && is_answered(rt, alloc, self, task)
     }

@@ -8,7 +8,7 @@ use std::alloc::Global;
 use std::process::Abort;
 
 /// What is done with a handle. A name and a type are those of a query.
-#[derive(Clone, Copy, Drop)]
+#[derive(Clone, Copy)]
 enum Step {
     /// The reply is put in.
     Put(&'static str, u16, Said),

@@ -16,11 +16,8 @@ pub(crate) fn said_in(poll: &Poll<Result<DnsResponse, NetError>>) -> Option<Said
     }
 }
 
-/// What a table of requests that wait says in a row.
+/// What a table of requests that wait says behind the name of a row.
 pub(crate) trait Waiting {
-    /// What the row shows.
-    fn message(&self) -> &str;
-
     /// Whether it holds where the task polls.
     fn holds(&self, rt: &impl Abort, alloc: Global, task: &MockTask) -> bool;
 }
@@ -28,11 +25,11 @@ pub(crate) trait Waiting {
 /// Each row of a table holds in a task in which polls are made by hand.
 pub(crate) fn check_waiting<W: Waiting>(
     rt: &(impl Abort + RandomSource + AllocGlobal),
-    rows: &[W],
+    rows: &[(&str, W)],
 ) {
     let task = MockTask::new(rt).ok().expect(rt, "a task");
     for row in rows {
-        check(rt, row.message(), row.holds(rt, rt.alloc(), &task));
+        check(rt, row.0, row.1.holds(rt, rt.alloc(), &task));
     }
     drop(task);
 }
