@@ -1,5 +1,5 @@
 //! A lookup with an upstream and a verifier of one's own. docs/LIBRARY.md shows this file up to the tests, as a program.
-use crate::rows::check_held;
+use crate::rows::check_row;
 use dns_chain::{
     DnssecDnsHandle, IterationLimits, Judge, TrustAnchors, TtlRanges, Validation, Verifier, Wanted,
 };
@@ -196,9 +196,9 @@ fn main(rt: HostRuntime) -> io::Result<()> {
 #[test]
 fn a_record_is_secure_by_its_chain_while_its_signature_holds(rt: HostRuntime) {
     let looked_up = is_secure_at(rt.alloc(), 1000).unwrap_or(false);
-    check_held(&rt, "at 1000", looked_up);
+    check_row(&rt, "at 1000", looked_up);
     let by_hand = is_secure_by_hand(rt.alloc(), 1000).unwrap_or(false);
-    check_held(&rt, "by hand", by_hand);
+    check_row(&rt, "by hand", by_hand);
 }
 
 fn is_bogus(alloc: Global) -> Result<bool, NetError> {
@@ -210,5 +210,5 @@ fn is_bogus(alloc: Global) -> Result<bool, NetError> {
 
 #[test]
 fn a_record_is_bogus_and_has_no_chain_later(rt: HostRuntime) {
-    check_held(&rt, "at 3000", is_bogus(rt.alloc()).unwrap_or(false));
+    check_row(&rt, "at 3000", is_bogus(rt.alloc()).unwrap_or(false));
 }
