@@ -10,6 +10,15 @@ use std::alloc::Global;
 /// So many events are played on one pair of machines at most.
 const MOST_EVENTS: u32 = 600;
 
+/// How the events of a pair ended.
+#[derive(Clone, Copy)]
+enum Played {
+    /// All up to this number were answered alike, and it is the next.
+    UpTo(u32),
+    /// The event with this number wasn't.
+    Different(u32),
+}
+
 // The next event. After a close nothing is sent. A number is one of the last requests', or of the one that isn't sent yet, and a moment
 // is up to 300 milliseconds later.
 fn next_event(random: &mut RandDraws, plain: &Plain) -> Event {
@@ -26,8 +35,7 @@ fn next_event(random: &mut RandDraws, plain: &Plain) -> Event {
     }
 }
 
-// Plays events up to a number on a pair, from another one. A closed one is played on for some events. The number of the next event, or
-// of the first one that wasn't answered alike, and whether all were.
+// Plays events up to a number on a pair, from another one. A closed one is played on for some events.
 fn play_on(
     alloc: Global,
     random: &mut RandDraws,
@@ -35,19 +43,19 @@ fn play_on(
     plain: &mut Plain,
     first: u32,
     end: u32,
-) -> Result<(u32, bool), NoMemory> {
+) -> Result<Played, NoMemory> {
     let mut response = response();
     for number in first..end {
         let event = next_event(random, plain);
         let real = answer(alloc, mux, &mut response, event)?;
         if real != plain.answer(event)? {
-            return Ok((number, false));
+            return Ok(Played::Different(number));
         }
         if plain.is_closed && random.id() % 20 == 0 {
-            return Ok((number.saturating_add(1), true));
+            return Ok(Played::UpTo(number.saturating_add(1)));
         }
     }
-    Ok((end, true))
+    Ok(Played::UpTo(end))
 }
 
 // The same on a new pair, both with the same draws of ids, which are below four.
@@ -57,7 +65,7 @@ fn play(
     seed: u64,
     first: u32,
     end: u32,
-) -> Result<(u32, bool), NoMemory> {
+) -> Result<Played, NoMemory> {
     let mut mux = multiplexer(alloc, FewIds::from_seed(seed, 3), MAXIMUM);
     let mut plain = Plain::new(alloc, FewIds::from_seed(seed, 3));
     let played = play_on(alloc, random, &mut mux, &mut plain, first, end);
@@ -80,11 +88,10 @@ fn difference_by(
             break;
         }
         let end = count.min(first.saturating_add(MOST_EVENTS));
-        let (next, is_alike) = play(alloc, random, seed, first, end)?;
-        if !is_alike {
-            return Ok(Some(next));
+        match play(alloc, random, seed, first, end)? {
+            Played::Different(number) => return Ok(Some(number)),
+            Played::UpTo(next) => first = next,
         }
-        first = next;
         seed = u64::from(random.id());
     }
     Ok(None)
