@@ -1,0 +1,2 @@
+-- The rule of taking turns.
+pub mod Turns
