@@ -19,7 +19,7 @@ use Rattle.dns_lookup.specs.LookupAnswers.{IsSoundAnswer}
 use Rattle.dns_lookup.specs.LookupParts.{told_of}
 use Rattle.dns_lookup.specs.Sending.{IsLookedUp}
 use Rattle.dns_lookup.specs.Sends.{SendsAlong}
-use Rattle.dns_sockets.specs.Met.{DialerView}
+use Rattle.dns_udp.specs.Met.{DialerView}
 use Rattle.dns_asking.specs.Causes.{AnswerCause, HasCome}
 use Rattle.dns_asking.proofs.CountLemmas.{rose_by_none, rose_by_then, rose_then}
 

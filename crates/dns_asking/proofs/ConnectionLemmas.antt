@@ -27,19 +27,19 @@ use Rattle.dns_multiplexer.specs.Events.{Send, last_drawn}
 use Rattle.dns_multiplexer.specs.History.{put_out}
 use Rattle.dns_multiplexer.specs.Machine.{State, send_reply}
 use Rattle.dns_multiplexer.specs.Messages.{SerialMessageValue, with_id}
-use Rattle.dns_transport.specs.Causes.{DrainCause, DrainFault, FeedCause, FeedFault, IsMisaddressed, IsOverlong}
-use Rattle.dns_transport.specs.declared.feed.Feed.{Feed}
-use Rattle.dns_transport.specs.declared.feed.Feed.TheVariants.{Closed}
-use Rattle.dns_transport.specs.Frames.{most_framed}
-use Rattle.dns_transport.specs.Links.{LinkView}
-use Rattle.dns_transport.specs.Streams.{StreamValue, new_stream}
-use Rattle.dns_transport.proofs.CauseLemmas.{feed_answer}
-use Rattle.dns_transport.proofs.DrainLemmas.{drain_answer}
-use Rattle.dns_exchange.specs.Exchanges.{Carried, WasWritten, DrainFailed, NoRoomToWrite, Exchanged, Unconnected, Refused, Sent, Parts, Received, Answered, Unanswered, WasClosed, FeedFailed, NoRoom, most_messages}
-use Rattle.dns_exchange.specs.Making.{new_parts}
-use Rattle.dns_exchange.specs.Reads.{HasFed, HasRead, Sight, reads_for_all, sight}
-use Rattle.dns_exchange.specs.Writes.{HasDrained, HasWritten, message_to, messages_to}
-use Rattle.dns_sockets.specs.Met.{DialerView, dialer_view}
+use Rattle.dns_tcp.specs.Causes.{DrainCause, DrainFault, FeedCause, FeedFault, IsMisaddressed, IsOverlong}
+use Rattle.dns_tcp.specs.declared.feed.Feed.{Feed}
+use Rattle.dns_tcp.specs.declared.feed.Feed.TheVariants.{Closed}
+use Rattle.dns_tcp.specs.Frames.{most_framed}
+use Rattle.dns_tcp.specs.Links.{LinkView}
+use Rattle.dns_tcp.specs.Streams.{StreamValue, new_stream}
+use Rattle.dns_tcp.proofs.CauseLemmas.{feed_answer}
+use Rattle.dns_tcp.proofs.DrainLemmas.{drain_answer}
+use Rattle.dns_tcp.specs.Exchanges.{Carried, WasWritten, DrainFailed, NoRoomToWrite, Exchanged, Unconnected, Refused, Sent, Parts, Received, Answered, Unanswered, WasClosed, FeedFailed, NoRoom, most_messages}
+use Rattle.dns_tcp.specs.Making.{new_parts}
+use Rattle.dns_tcp.specs.Reads.{HasFed, HasRead, Sight, reads_for_all, sight}
+use Rattle.dns_tcp.specs.Writes.{HasDrained, HasWritten, message_to, messages_to}
+use Rattle.dns_udp.specs.Met.{DialerView, dialer_view}
 use Rattle.dns_evidence.specs.declared.verifier.Verifier as verifier
 use Rattle.dns_handle.specs.Conversions.{outside_failed}
 use Rattle.dns_handle.specs.declared.handle.DnsHandle as handle
@@ -47,9 +47,9 @@ use Rattle.dns_flow.specs.declared.asks.Ask.{Ask}
 use Rattle.dns_flow.specs.Phases.{judged_ask}
 use Rattle.dns_link.specs.Counts.{with_fault}
 use Rattle.dns_lookup.specs.Calls.{ask_of_call, first_ask_of_call}
-use Rattle.dns_exchange.specs.Exchanges.{milliseconds}
-use Rattle.dns_exchange.specs.Parts.{parts_of}
-use Rattle.dns_exchange.specs.declared.tcp_exchange.TcpExchange.{TcpExchange}
+use Rattle.dns_tcp.specs.Exchanges.{milliseconds}
+use Rattle.dns_tcp.specs.ExchangeParts.{parts_of}
+use Rattle.dns_tcp.specs.declared.tcp_exchange.TcpExchange.{TcpExchange}
 use Rattle.dns_asking.specs.Lookups.{LooksUp, call_over}
 use Rattle.dns_asking.specs.declared.inquiry.Inquiry.{Inquiry}
 use Rattle.dns_asking.proofs.AnswerLemmas.{lookup_caused}

@@ -2,7 +2,7 @@
 use Rattle.std.proofs.Common.{ℕ, ◌≡◌, ◌≤◌, ap, arith}
 use Rattle.dns_model.specs.Counts.{Rose, RoseBy}
 use Rattle.dns_link.specs.Counts.{CountsValue, sum_counted, with_fault}
-use Rattle.dns_sockets.specs.Met.{RisesBy}
+use Rattle.dns_udp.specs.Met.{RisesBy}
 
 pub rose_by_none : (a : ℕ) → RoseBy 0 a a
 rose_by_none a = omega arith

@@ -6,19 +6,20 @@ use Rattle.dns_model.specs.Records.{Question}
 use Rattle.std.specs.declared.net.socket_addr.SocketAddr.{SocketAddr}
 use Rattle.dns_message.specs.WrittenAs.{encoded}
 use Rattle.dns_message.specs.declared.decode_error.DecodeError.{DecodeError}
-use Rattle.dns_datagrams.specs.Acceptance.{accepted}
+use Rattle.dns_udp.specs.Acceptance.{accepted}
 use Rattle.dns_handle.specs.Errors.{Reply, Busy, Dns, Message, Msg, NoConnections, Proto, Io, Timeout, QueryCaseMismatch, ForeignClassRecord, Truncated, NoMemory}
 use Rattle.dns_handle.specs.declared.error.ProtoError.TheVariants.{Decode, TooLong}
 use Rattle.dns_handle.specs.declared.io_kind.IoKind.{IoKind}
 use Rattle.dns_handle.specs.declared.io_kind.IoKind.TheVariants.{PermissionDenied, ConnectionRefused, ConnectionReset, ConnectionAborted, NotConnected, AddrInUse, AddrNotAvailable, BrokenPipe, InvalidData, TimedOut, UnexpectedEof, RequestTooLong, Other}
-use Rattle.dns_handle.specs.declared.notice.Notice.TheVariants.{NoQueryInRequest, ExpiredRrsig, WrongDnskey, WrongRrsig, ExceededMaxValidationDepth, ExceededMaxNestedQueries, IdSpaceExhausted, SendQueueFull, PolledAfterCompletion, NotAllBytesSent}
+use Rattle.dns_handle.specs.declared.notice.Notice.TheVariants.{NoQueryInRequest, ExpiredRrsig, WrongDnskey, WrongRrsig, ExceededMaxValidationDepth, ExceededMaxNestedQueries, IdSpaceExhausted, SendQueueFull, PolledAfterCompletion, NotAllBytesSent, TransferHasTrailingRecords, TransferIsIncremental, HistoryFull}
 use Rattle.dns_handle.specs.declared.protocol.Protocol.TheVariants.{Udp}
 use Rattle.dns_handle.specs.Requests.{RequestValue}
+use Rattle.dns_link.specs.Calls.{NetCalls}
 use Rattle.dns_link.specs.Counts.{CountsValue}
 use Rattle.dns_link.specs.Moved.{DatagramValue}
-use Rattle.dns_datagrams.specs.declared.acceptance.Accepted.{Accepted}
-use Rattle.dns_datagrams.specs.declared.acceptance.Accepted.TheVariants.{Undecodable}
-use Rattle.dns_sockets.specs.Met.{DialerView, HasMet, dialer_view}
+use Rattle.dns_udp.specs.declared.acceptance.Accepted.{Accepted}
+use Rattle.dns_udp.specs.declared.acceptance.Accepted.TheVariants.{Undecodable}
+use Rattle.dns_udp.specs.Met.{DialerView, HasMet, dialer_view}
 use Rattle.dns_udp.specs.ClientStreams.{asked_of, plain_builder}
 use Rattle.dns_udp.specs.Conversations.{Ends, EndsByOne, EndsInVain}
 use Rattle.dns_udp.specs.Exchanges.{Exchanged, IsExchangeOf, parts_of, under_id}
@@ -108,6 +109,9 @@ module _ (before now : DialerView) (came : List DatagramValue) (met : CountsValu
   conversation_cause q depth id asked (Err (Message IdSpaceExhausted)) same long short ends = absurd ends
   conversation_cause q depth id asked (Err (Message SendQueueFull)) same long short ends = absurd ends
   conversation_cause q depth id asked (Err (Message PolledAfterCompletion)) same long short ends = absurd ends
+  conversation_cause q depth id asked (Err (Message TransferHasTrailingRecords)) same long short ends = absurd ends
+  conversation_cause q depth id asked (Err (Message TransferIsIncremental)) same long short ends = absurd ends
+  conversation_cause q depth id asked (Err (Message HistoryFull)) same long short ends = absurd ends
   conversation_cause q depth id asked (Err (Msg text)) same long short ends = absurd ends
   conversation_cause q depth id asked (Err NoConnections) same long short ends = absurd ends
   conversation_cause q depth id asked (Err (Proto (Decode error))) same long short ends =
@@ -126,7 +130,7 @@ module _ (before now : DialerView) (came : List DatagramValue) (met : CountsValu
   conversation_cause q depth id asked (Err Truncated) same long short ends = absurd ends
   conversation_cause q depth id asked (Err NoMemory) same long short ends = tt
 
-module _ {D R : Type 0} (counts : D → CountsValue) (given : D → Option (List DatagramValue))
+module _ {D R : Type 0} (counts : D → CountsValue) (given : D → Option (List DatagramValue)) (calls : D → Option NetCalls)
     (ids ports : R → ℕ → R → Type 0) where
   -- the dialer of a handle
   abbrev pub dialer_in : UdpExchange D R → DialerView
@@ -136,7 +140,7 @@ module _ {D R : Type 0} (counts : D → CountsValue) (given : D → Option (List
   pub first_cause : (q : Question) (depth : ℕ) (server : SocketAddr) (dial : D) (draws : R)
       (old new : UdpExchange D R) (reply : Reply)
       → length (wire q.owner) ≤ 255 → IsExchangeOf (plain_builder server) dial draws old
-      → Exchanged counts given ids ports (parts_of old) (parts_of new) (first_request q depth) reply
+      → Exchanged counts given calls ids ports (parts_of old) (parts_of new) (first_request q depth) reply
       → AnswerCause Udp (dialer_view counts given dial) (dialer_in new) reply
   first_cause q depth server dial draws old new reply short made sent =
       let talk = sent.talk in
@@ -147,7 +151,7 @@ module _ {D R : Type 0} (counts : D → CountsValue) (given : D → Option (List
 
   -- no send makes the count of datagrams fall
   pub send_later : (request : RequestValue) (old new : UdpExchange D R) (reply : Reply)
-      → Exchanged counts given ids ports (parts_of old) (parts_of new) request reply
+      → Exchanged counts given calls ids ports (parts_of old) (parts_of new) request reply
       → RoseBy 0 (dialer_in old).counts.gots (dialer_in new).counts.gots
   send_later request old new reply sent =
       rises_rose 0 _ sent.talk.met.gots _ (omega arith) sent.talk.has_met.counts.gots
@@ -157,7 +161,7 @@ module _ {D R : Type 0} (counts : D → CountsValue) (given : D → Option (List
     -- each answer of a lookup by datagrams has its cause
     pub datagrams_caused : ((old new : UdpExchange D R) (request : RequestValue) (now : ℕ) (reply : Reply)
         → meanings.requested old request now new reply
-        → Exchanged counts given ids ports (parts_of old) (parts_of new) request reply)
+        → Exchanged counts given calls ids ports (parts_of old) (parts_of new) request reply)
         → (server : SocketAddr) (dial : D) (draws : R) (first last : UdpExchange D R) (reply : Reply)
         → length (wire inquiry.query.owner) ≤ 255 → IsExchangeOf (plain_builder server) dial draws first
         → LooksUp meanings tests inquiry first last reply

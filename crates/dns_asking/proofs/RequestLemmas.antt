@@ -12,9 +12,9 @@ use Rattle.dns_message.specs.declared.encode_error.EncodeError.{EncodeError}
 use Rattle.dns_message.specs.declared.encode_error.EncodeError.TheVariants.{TooLong}
 use Rattle.dns_handle.specs.Requests.{RequestValue}
 use Rattle.dns_validation.specs.Requests.{asking_request}
-use Rattle.dns_datagrams.specs.Acceptance.{accepted, accepted_reading, is_addressed}
-use Rattle.dns_datagrams.specs.Questions.{asks_alike, spells_alike}
-use Rattle.dns_datagrams.specs.declared.acceptance.Accepted.TheVariants.{Ignored, Undecodable, CaseMismatch, Answer}
+use Rattle.dns_udp.specs.Acceptance.{accepted, accepted_reading, is_addressed}
+use Rattle.dns_udp.specs.Questions.{asks_alike, spells_alike}
+use Rattle.dns_udp.specs.declared.acceptance.Accepted.TheVariants.{Ignored, Undecodable, CaseMismatch, Answer}
 use Rattle.dns_asking.specs.Lookups.{options_to}
 
 -- the request for a question within a depth

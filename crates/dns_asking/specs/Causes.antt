@@ -11,7 +11,7 @@ use Rattle.dns_handle.specs.declared.protocol.Protocol.{Protocol}
 use Rattle.dns_handle.specs.declared.protocol.Protocol.TheVariants.{Udp, Tcp}
 use Rattle.dns_link.specs.Counts.{CountsValue}
 use Rattle.dns_link.specs.Moved.{DatagramValue}
-use Rattle.dns_sockets.specs.Met.{AreGiven, DialerView}
+use Rattle.dns_udp.specs.Met.{AreGiven, DialerView}
 
 -- a call of the outside failed, or ended short: a read found the end, or less was taken than has to be
 abbrev pub FailedOrEnded : CountsValue → CountsValue → Type 0

@@ -1,6 +1,6 @@
 -- A lookup over one server: by datagrams, or over one connection (RFC 1035, 4.2; RFC 7766, 6). Its handle begins at a dialer, and what the
 -- handle met is what the dialer met that is given back.
-use Rattle.std.specs.Prelude.{ℕ, ◌≡◌, [], List, Option, None, Err}
+use Rattle.std.specs.Prelude.{ℕ, ◌≡◌, [], List, Option, None, Some, Err}
 use Rattle.std.specs.declared.net.socket_addr.SocketAddr.{SocketAddr}
 use Rattle.dns_evidence.specs.declared.verifier.Verifier as verifier
 use Rattle.dns_handle.specs.Conversions.{outside_failed}
@@ -10,12 +10,14 @@ use Rattle.dns_handle.specs.declared.handle.DnsHandle as handle
 use Rattle.dns_handle.specs.declared.io_kind.IoKind.{IoKind}
 use Rattle.dns_handle.specs.declared.protocol.Protocol.{Protocol}
 use Rattle.dns_handle.specs.declared.protocol.Protocol.TheVariants.{Udp, Tcp}
+use Rattle.dns_link.specs.Calls.{IsToldWithThose, NetCalls}
 use Rattle.dns_link.specs.Counts.{CountsValue, with_counts, with_fault}
 use Rattle.dns_link.specs.Moved.{DatagramValue, IsNew, and_those}
-use Rattle.dns_transport.specs.Streams.{new_stream}
-use Rattle.dns_exchange.specs.Making.{new_parts}
-use Rattle.dns_exchange.specs.Parts as connection
-use Rattle.dns_exchange.specs.declared.tcp_exchange.TcpExchange.{TcpExchange}
+use Rattle.dns_tcp.specs.Dialing.{IsAskedFor, dial_to}
+use Rattle.dns_tcp.specs.Streams.{new_stream}
+use Rattle.dns_tcp.specs.Making.{new_parts}
+use Rattle.dns_tcp.specs.ExchangeParts as connection
+use Rattle.dns_tcp.specs.declared.tcp_exchange.TcpExchange.{TcpExchange}
 use Rattle.dns_udp.specs.ClientStreams.{plain_builder}
 use Rattle.dns_udp.specs.Exchanges as datagrams
 use Rattle.dns_udp.specs.Exchanges.{IsExchangeOf}
@@ -30,19 +32,23 @@ pub record Network (D L R : Type 0) : Type 1 where
   pub counts : D → CountsValue
   pub bytes : D → Option (List ℕ)
   pub came : D → Option (List DatagramValue)
+  pub calls : D → Option NetCalls
   pub link_counts : L → CountsValue
   pub link_bytes : L → Option (List ℕ)
+  pub link_calls : L → Option NetCalls
   pub by_datagrams : handle.Ghosts (UdpExchange D R)
   pub over_connection : handle.Ghosts (TcpExchange L R)
 
-abbrev pub network : {D L R : Type 0} → (D → CountsValue) → (D → Option (List ℕ)) → (D → Option (List DatagramValue)) → (L → CountsValue)
-    → (L → Option (List ℕ)) → handle.Ghosts (UdpExchange D R) → handle.Ghosts (TcpExchange L R) → Network D L R
-network counts bytes came link_counts link_bytes by_datagrams over_connection = record {
+abbrev pub network : {D L R : Type 0} → (D → CountsValue) → (D → Option (List ℕ)) → (D → Option (List DatagramValue))
+    → (D → Option NetCalls) → (L → CountsValue) → (L → Option (List ℕ)) → (L → Option NetCalls) → handle.Ghosts (UdpExchange D R) → handle.Ghosts (TcpExchange L R) → Network D L R
+network counts bytes came calls link_counts link_bytes link_calls by_datagrams over_connection = record {
   counts = counts;
   bytes = bytes;
   came = came;
+  calls = calls;
   link_counts = link_counts;
   link_bytes = link_bytes;
+  link_calls = link_calls;
   by_datagrams = by_datagrams;
   over_connection = over_connection;
 }
@@ -60,15 +66,17 @@ pub record AsksByDatagrams {D L R V : Type 0} (seen : Network D L R) (tests : ve
   pub looked : LooksUp seen.by_datagrams tests inquiry first last reply
   pub back : new ≡ (datagrams.parts_of last).dial
 
--- the dialer refused to connect
-pub record IsUnreached {D L R : Type 0} (seen : Network D L R) (old new : D) (reply : Reply) : Type 0 where
+-- the dialer refused to connect, which it was asked for once
+pub record IsUnreached {D L R : Type 0} (seen : Network D L R) (server : SocketAddr) (old new : D) (reply : Reply) : Type 0 where
   pub kind : IoKind
   pub refused : reply ≡ Err (error_of (outside_failed kind))
   pub counts : seen.counts new ≡ with_fault (seen.counts old)
   pub bytes : seen.bytes new ≡ seen.bytes old
   pub came : seen.came new ≡ seen.came old
+  pub asked : IsAskedFor (dial_to server None connection_timeout) (seen.calls old) (seen.calls new) (Some kind)
 
--- a new handle over a new link made the lookup, and the dialer that is given back has the link back that it left
+-- a new handle over a new link made the lookup, and the dialer that is given back has the link back that it left; it was asked for
+-- that link alone
 pub record IsConnected {D L R V : Type 0} (seen : Network D L R) (tests : verifier.Ghosts V) (server : SocketAddr)
     (inquiry : Inquiry V) (draws : R) (old new : D) (reply : Reply) : Type 0 where
   pub link : L
@@ -80,11 +88,14 @@ pub record IsConnected {D L R V : Type 0} (seen : Network D L R) (tests : verifi
   pub counts : seen.counts new ≡ with_counts (seen.counts old) (seen.link_counts (connection.parts_of last).link)
   pub bytes : seen.bytes new ≡ and_those (seen.bytes old) (seen.link_bytes (connection.parts_of last).link)
   pub came : seen.came new ≡ seen.came old
+  pub dialed : Option NetCalls
+  pub asked : IsAskedFor (dial_to server None connection_timeout) (seen.calls old) dialed None
+  pub told : IsToldWithThose dialed (seen.link_calls (connection.parts_of last).link) (seen.calls new)
 
 -- over one connection, or none was made
 pub data AsksOverConnection {D L R V : Type 0} (seen : Network D L R) (tests : verifier.Ghosts V) (server : SocketAddr)
     (inquiry : Inquiry V) (draws : R) (old new : D) (reply : Reply) : Type 0 where
-  Unreached : IsUnreached seen old new reply → AsksOverConnection seen tests server inquiry draws old new reply
+  Unreached : IsUnreached seen server old new reply → AsksOverConnection seen tests server inquiry draws old new reply
   Reached : IsConnected seen tests server inquiry draws old new reply → AsksOverConnection seen tests server inquiry draws old new reply
 
 -- a server at an address was asked

@@ -2,7 +2,7 @@
 ghost use Rattle.std.specs.Prelude.{◌≡◌, ◌≤◌, length};
 ghost use Rattle.dns_model.specs.Names.{wire};
 ghost use Rattle.dns_handle.specs.Replies.{reply_of};
-ghost use Rattle.dns_sockets.specs.Met.{dialer_view};
+ghost use Rattle.dns_udp.specs.Met.{dialer_view};
 ghost use Rattle.dns_asking.specs.Causes.{AnswerCause};
 ghost use Rattle.dns_asking.specs.Servers.{AsksByDatagrams, AsksOverConnection, AsksServer, network};
 
@@ -10,12 +10,11 @@ use crate::address::ServerAddress;
 use crate::inquiry::Inquiry;
 use crate::looking::{LookupEnd, look_up};
 use dns_evidence::Verifier;
-use dns_exchange::TcpExchange;
 use dns_handle::{DnsHandle, DnsResponse, NetError, Protocol};
 use dns_link::{Dialer, Link};
 use dns_multiplexer::Draws;
-use dns_name::Name;
-use dns_record::Query;
+use dns_record::{Name, Query};
+use dns_tcp::TcpExchange;
 use dns_udp::{UdpClientStream, UdpExchange};
 use std::alloc::Global;
 use std::net::SocketAddr;
@@ -49,7 +48,7 @@ fn ask_by_datagrams<D: Dialer + Drop, R: Draws + Drop, V: Verifier + Drop>(
     inquiry: Inquiry<V>,
 ) -> AskEnd<D>
     requires { length (wire inquiry.query.owner) ≤ 255 }
-    ensures asked { AsksByDatagrams (network D.counts D.given_bytes D.given_datagrams D.Link.counts D.Link.given
+    ensures asked { AsksByDatagrams (network D.counts D.given_bytes D.given_datagrams D.calls D.Link.counts D.Link.given D.Link.calls
         ⟦<UdpExchange<D, R> as DnsHandle>⟧ ⟦<TcpExchange<D::Link, R> as DnsHandle>⟧)
         V.Verifier server inquiry draws dial result.dial (reply_of result.reply) }
     ensures caused { AnswerCause Protocol.Udp (dialer_view D.counts D.given_datagrams dial)
@@ -73,7 +72,7 @@ fn ask_over_connection<D: Dialer + Drop, R: Draws + Drop, V: Verifier + Drop>(
     inquiry: Inquiry<V>,
 ) -> AskEnd<D>
     requires { length (wire inquiry.query.owner) ≤ 255 }
-    ensures asked { AsksOverConnection (network D.counts D.given_bytes D.given_datagrams D.Link.counts D.Link.given
+    ensures asked { AsksOverConnection (network D.counts D.given_bytes D.given_datagrams D.calls D.Link.counts D.Link.given D.Link.calls
         ⟦<UdpExchange<D, R> as DnsHandle>⟧ ⟦<TcpExchange<D::Link, R> as DnsHandle>⟧)
         V.Verifier server inquiry draws dial result.dial (reply_of result.reply) }
     ensures caused { AnswerCause Protocol.Tcp (dialer_view D.counts D.given_datagrams dial)
@@ -116,7 +115,7 @@ pub fn ask_server<D: Dialer + Drop, R: Draws + Drop, V: Verifier + Drop>(
     inquiry: Inquiry<V>,
 ) -> AskEnd<D>
     // The answer is what a validator answers over a handle to that server.
-    ensures asked { AsksServer (network D.counts D.given_bytes D.given_datagrams D.Link.counts D.Link.given
+    ensures asked { AsksServer (network D.counts D.given_bytes D.given_datagrams D.calls D.Link.counts D.Link.given D.Link.calls
         ⟦<UdpExchange<D, R> as DnsHandle>⟧ ⟦<TcpExchange<D::Link, R> as DnsHandle>⟧)
         V.Verifier server inquiry draws dial result.dial (reply_of result.reply) protocol }
 

@@ -1,3 +1,4 @@
+//! What is asked of a server.
 use dns_record::Query;
 use dns_trust::TrustAnchors;
 

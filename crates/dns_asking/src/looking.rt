@@ -7,7 +7,7 @@ use crate::inquiry::Inquiry;
 use dns_evidence::Verifier;
 use dns_handle::{DnsHandle, DnsRequestOptions, DnsResponse, NetError};
 use dns_lookup::{DnssecDnsHandle, default_cache};
-use dns_name::NoMemory;
+use dns_record::NoMemory;
 use std::alloc::Global;
 
 /// How a lookup over a handle ended.

@@ -16,14 +16,9 @@ use dns_text::u16_in;
 pub(crate) fn code_of(line: &[u8]) -> Option<ResponseCode>
     ensures { option_map (λ code. code.0) result ≡ code_line line.now }
 {
-    if let Some(rest) = after(line, b"code")
-        && let Some(word) = single(rest)
-        && let Some(number) = u16_in(word)
-    {
-        Some(ResponseCode(number))
-    } else {
-        None
-    }
+    let word = single(after(line, b"code")?)?;
+    let number = u16_in(word)?;
+    Some(ResponseCode(number))
 }
 
 /// A mark, and what is left after it.
@@ -31,13 +26,9 @@ pub(crate) fn mark_front(rest: Option<&[u8]>) -> Option<(Proof, Option<&[u8]>)>
     ensures { option_map (λ x. (x.0, words_left (option_copied x.1))) result
         ≡ marked (λ mark. mark) (words_left (option_copied rest.entry)) }
 {
-    match first_of(rest) {
-        Some((word, left)) => match mark_in(word) {
-            Some(mark) => Some((mark, left)),
-            None => None,
-        },
-        None => None,
-    }
+    let (word, left) = first_of(rest)?;
+    let mark = mark_in(word)?;
+    Some((mark, left))
 }
 
 /// What is denied, by its first word, and what is left after it.
@@ -52,41 +43,29 @@ pub(crate) fn denial_by<'a>(
         return Some((Denial::None, rest));
     }
     if kind == b"absent".as_slice() {
-        return match mark_front(rest) {
-            Some((mark, left)) => Some((Denial::Absent(mark), left)),
-            None => None,
-        };
+        let (mark, left) = mark_front(rest)?;
+        return Some((Denial::Absent(mark), left));
     }
     if kind == b"expanded".as_slice() {
-        return match mark_front(rest) {
-            Some((mark, left)) => Some((Denial::Expanded(mark), left)),
-            None => None,
-        };
+        let (mark, left) = mark_front(rest)?;
+        return Some((Denial::Expanded(mark), left));
     }
     None
 }
 
-/// What is denied, where no word is left.
+// What is denied, where no word is left.
 #[tactic(auto, unfolding(crate::specs::ReportLines::whole), using(crate::proofs::ShortLines::not_whole))]
 fn whole(denial: Denial, rest: Option<&[u8]>) -> Option<Denial>
     ensures { result ≡ whole denial (words_left (option_copied rest.entry)) }
 {
-    match rest {
-        Some(_) => None,
-        None => Some(denial),
-    }
+    if rest.is_some() { None } else { Some(denial) }
 }
 
 /// The denial of a `denial` line.
 pub(crate) fn denial_of(line: &[u8]) -> Option<Denial>
     ensures { result ≡ denial_line line.now }
 {
-    if let Some(rest) = after(line, b"denial")
-        && let Some((kind, more)) = first_of(rest)
-        && let Some((denial, left)) = denial_by(kind, more)
-    {
-        whole(denial, left)
-    } else {
-        None
-    }
+    let (kind, more) = first_of(after(line, b"denial")?)?;
+    let (denial, left) = denial_by(kind, more)?;
+    whole(denial, left)
 }

@@ -34,37 +34,28 @@ impl Model for ChainHead {
     ghost view = { λ h. record { section = h.section; count = h.count } };
 }
 
-/// What the line before a chain's links says.
+// What the line before a chain's links says.
 fn head_of(line: &[u8]) -> Option<ChainHead>
     ensures { result ≡ chain_line line.now }
 {
-    if let Some(rest) = after(line, b"chain")
-        && let Some((section, count)) = double(rest)
-        && let Some(section) = section_in(section)
-        && let Some(count) = u32_in(count)
-    {
-        Some(ChainHead { section, count })
-    } else {
-        None
-    }
+    let (section, count) = double(after(line, b"chain")?)?;
+    let section = section_in(section)?;
+    let count = u32_in(count)?;
+    Some(ChainHead { section, count })
 }
 
-/// The next link, and the lines after it.
+// The next link, and the lines after it.
 #[tactic(auto, unfolding(dns_session::specs::LinePlaces::one))]
 fn one_link<'a>(alloc: Global, lines: Lines<'a>) -> Result<(Link, Lines<'a>), SessionStop>
     ensures { ReadsAs (λ x. (link_value x.0, x.1)) result (one link_line lines.entry) }
 {
     let bad = SessionStop::BadLine(lines.number());
-    match lines.next() {
-        Some((line, after)) => match link_of(alloc, line)? {
-            Some(link) => Ok((link, after)),
-            None => Err(bad),
-        },
-        None => Err(bad),
-    }
+    let (line, after) = lines.next().ok_or(bad)?;
+    let link = link_of(alloc, line)?.ok_or(bad)?;
+    Ok((link, after))
 }
 
-/// So many links, and the lines after them.
+// So many links, and the lines after them.
 fn links_of<'a>(
     alloc: Global,
     count: u32,
@@ -76,19 +67,15 @@ fn links_of<'a>(
     let mut here = lines;
     let mut left = count;
     'links: while left > 0 {
-        match one_link(alloc, here) {
-            Ok((link, after)) => {
-                all.push(link)?;
-                here = after;
-                left -= 1;
-            }
-            Err(stop) => return Err(stop),
-        }
+        let (link, after) = one_link(alloc, here)?;
+        all.push(link)?;
+        here = after;
+        left -= 1;
     }
     Ok((all, here))
 }
 
-/// A chain after the line before its links, and the lines after it.
+// A chain after the line before its links, and the lines after it.
 #[tactic(auto, unfolding(crate::specs::ReportGrammar::chain_after))]
 fn chain_after<'a>(
     alloc: Global,
@@ -105,22 +92,18 @@ fn chain_after<'a>(
     Ok((chain, lines))
 }
 
-/// The line before a chain's links, and the lines after it.
+// The line before a chain's links, and the lines after it.
 #[tactic(auto, unfolding(dns_session::specs::LinePlaces::one))]
 fn one_head<'a>(lines: Lines<'a>) -> Result<(ChainHead, Lines<'a>), SessionStop>
     ensures { ReadsAs (λ x. (x.0, x.1)) result (one chain_line lines.entry) }
 {
     let bad = SessionStop::BadLine(lines.number());
-    match lines.next() {
-        Some((line, after)) => match head_of(line) {
-            Some(head) => Ok((head, after)),
-            None => Err(bad),
-        },
-        None => Err(bad),
-    }
+    let (line, after) = lines.next().ok_or(bad)?;
+    let head = head_of(line).ok_or(bad)?;
+    Ok((head, after))
 }
 
-/// The next chain, and the lines after it.
+// The next chain, and the lines after it.
 fn one_chain<'a>(alloc: Global, lines: Lines<'a>) -> Result<(Chain, Lines<'a>), SessionStop>
     ensures { ReadsAs (λ x. (x.0, x.1)) result (one_chain lines.entry) }
 {
@@ -128,14 +111,11 @@ fn one_chain<'a>(alloc: Global, lines: Lines<'a>) -> Result<(Chain, Lines<'a>), 
     chain_after(alloc, head, lines)
 }
 
-/// Whether the next line begins a chain.
+// Whether the next line begins a chain.
 fn begins_chain(lines: &Lines<'_>) -> bool
     ensures { result ≡ is_some (read_next chain_line lines.now) }
 {
-    match lines.next() {
-        Some((line, _)) => head_of(line).is_some(),
-        None => false,
-    }
+    matches!(lines.next(), Some((line, _)) if head_of(line).is_some())
 }
 
 /// As many chains as there are, and the lines after them.
@@ -148,13 +128,9 @@ pub(crate) fn chains_at<'a>(
     let mut all = Vec::new(alloc);
     let mut here = lines;
     'chains: while begins_chain(&here) {
-        match one_chain(alloc, here) {
-            Ok((chain, rest)) => {
-                all.push(chain)?;
-                here = rest;
-            }
-            Err(stop) => return Err(stop),
-        }
+        let (chain, rest) = one_chain(alloc, here)?;
+        all.push(chain)?;
+        here = rest;
     }
     Ok((all, here))
 }

@@ -7,8 +7,7 @@ ghost use Rattle.dns_audit.specs.ReportWords.{ask_in, rdata_in};
 
 use crate::report_words::{ask_in, rdata_in};
 use dns_model::AskRef;
-use dns_name::NoMemory;
-use dns_record::Rdata;
+use dns_record::{NoMemory, Rdata};
 use dns_session::next_word;
 use std::alloc::Global;
 

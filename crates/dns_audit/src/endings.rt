@@ -10,7 +10,7 @@ use crate::each::asks_of;
 use crate::word_cuts::{first_of, three_of};
 use dns_evidence::Ending;
 use dns_model::AskRef;
-use dns_name::NoMemory;
+use dns_record::NoMemory;
 use dns_session::after;
 use dns_text::{class_word_in, name_word_in, type_word_in};
 use std::alloc::Global;
@@ -34,7 +34,7 @@ impl Model for StepEnd {
     ghost view = { λ e. record { ending = ending_value e.ending; excuse = e.excuse.items } };
 }
 
-/// An ending at a record of another class, and what is left after it.
+// An ending at a record of another class, and what is left after it.
 fn foreign_in<'a>(
     alloc: Global,
     rest: Option<&'a [u8]>,
@@ -62,17 +62,15 @@ fn foreign_in<'a>(
     Ok(Some((ending, left)))
 }
 
-/// An ending of another kind, by its first word, and what is left after it.
+// An ending of another kind, by its first word, and what is left after it.
 #[tactic(auto, unfolding(crate::specs::ReportLines::plain_by))]
 fn plain_by<'a>(kind: &[u8], rest: Option<&'a [u8]>) -> Option<(Ending, Option<&'a [u8]>)>
     ensures { option_map (λ e. (ending_value e.0, words_left (option_copied e.1))) result
         ≡ plain_by kind.now (words_left (option_copied rest.entry)) }
 {
     if kind == b"denied".as_slice() {
-        return match mark_front(rest) {
-            Some((mark, left)) => Some((Ending::Denied(mark), left)),
-            None => None,
-        };
+        let (mark, left) = mark_front(rest)?;
+        return Some((Ending::Denied(mark), left));
     }
     if kind == b"failed".as_slice() {
         return Some((Ending::Failed, rest));
@@ -80,13 +78,11 @@ fn plain_by<'a>(kind: &[u8], rest: Option<&'a [u8]>) -> Option<(Ending, Option<&
     if kind == b"seen".as_slice() {
         return Some((Ending::Seen, rest));
     }
-    match denial_by(kind, rest) {
-        Some((denial, left)) => Some((Ending::Answered(denial), left)),
-        None => None,
-    }
+    let (denial, left) = denial_by(kind, rest)?;
+    Some((Ending::Answered(denial), left))
 }
 
-/// An ending, by its first word, and what is left after it.
+// An ending, by its first word, and what is left after it.
 #[tactic(auto, unfolding(crate::specs::ReportLines::ending_by))]
 fn ending_by<'a>(
     alloc: Global,
@@ -103,29 +99,28 @@ fn ending_by<'a>(
     }
 }
 
-/// What ends a step, by the words that are left.
+// What ends a step, by the words that are left.
 fn ending_in(alloc: Global, rest: Option<&[u8]>) -> Result<Option<StepEnd>, NoMemory>
     ensures { IfOk result (λ e. e ≡ ending_in (words_left (option_copied rest.entry))) }
 {
     let Some((kind, more)) = first_of(rest) else {
         return Ok(None);
     };
-    match ending_by(alloc, kind, more) {
-        Ok(Some((ending, left))) => match asks_of(alloc, left)? {
-            Some(excuse) => Ok(Some(StepEnd { ending, excuse })),
-            None => Ok(None),
-        },
-        Ok(None) => Ok(None),
-        Err(error) => Err(error),
-    }
+    let Some((ending, left)) = ending_by(alloc, kind, more)? else {
+        return Ok(None);
+    };
+    let Some(excuse) = asks_of(alloc, left)? else {
+        return Ok(None);
+    };
+    Ok(Some(StepEnd { ending, excuse }))
 }
 
 /// What ends a step, by its line.
 pub(crate) fn ending_of(alloc: Global, line: &[u8]) -> Result<Option<StepEnd>, NoMemory>
     ensures { IfOk result (λ e. e ≡ ending_line line.now) }
 {
-    match after(line, b"ending") {
-        Some(rest) => ending_in(alloc, rest),
-        None => Ok(None),
-    }
+    let Some(rest) = after(line, b"ending") else {
+        return Ok(None);
+    };
+    ending_in(alloc, rest)
 }

@@ -9,13 +9,12 @@ use crate::each::rdatas_of;
 use crate::report_words::{rdata_in, u32_in};
 use crate::word_cuts::{first_of, quintuple, six_of, two_of};
 use dns_evidence::Link;
-use dns_name::NoMemory;
-use dns_record::Rdata;
+use dns_record::{NoMemory, Rdata};
 use dns_session::{next_word, triple};
 use dns_text::{class_word_in, name_word_in, type_word_in};
 use std::alloc::Global;
 
-/// A link to an anchored key, by the words that are left.
+// A link to an anchored key, by the words that are left.
 fn anchored_in(alloc: Global, rest: Option<&[u8]>) -> Result<Option<Link>, NoMemory>
     ensures { IfOk result (λ l. option_map link_value l ≡ anchored_in (words_left (option_copied rest.entry))) }
 {
@@ -34,7 +33,7 @@ fn anchored_in(alloc: Global, rest: Option<&[u8]>) -> Result<Option<Link>, NoMem
     Ok(Some(Link::Anchored { owner, class, key }))
 }
 
-/// A link to a key that matches a DS record, by the words that are left.
+// A link to a key that matches a DS record, by the words that are left.
 fn matched_in(alloc: Global, rest: Option<&[u8]>) -> Result<Option<Link>, NoMemory>
     ensures { IfOk result (λ l. option_map link_value l ≡ matched_in (words_left (option_copied rest.entry))) }
 {
@@ -65,7 +64,7 @@ fn matched_in(alloc: Global, rest: Option<&[u8]>) -> Result<Option<Link>, NoMemo
     }))
 }
 
-/// A key and the number before it, by the word of the number and what is left after that.
+// A key and the number before it, by the word of the number and what is left after that.
 #[tactic(auto, unfolding(crate::specs::ReportLines::numbered_key))]
 fn numbered_key<'a>(
     alloc: Global,
@@ -78,17 +77,16 @@ fn numbered_key<'a>(
     let Some(link) = u32_in(number) else {
         return Ok(None);
     };
-    match first_of(rest) {
-        Some((word, left)) => match rdata_in(alloc, word) {
-            Ok(Some(key)) => Ok(Some((link, key, left))),
-            Ok(None) => Ok(None),
-            Err(error) => Err(error),
-        },
-        None => Ok(None),
-    }
+    let Some((word, left)) = first_of(rest) else {
+        return Ok(None);
+    };
+    let Some(key) = rdata_in(alloc, word)? else {
+        return Ok(None);
+    };
+    Ok(Some((link, key, left)))
 }
 
-/// The numbers of links and the keys that are left.
+// The numbers of links and the keys that are left.
 fn numbered_in(
     alloc: Global,
     rest: Option<&[u8]>,
@@ -101,20 +99,19 @@ fn numbered_in(
     let mut left = rest;
     while let Some(text) = left {
         let (number, more) = next_word(text);
-        match numbered_key(alloc, number, more) {
-            Ok(Some((link, key, after))) => {
+        match numbered_key(alloc, number, more)? {
+            Some((link, key, after)) => {
                 links.push(link)?;
                 keys.push(key)?;
                 left = after;
             }
-            Ok(None) => return Ok(None),
-            Err(error) => return Err(error),
+            None => return Ok(None),
         }
     }
     Ok(Some((links, keys)))
 }
 
-/// A link to a key set, by the words that are left.
+// A link to a key set, by the words that are left.
 fn key_set_in(alloc: Global, rest: Option<&[u8]>) -> Result<Option<Link>, NoMemory>
     ensures { IfOk result (λ l. option_map link_value l ≡ key_set_in (words_left (option_copied rest.entry))) }
 {
@@ -138,7 +135,7 @@ fn key_set_in(alloc: Global, rest: Option<&[u8]>) -> Result<Option<Link>, NoMemo
     }))
 }
 
-/// A link to a signed set, by the words that are left.
+// A link to a signed set, by the words that are left.
 fn signed_in(alloc: Global, rest: Option<&[u8]>) -> Result<Option<Link>, NoMemory>
     ensures { IfOk result (λ l. option_map link_value l ≡ signed_in (words_left (option_copied rest.entry))) }
 {

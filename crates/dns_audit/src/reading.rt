@@ -1,3 +1,4 @@
+//! Reading a report, line after line, alone or after the session that it answers.
 ghost use Rattle.std.specs.Prelude.{◌≡◌, ◌<◌, ◌^◌, length, IfOk};
 ghost use Rattle.dns_model.specs.declared.section.Section.TheVariants.{Answer, Authority, Additional};
 ghost use Rattle.dns_session.specs.LinePlaces.{Place, one, many};
@@ -8,7 +9,7 @@ ghost use Rattle.dns_audit.specs.ReportGrammar.{end_at, report_at, audit_of};
 
 use crate::answer_lines::{code_of, denial_of};
 use crate::chains::chains_at;
-use crate::records::{RecordKind, Sections, sections_of};
+use crate::records::{RecordKind, Sections, read_sections};
 use crate::report::Report;
 use crate::steps::trail_at;
 use dns_model::Denial;
@@ -16,72 +17,55 @@ use dns_record::ResponseCode;
 use dns_session::{Lines, Session, SessionStop, read_front};
 use std::alloc::Global;
 
-/// The lines after the one that names the form.
+// The lines after the one that names the form.
 #[tactic(auto, unfolding(dns_session::specs::LinePlaces::one))]
 fn after_header<'a>(lines: Lines<'a>) -> Result<Lines<'a>, SessionStop>
     ensures { ReadsAs (λ (after : Place). (tt, after)) result (one report_header lines.entry) }
 {
     let bad = SessionStop::BadLine(lines.number());
-    match lines.next() {
-        Some((line, after)) => {
-            if line == b"dns-report 1".as_slice() {
-                Ok(after)
-            } else {
-                Err(bad)
-            }
-        }
-        None => Err(bad),
+    let (line, after) = lines.next().ok_or(bad)?;
+    if line != b"dns-report 1".as_slice() {
+        return Err(bad);
     }
+    Ok(after)
 }
 
-/// The code, and the lines after it.
+// The code, and the lines after it.
 #[tactic(auto, unfolding(dns_session::specs::LinePlaces::one))]
 fn one_code<'a>(lines: Lines<'a>) -> Result<(ResponseCode, Lines<'a>), SessionStop>
     ensures { ReadsAs (λ x. (x.0.0, x.1)) result (one code_line lines.entry) }
 {
     let bad = SessionStop::BadLine(lines.number());
-    match lines.next() {
-        Some((line, after)) => match code_of(line) {
-            Some(code) => Ok((code, after)),
-            None => Err(bad),
-        },
-        None => Err(bad),
-    }
+    let (line, after) = lines.next().ok_or(bad)?;
+    let code = code_of(line).ok_or(bad)?;
+    Ok((code, after))
 }
 
-/// The denial, and the lines after it.
+// The denial, and the lines after it.
 #[tactic(auto, unfolding(dns_session::specs::LinePlaces::one))]
 fn one_denial<'a>(lines: Lines<'a>) -> Result<(Denial, Lines<'a>), SessionStop>
     ensures { ReadsAs (λ x. (x.0, x.1)) result (one denial_line lines.entry) }
 {
     let bad = SessionStop::BadLine(lines.number());
-    match lines.next() {
-        Some((line, after)) => match denial_of(line) {
-            Some(denial) => Ok((denial, after)),
-            None => Err(bad),
-        },
-        None => Err(bad),
-    }
+    let (line, after) = lines.next().ok_or(bad)?;
+    let denial = denial_of(line).ok_or(bad)?;
+    Ok((denial, after))
 }
 
-/// Nothing, where the next line is the last and no byte follows it.
+// Nothing, where the next line is the last and no byte follows it.
 #[tactic(auto, unfolding(dns_session::specs::LinePlaces::one))]
 fn end<'a>(lines: Lines<'a>) -> Result<(), SessionStop>
     ensures { ReadsAs (λ x. tt) result (end_at lines.entry) }
 {
     let bad = SessionStop::BadLine(lines.number());
-    match lines.next() {
-        Some((line, after)) => {
-            if line != b"end".as_slice() {
-                Err(bad)
-            } else if after.is_ended() {
-                Ok(())
-            } else {
-                Err(SessionStop::BadLine(after.number()))
-            }
-        }
-        None => Err(bad),
+    let (line, after) = lines.next().ok_or(bad)?;
+    if line != b"end".as_slice() {
+        return Err(bad);
     }
+    if !after.is_ended() {
+        return Err(SessionStop::BadLine(after.number()));
+    }
+    Ok(())
 }
 
 /// The report that the next lines are, with which the text ends. Lines end with LF, words are separated by one space.
@@ -95,7 +79,7 @@ pub fn read_report<'a>(alloc: Global, lines: Lines<'a>) -> Result<Report, Sessio
     let lines = after_header(lines)?;
     let (code, lines) = one_code(lines)?;
     let (denial, lines) = one_denial(lines)?;
-    let (sections, lines) = sections_of(alloc, RecordKind::Marked, lines)?;
+    let (sections, lines) = read_sections(alloc, RecordKind::Marked, lines)?;
     let (chains, lines) = chains_at(alloc, lines)?;
     let (trail, lines) = trail_at(alloc, lines)?;
     end(lines)?;

@@ -3,18 +3,16 @@ ghost use Rattle.std.specs.Prelude.{◌≡◌, List, ℕ, Option, IfOk};
 ghost use Rattle.std.specs.Option.{option_map, option_copied};
 ghost use Rattle.dns_model.specs.Records.{Rr};
 ghost use Rattle.dns_model.specs.declared.section.Section.{Section};
-ghost use Rattle.dns_model.specs.declared.section.Section.TheVariants.{Answer, Authority, Additional};
 ghost use Rattle.dns_report.specs.LineWords.{section_word};
 ghost use Rattle.dns_session.specs.LinePlaces.{many};
 ghost use Rattle.dns_session.specs.Lines.{words_left};
 ghost use Rattle.dns_audit.specs.ReportLines.{record_in, record_line, unmarked_in, told_line, after_told};
-ghost use Rattle.dns_audit.specs.RecordForms.{line_of};
+ghost use Rattle.dns_audit.specs.RecordForms.{line_of, sections_at};
 
 use crate::report_words::{mark_in, rdata_in, u32_in};
 use crate::word_cuts::{quintuple, sextuple};
 use dns_model::{Proof, Section};
-use dns_name::NoMemory;
-use dns_record::Record;
+use dns_record::{NoMemory, Record};
 use dns_session::{Lines, after};
 use dns_text::{class_word_in, name_word_in, type_word_in};
 use std::alloc::Global;
@@ -36,7 +34,7 @@ pub(crate) struct Sections {
     pub additionals: Vec<Record>,
 }
 
-/// The word of a section.
+// The word of a section.
 fn section_word(section: Section) -> &'static [u8]
     ensures { result.now ≡ section_word section }
 {
@@ -47,7 +45,7 @@ fn section_word(section: Section) -> &'static [u8]
     }
 }
 
-/// A record without a mark, by its words.
+// A record without a mark, by its words.
 fn unmarked_in(
     alloc: Global,
     name: &[u8],
@@ -83,7 +81,7 @@ fn unmarked_in(
     }))
 }
 
-/// A record with its mark, by its words.
+// A record with its mark, by its words.
 fn record_in(
     alloc: Global,
     name: &[u8],
@@ -105,47 +103,41 @@ fn record_in(
     Ok(Some(record))
 }
 
-/// A record of an answer's section, by its line.
+// A record of an answer's section, by its line.
 fn marked_of(alloc: Global, section: Section, line: &[u8]) -> Result<Option<Record>, NoMemory>
     ensures { IfOk result (λ r. r ≡ record_line section line.now) }
 {
-    match after(line, section_word(section)) {
-        Some(rest) => match sextuple(rest) {
-            Some((name, class, record_type, ttl, mark, rdata)) => {
-                record_in(alloc, name, class, record_type, ttl, mark, rdata)
-            }
-            None => Ok(None),
-        },
-        None => Ok(None),
-    }
+    let Some(rest) = after(line, section_word(section)) else {
+        return Ok(None);
+    };
+    let Some((name, class, record_type, ttl, mark, rdata)) = sextuple(rest) else {
+        return Ok(None);
+    };
+    record_in(alloc, name, class, record_type, ttl, mark, rdata)
 }
 
-/// What follows `told` and a section's word.
+// What follows `told` and a section's word.
 fn after_told<'a>(section: Section, line: &'a [u8]) -> Option<Option<&'a [u8]>>
     ensures { option_map (λ rest. words_left (option_copied rest)) result ≡ after_told section line.now }
 {
-    match after(line, b"told") {
-        Some(Some(more)) => after(more, section_word(section)),
-        _ => None,
-    }
+    let more = after(line, b"told")??;
+    after(more, section_word(section))
 }
 
-/// A record that a step was told in a section, by its line.
+// A record that a step was told in a section, by its line.
 fn told_of(alloc: Global, section: Section, line: &[u8]) -> Result<Option<Record>, NoMemory>
     ensures { IfOk result (λ r. r ≡ told_line section line.now) }
 {
-    match after_told(section, line) {
-        Some(rest) => match quintuple(rest) {
-            Some((name, class, record_type, ttl, rdata)) => {
-                unmarked_in(alloc, name, class, record_type, ttl, rdata)
-            }
-            None => Ok(None),
-        },
-        None => Ok(None),
-    }
+    let Some(rest) = after_told(section, line) else {
+        return Ok(None);
+    };
+    let Some((name, class, record_type, ttl, rdata)) = quintuple(rest) else {
+        return Ok(None);
+    };
+    unmarked_in(alloc, name, class, record_type, ttl, rdata)
 }
 
-/// A record, by its line.
+// A record, by its line.
 fn record_of(
     alloc: Global,
     kind: RecordKind,
@@ -182,17 +174,13 @@ pub(crate) fn records_of<'a>(
 }
 
 /// The records of an answer's three sections, or those that a step was told in them, and the lines after them.
-pub(crate) fn sections_of<'a>(
+pub(crate) fn read_sections<'a>(
     alloc: Global,
     kind: RecordKind,
     lines: Lines<'a>,
 ) -> Result<(Sections, Lines<'a>), NoMemory>
-    ensures { IfOk result (λ x.
-        let answers = many (line_of kind Answer) lines.entry in
-        let authorities = many (line_of kind Authority) answers.1 in
-        let additionals = many (line_of kind Additional) authorities.1 in
-        (x.0.answers.items ≡ answers.0) × (x.0.authorities.items ≡ authorities.0)
-        × (x.0.additionals.items ≡ additionals.0) × (x.1 ≡ additionals.1)) }
+    ensures { IfOk result (λ x. (x.0.answers.items, x.0.authorities.items, x.0.additionals.items, x.1)
+        ≡ sections_at (line_of kind) lines.entry) }
 {
     let (answers, lines) = records_of(alloc, kind, Section::Answer, lines)?;
     let (authorities, lines) = records_of(alloc, kind, Section::Authority, lines)?;

@@ -1,3 +1,4 @@
+//! What a report says.
 use dns_evidence::{Chain, Trail};
 use dns_model::Denial;
 use dns_record::{Record, ResponseCode};

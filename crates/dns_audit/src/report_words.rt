@@ -7,8 +7,7 @@ ghost use Rattle.dns_text.specs.Codes.{after_prefix};
 ghost use Rattle.dns_audit.specs.ReportWords.{u32_in, rdata_in, mark_in, section_in, purpose_in, ask_in, origin_in, place_in};
 
 use dns_model::{AskRef, MarkOrigin, Proof, Section};
-use dns_name::NoMemory;
-use dns_record::Rdata;
+use dns_record::{NoMemory, Rdata};
 use dns_text::{decimal_in, octets_in};
 use std::alloc::Global;
 
@@ -16,13 +15,11 @@ use std::alloc::Global;
 pub(crate) fn u32_in(word: &[u8]) -> Option<u32>
     ensures { result ≡ u32_in word.now }
 {
-    match decimal_in(word, 4_294_967_295) {
-        Some(number) => Some(number as u32),
-        None => None,
-    }
+    let number = decimal_in(word, 4_294_967_295)?;
+    Some(number as u32)
 }
 
-/// Whether a letter in upper case stands in a word. No branch looks at a byte, so that many are looked at at once.
+// Whether a letter in upper case stands in a word. No branch looks at a byte, so that many are looked at at once.
 fn has_upper(word: &[u8]) -> bool
     ensures { result ≡ list_any is_ascii_uppercase word.now }
 {
@@ -41,11 +38,10 @@ pub(crate) fn rdata_in(alloc: Global, word: &[u8]) -> Result<Option<Rdata>, NoMe
     let Some(bytes) = octets_in(alloc, word)? else {
         return Ok(None);
     };
-    if bytes.len() <= Rdata::MAX_LEN && !has_upper(word) {
-        Ok(Some(Rdata::from_octets(bytes)))
-    } else {
-        Ok(None)
+    if bytes.len() > Rdata::MAX_LEN || has_upper(word) {
+        return Ok(None);
     }
+    Ok(Some(Rdata::from_octets(bytes)))
 }
 
 /// A mark.
@@ -102,17 +98,16 @@ pub(crate) fn ask_in(word: &[u8]) -> Option<AskRef>
     ensures { result ≡ ask_in word.now }
 {
     if word == b"deep".as_slice() {
-        Some(AskRef::TooDeep)
-    } else if word == b"many".as_slice() {
-        Some(AskRef::TooMany)
-    } else if let Some(number) = u32_in(word) {
-        Some(AskRef::Step(number))
-    } else {
-        None
+        return Some(AskRef::TooDeep);
     }
+    if word == b"many".as_slice() {
+        return Some(AskRef::TooMany);
+    }
+    let number = u32_in(word)?;
+    Some(AskRef::Step(number))
 }
 
-/// What follows `repeat-`.
+// What follows `repeat-`.
 fn after_repeat(word: &[u8]) -> Option<&[u8]>
     ensures { option_copied result ≡ after_prefix (codes "repeat-") word.now }
 {
@@ -125,16 +120,13 @@ pub(crate) fn origin_in(word: &[u8]) -> Option<MarkOrigin>
     ensures { result ≡ origin_in word.now }
 {
     if word == b"table".as_slice() {
-        Some(MarkOrigin::Table)
-    } else if word == b"cache".as_slice() {
-        Some(MarkOrigin::Cache)
-    } else if let Some(digits) = after_repeat(word)
-        && let Some(number) = u32_in(digits)
-    {
-        Some(MarkOrigin::Repeat(number))
-    } else {
-        None
+        return Some(MarkOrigin::Table);
     }
+    if word == b"cache".as_slice() {
+        return Some(MarkOrigin::Cache);
+    }
+    let number = u32_in(after_repeat(word)?)?;
+    Some(MarkOrigin::Repeat(number))
 }
 
 /// The place of the signature that decided, or none.
@@ -143,10 +135,8 @@ pub(crate) fn place_in(word: &[u8]) -> Option<Option<u32>>
     ensures { result ≡ place_in word.now }
 {
     if word == b"-".as_slice() {
-        Some(None)
-    } else if let Some(place) = u32_in(word) {
-        Some(Some(place))
-    } else {
-        None
+        return Some(None);
     }
+    let place = u32_in(word)?;
+    Some(Some(place))
 }

@@ -9,12 +9,12 @@ use crate::each::asks_of;
 use crate::report_words::{mark_in, origin_in, place_in, section_in};
 use crate::word_cuts::six_of;
 use dns_evidence::JudgedSet;
-use dns_name::NoMemory;
+use dns_record::NoMemory;
 use dns_session::{Lines, after};
 use dns_text::{name_word_in, type_word_in};
 use std::alloc::Global;
 
-/// A set with its mark, by what is left of its line.
+// A set with its mark, by what is left of its line.
 fn set_in(alloc: Global, rest: Option<&[u8]>) -> Result<Option<JudgedSet>, NoMemory>
     ensures { IfOk result (λ s. s ≡ set_in (words_left (option_copied rest.entry))) }
 {
@@ -53,14 +53,14 @@ fn set_in(alloc: Global, rest: Option<&[u8]>) -> Result<Option<JudgedSet>, NoMem
     }))
 }
 
-/// A set with its mark, by its line.
+// A set with its mark, by its line.
 fn set_of(alloc: Global, line: &[u8]) -> Result<Option<JudgedSet>, NoMemory>
     ensures { IfOk result (λ s. s ≡ set_line line.now) }
 {
-    match after(line, b"set") {
-        Some(rest) => set_in(alloc, rest),
-        None => Ok(None),
-    }
+    let Some(rest) = after(line, b"set") else {
+        return Ok(None);
+    };
+    set_in(alloc, rest)
 }
 
 /// As many sets as there are, and the lines after them.

@@ -11,13 +11,12 @@ ghost use Rattle.dns_audit.specs.ReportGrammar.{times, told_at, step_at, steps_a
 ghost use Rattle.dns_audit.specs.Heard.{got_value};
 
 use crate::endings::{StepEnd, ending_of};
-use crate::records::{RecordKind, Sections, sections_of};
+use crate::records::{RecordKind, Sections, read_sections};
 use crate::report_words::{purpose_in, u32_in};
 use crate::sets::sets_of;
 use crate::word_cuts::first_of;
 use dns_evidence::{Asked, Reply, Told, Trail};
-use dns_name::NoMemory;
-use dns_record::{Query, ResponseCode};
+use dns_record::{NoMemory, Query, ResponseCode};
 use dns_session::{Lines, SessionStop, after, quadruple, question_of, single};
 use dns_text::u16_in;
 use std::alloc::Global;
@@ -51,20 +50,15 @@ pub(crate) enum Got {
     NoReply,
 }
 
-/// How many steps follow, by the line of a trail.
+// How many steps follow, by the line of a trail.
 fn count_of(line: &[u8]) -> Option<u32>
     ensures { result ≡ trail_line line.now }
 {
-    if let Some(rest) = after(line, b"trail")
-        && let Some(word) = single(rest)
-    {
-        u32_in(word)
-    } else {
-        None
-    }
+    let word = single(after(line, b"trail")?)?;
+    u32_in(word)
 }
 
-/// What begins a step, by its four words.
+// What begins a step, by its four words.
 fn step_in(
     alloc: Global,
     depth: &[u8],
@@ -90,32 +84,28 @@ fn step_in(
     }))
 }
 
-/// What begins a step, by its line.
+// What begins a step, by its line.
 fn head_of(alloc: Global, line: &[u8]) -> Result<Option<StepHead>, NoMemory>
     ensures { IfOk result (λ h. h ≡ step_line line.now) }
 {
-    match after(line, b"step") {
-        Some(rest) => match quadruple(rest) {
-            Some((depth, purpose, name, record_type)) => {
-                step_in(alloc, depth, purpose, name, record_type)
-            }
-            None => Ok(None),
-        },
-        None => Ok(None),
-    }
+    let Some(rest) = after(line, b"step") else {
+        return Ok(None);
+    };
+    let Some((depth, purpose, name, record_type)) = quadruple(rest) else {
+        return Ok(None);
+    };
+    step_in(alloc, depth, purpose, name, record_type)
 }
 
-/// A code, with or without `empty` behind it.
+// A code, with or without `empty` behind it.
 fn got_code(word: &[u8], empty: bool) -> Option<Got>
     ensures { option_map got_value result ≡ got_code empty word.now }
 {
-    match u16_in(word) {
-        Some(number) => Some(Got::Code(ResponseCode(number), empty)),
-        None => None,
-    }
+    let number = u16_in(word)?;
+    Some(Got::Code(ResponseCode(number), empty))
 }
 
-/// What was heard of a reply, by one word.
+// What was heard of a reply, by one word.
 fn got_one(word: &[u8]) -> Option<Got>
     ensures { option_map got_value result ≡ got_one word.now }
 {
@@ -126,7 +116,7 @@ fn got_one(word: &[u8]) -> Option<Got>
     }
 }
 
-/// What was heard of a reply, by its first word and what is left.
+// What was heard of a reply, by its first word and what is left.
 #[tactic(auto, unfolding(crate::specs::ReportLines::got_by), using(crate::proofs::ShortLines::got_more))]
 fn got_by(word: &[u8], rest: Option<&[u8]>) -> Option<Got>
     ensures { option_map got_value result ≡ got_by word.now (words_left (option_copied rest.entry)) }
@@ -134,80 +124,62 @@ fn got_by(word: &[u8], rest: Option<&[u8]>) -> Option<Got>
     if rest.is_none() {
         return got_one(word);
     }
-    if let Some(next) = single(rest)
-        && next == b"empty".as_slice()
-    {
+    let next = single(rest)?;
+    if next == b"empty".as_slice() {
         got_code(word, true)
     } else {
         None
     }
 }
 
-/// What was heard of a reply, by its line.
+// What was heard of a reply, by its line.
 fn got_of(line: &[u8]) -> Option<Got>
     ensures { option_map got_value result ≡ got_line line.now }
 {
-    if let Some(rest) = after(line, b"got")
-        && let Some((word, more)) = first_of(rest)
-    {
-        got_by(word, more)
-    } else {
-        None
-    }
+    let (word, more) = first_of(after(line, b"got")?)?;
+    got_by(word, more)
 }
 
-/// What begins the next step, and the lines after it.
+// What begins the next step, and the lines after it.
 #[tactic(auto, unfolding(dns_session::specs::LinePlaces::one))]
 fn one_head<'a>(alloc: Global, lines: Lines<'a>) -> Result<(StepHead, Lines<'a>), SessionStop>
     ensures { ReadsAs (λ x. (x.0, x.1)) result (one step_line lines.entry) }
 {
     let bad = SessionStop::BadLine(lines.number());
-    match lines.next() {
-        Some((line, after)) => match head_of(alloc, line)? {
-            Some(head) => Ok((head, after)),
-            None => Err(bad),
-        },
-        None => Err(bad),
-    }
+    let (line, after) = lines.next().ok_or(bad)?;
+    let head = head_of(alloc, line)?.ok_or(bad)?;
+    Ok((head, after))
 }
 
-/// What was heard next, and the lines after it.
+// What was heard next, and the lines after it.
 #[tactic(auto, unfolding(dns_session::specs::LinePlaces::one))]
 fn one_got<'a>(lines: Lines<'a>) -> Result<(Got, Lines<'a>), SessionStop>
     ensures { ReadsAs (λ x. (got_value x.0, x.1)) result (one got_line lines.entry) }
 {
     let bad = SessionStop::BadLine(lines.number());
-    match lines.next() {
-        Some((line, after)) => match got_of(line) {
-            Some(got) => Ok((got, after)),
-            None => Err(bad),
-        },
-        None => Err(bad),
-    }
+    let (line, after) = lines.next().ok_or(bad)?;
+    let got = got_of(line).ok_or(bad)?;
+    Ok((got, after))
 }
 
-/// What ends the step, and the lines after it.
+// What ends the step, and the lines after it.
 #[tactic(auto, unfolding(dns_session::specs::LinePlaces::one))]
 fn one_ending<'a>(alloc: Global, lines: Lines<'a>) -> Result<(StepEnd, Lines<'a>), SessionStop>
     ensures { ReadsAs (λ x. (x.0, x.1)) result (one ending_line lines.entry) }
 {
     let bad = SessionStop::BadLine(lines.number());
-    match lines.next() {
-        Some((line, after)) => match ending_of(alloc, line)? {
-            Some(end) => Ok((end, after)),
-            None => Err(bad),
-        },
-        None => Err(bad),
-    }
+    let (line, after) = lines.next().ok_or(bad)?;
+    let end = ending_of(alloc, line)?.ok_or(bad)?;
+    Ok((end, after))
 }
 
-/// What was heard of a reply, and the lines after it.
+// What was heard of a reply, and the lines after it.
 fn told_at<'a>(alloc: Global, got: Got, lines: Lines<'a>) -> Result<(Reply, Lines<'a>), NoMemory>
     ensures { IfOk result (λ x. (heard_value x.0, x.1) ≡ told_at (got_value got) lines.entry) }
 {
     match got {
         Got::Code(code, empty) => {
-            let (sections, lines) = sections_of(alloc, RecordKind::Told, lines)?;
+            let (sections, lines) = read_sections(alloc, RecordKind::Told, lines)?;
             let Sections {
                 answers,
                 authorities,
@@ -226,31 +198,16 @@ fn told_at<'a>(alloc: Global, got: Got, lines: Lines<'a>) -> Result<(Reply, Line
     }
 }
 
-/// The next step, and the lines after it.
+// The next step, and the lines after it.
 #[tactic(auto, unfolding(crate::specs::ReportGrammar::step_at))]
 fn step_at<'a>(alloc: Global, lines: Lines<'a>) -> Result<(Asked, Lines<'a>), SessionStop>
     ensures { ReadsAs (λ x. (x.0, x.1)) result (step_at lines.entry) }
 {
     let (head, lines) = one_head(alloc, lines)?;
     let (got, lines) = one_got(lines)?;
-    let Ok((reply, lines)) = told_at(alloc, got, lines) else {
-        drop(head);
-        return Err(SessionStop::NoMemory);
-    };
-    let Ok((sets, lines)) = sets_of(alloc, lines) else {
-        drop(reply);
-        drop(head);
-        return Err(SessionStop::NoMemory);
-    };
-    let (end, lines) = match one_ending(alloc, lines) {
-        Ok(read) => read,
-        Err(stop) => {
-            drop(sets);
-            drop(reply);
-            drop(head);
-            return Err(stop);
-        }
-    };
+    let (reply, lines) = told_at(alloc, got, lines)?;
+    let (sets, lines) = sets_of(alloc, lines)?;
+    let (end, lines) = one_ending(alloc, lines)?;
     let step = Asked {
         depth: head.depth,
         judged: head.judged,
@@ -263,7 +220,7 @@ fn step_at<'a>(alloc: Global, lines: Lines<'a>) -> Result<(Asked, Lines<'a>), Se
     Ok((step, lines))
 }
 
-/// So many steps, and the lines after them.
+// So many steps, and the lines after them.
 fn steps_of<'a>(
     alloc: Global,
     count: u32,
@@ -275,30 +232,25 @@ fn steps_of<'a>(
     let mut here = lines;
     let mut left = count;
     'steps: while left > 0 {
-        match step_at(alloc, here) {
-            Ok((step, after)) => {
-                all.push(step)?;
-                here = after;
-                left -= 1;
-            }
-            Err(stop) => return Err(stop),
-        }
+        let (step, after) = step_at(alloc, here)?;
+        all.push(step)?;
+        here = after;
+        left -= 1;
     }
     Ok((all, here))
 }
 
-/// How many steps follow, where the next line says it, and the lines after it.
+// How many steps follow, where the next line says it, and the lines after it.
 #[tactic(auto, unfolding(dns_session::specs::LinePlaces::optional))]
 fn optional_count<'a>(lines: Lines<'a>) -> (Option<u32>, Lines<'a>)
     ensures { result ≡ optional trail_line lines.entry }
 {
-    match lines.next() {
-        Some((line, after)) => match count_of(line) {
-            Some(count) => (Some(count), after),
-            None => (None, lines),
-        },
-        None => (None, lines),
+    if let Some((line, after)) = lines.next()
+        && let Some(count) = count_of(line)
+    {
+        return (Some(count), after);
     }
+    (None, lines)
 }
 
 /// A trail, where there is one, and the lines after it.

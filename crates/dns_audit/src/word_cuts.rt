@@ -11,16 +11,9 @@ pub(crate) fn quintuple(rest: Option<&[u8]>) -> Option<(&[u8], &[u8], &[u8], &[u
     ensures { option_map (λ x. (x.0.now, x.1.now, x.2.now, x.3.now, x.4.now)) result
         ≡ quintuple (words_left (option_copied rest.entry)) }
 {
-    match rest {
-        Some(text) => {
-            let (a, more) = next_word(text);
-            match quadruple(more) {
-                Some((b, c, d, e)) => Some((a, b, c, d, e)),
-                None => None,
-            }
-        }
-        None => None,
-    }
+    let (a, more) = next_word(rest?);
+    let (b, c, d, e) = quadruple(more)?;
+    Some((a, b, c, d, e))
 }
 
 /// The six words that are left.
@@ -28,16 +21,9 @@ pub(crate) fn sextuple(rest: Option<&[u8]>) -> Option<(&[u8], &[u8], &[u8], &[u8
     ensures { option_map (λ x. (x.0.now, x.1.now, x.2.now, x.3.now, x.4.now, x.5.now)) result
         ≡ sextuple (words_left (option_copied rest.entry)) }
 {
-    match rest {
-        Some(text) => {
-            let (a, more) = next_word(text);
-            match quintuple(more) {
-                Some((b, c, d, e, f)) => Some((a, b, c, d, e, f)),
-                None => None,
-            }
-        }
-        None => None,
-    }
+    let (a, more) = next_word(rest?);
+    let (b, c, d, e, f) = quintuple(more)?;
+    Some((a, b, c, d, e, f))
 }
 
 /// The next word, and what is left after it.
@@ -45,10 +31,7 @@ pub(crate) fn first_of(rest: Option<&[u8]>) -> Option<(&[u8], Option<&[u8]>)>
     ensures { option_map (λ x. (x.0.now, words_left (option_copied x.1))) result
         ≡ first_of (words_left (option_copied rest.entry)) }
 {
-    match rest {
-        Some(text) => Some(next_word(text)),
-        None => None,
-    }
+    Some(next_word(rest?))
 }
 
 /// The next two words, and what is left after them.
@@ -56,16 +39,9 @@ pub(crate) fn two_of(rest: Option<&[u8]>) -> Option<(&[u8], &[u8], Option<&[u8]>
     ensures { option_map (λ x. (x.0.now, x.1.now, words_left (option_copied x.2))) result
         ≡ two_of (words_left (option_copied rest.entry)) }
 {
-    match rest {
-        Some(text) => {
-            let (a, more) = next_word(text);
-            match first_of(more) {
-                Some((b, left)) => Some((a, b, left)),
-                None => None,
-            }
-        }
-        None => None,
-    }
+    let (a, more) = next_word(rest?);
+    let (b, left) = first_of(more)?;
+    Some((a, b, left))
 }
 
 /// The next three words, and what is left after them.
@@ -73,16 +49,9 @@ pub(crate) fn three_of(rest: Option<&[u8]>) -> Option<(&[u8], &[u8], &[u8], Opti
     ensures { option_map (λ x. (x.0.now, x.1.now, x.2.now, words_left (option_copied x.3))) result
         ≡ three_of (words_left (option_copied rest.entry)) }
 {
-    match rest {
-        Some(text) => {
-            let (a, more) = next_word(text);
-            match two_of(more) {
-                Some((b, c, left)) => Some((a, b, c, left)),
-                None => None,
-            }
-        }
-        None => None,
-    }
+    let (a, more) = next_word(rest?);
+    let (b, c, left) = two_of(more)?;
+    Some((a, b, c, left))
 }
 
 /// The next four words, and what is left after them.
@@ -90,16 +59,9 @@ pub(crate) fn four_of(rest: Option<&[u8]>) -> Option<(&[u8], &[u8], &[u8], &[u8]
     ensures { option_map (λ x. (x.0.now, x.1.now, x.2.now, x.3.now, words_left (option_copied x.4))) result
         ≡ four_of (words_left (option_copied rest.entry)) }
 {
-    match rest {
-        Some(text) => {
-            let (a, more) = next_word(text);
-            match three_of(more) {
-                Some((b, c, d, left)) => Some((a, b, c, d, left)),
-                None => None,
-            }
-        }
-        None => None,
-    }
+    let (a, more) = next_word(rest?);
+    let (b, c, d, left) = three_of(more)?;
+    Some((a, b, c, d, left))
 }
 
 /// The next six words, and what is left after them.
@@ -110,11 +72,7 @@ pub(crate) fn six_of(
         (λ x. (x.0.now, x.1.now, x.2.now, x.3.now, x.4.now, x.5.now, words_left (option_copied x.6))) result
         ≡ six_of (words_left (option_copied rest.entry)) }
 {
-    match two_of(rest) {
-        Some((a, b, more)) => match four_of(more) {
-            Some((c, d, e, f, left)) => Some((a, b, c, d, e, f, left)),
-            None => None,
-        },
-        None => None,
-    }
+    let (a, b, more) = two_of(rest)?;
+    let (c, d, e, f, left) = four_of(more)?;
+    Some((a, b, c, d, e, f, left))
 }

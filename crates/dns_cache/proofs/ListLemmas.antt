@@ -33,7 +33,8 @@ none_is key [] h = tt
 none_is key (e ∷ entries) h = (h.0, none_is key entries h.1)
 
 -- where the first entry has the key, no later one has
-pub apart : (key : CacheKeyValue) (e : EntryValue) (entries : List EntryValue) → IsDistinct key_eq (keys (e ∷ entries)) → has_key key e ≡ true → NoneHas key entries
+pub apart : (key : CacheKeyValue) (e : EntryValue) (entries : List EntryValue) → IsDistinct key_eq (keys (e ∷ entries))
+    → has_key key e ≡ true → NoneHas key entries
 unfolding IsDistinct
 apart key e entries distinct h =
     none_has key entries (subst (λ k. NoneIs k (keys entries)) (sym ((key_eq-Decides key e.key).0 h)) distinct.0)
@@ -78,20 +79,23 @@ none_found key (e ∷ entries) h = (elim (has_key key e) as (λ b. has_key key e
 pub hit_found : (key : CacheKeyValue) (now : ℕ) (entries : List EntryValue) (e : EntryValue)
     → find (has_key key) entries ≡ Some e → nat_lt now e.expires ≡ true → find (is_hit key now) entries ≡ Some e
 hit_found key now [] e h live = cc
-hit_found key now (f ∷ entries) e h live = (elim (has_key key f) as (λ b. has_key key f ≡ b → find (is_hit key now) (f ∷ entries) ≡ Some e) [
-  | true ↦ λ t. let at = rw t at h in let same : f ≡ e = cc in let lives : nat_lt now f.expires ≡ true = rw same live in rw (t, lives) (ap Some same)
-  | false ↦ λ t. rw (no_hit key now f t) (hit_found key now entries e (rw t at h) live)
-]) refl
+hit_found key now (f ∷ entries) e h live =
+    (elim (has_key key f) as (λ b. has_key key f ≡ b → find (is_hit key now) (f ∷ entries) ≡ Some e) [
+      | true ↦ λ t. let at = rw t at h in let same : f ≡ e = cc in let lives : nat_lt now f.expires ≡ true = rw same live in
+          rw (t, lives) (ap Some same)
+      | false ↦ λ t. rw (no_hit key now f t) (hit_found key now entries e (rw t at h) live)
+    ]) refl
 
 -- where it expires there is none
 pub none_lives : (key : CacheKeyValue) (now : ℕ) (entries : List EntryValue) (e : EntryValue) → IsDistinct key_eq (keys entries)
     → find (has_key key) entries ≡ Some e → nat_lt now e.expires ≡ false → find (is_hit key now) entries ≡ None
 none_lives key now [] e distinct h dead = refl
-none_lives key now (f ∷ entries) e distinct h dead = (elim (has_key key f) as (λ b. has_key key f ≡ b → find (is_hit key now) (f ∷ entries) ≡ None) [
-  | true ↦ λ t. let at = rw t at h in let same : f ≡ e = cc in let over : nat_lt now f.expires ≡ false = rw same dead in
-      rw (expired key now f over) (none_hit key now entries (apart key f entries distinct t))
-  | false ↦ λ t. rw (no_hit key now f t) (none_lives key now entries e (rest_distinct f entries distinct) (rw t at h) dead)
-]) refl
+none_lives key now (f ∷ entries) e distinct h dead =
+    (elim (has_key key f) as (λ b. has_key key f ≡ b → find (is_hit key now) (f ∷ entries) ≡ None) [
+      | true ↦ λ t. let at = rw t at h in let same : f ≡ e = cc in let over : nat_lt now f.expires ≡ false = rw same dead in
+          rw (expired key now f over) (none_hit key now entries (apart key f entries distinct t))
+      | false ↦ λ t. rw (no_hit key now f t) (none_lives key now entries e (rest_distinct f entries distinct) (rw t at h) dead)
+    ]) refl
 
 -- ---- what is left
 
@@ -99,63 +103,73 @@ pub none_left_out : (key : CacheKeyValue) (entries : List EntryValue) → NoneHa
 none_left_out key [] h = refl
 none_left_out key (e ∷ entries) h = rw h.0 (ap (λ es. e ∷ es) (none_left_out key entries h.1))
 
-all_in : (P : EntryValue → Type 0) (entries : List EntryValue) (n : ℕ) (d : EntryValue) → n < length entries → AllByRecursion P entries → P (get_or entries n d)
+all_in : (P : EntryValue → Type 0) (entries : List EntryValue) (n : ℕ) (d : EntryValue) → n < length entries
+    → AllByRecursion P entries → P (get_or entries n d)
 all_in P [] n d h all = absurd (omega arith)
 all_in P (e ∷ entries) zero d h all = all.0
 all_in P (e ∷ entries) (suc n) d h all = all_in P entries n d (omega arith) all.1
 
 -- the one at the place of the key's entry
-pub removed : (key : CacheKeyValue) (entries : List EntryValue) (n : ℕ) (d : EntryValue) → IsDistinct key_eq (keys entries) → n < length entries
+pub removed : (key : CacheKeyValue) (entries : List EntryValue) (n : ℕ) (d : EntryValue) → IsDistinct key_eq (keys entries)
+    → n < length entries
     → has_key key (get_or entries n d) ≡ true → remove entries n ≡ without key entries
 removed key [] n d distinct within h = absurd (omega arith)
 removed key (e ∷ entries) zero d distinct within h =
     rw h (sym (none_left_out key entries (apart key e entries distinct h)))
-removed key (e ∷ entries) (suc n) d distinct within h = (elim (has_key key e) as (λ b. has_key key e ≡ b → remove (e ∷ entries) (suc n) ≡ without key (e ∷ entries)) [
-  | true ↦ λ t. absurd (true≢false (sym h ∙ all_in (λ f. has_key key f ≡ false) entries n d (omega arith) (apart key e entries distinct t)))
-  | false ↦ λ t. rw t (ap (λ es. e ∷ es) (removed key entries n d (rest_distinct e entries distinct) (omega arith) h))
-]) refl
+removed key (e ∷ entries) (suc n) d distinct within h =
+    (elim (has_key key e) as (λ b. has_key key e ≡ b → remove (e ∷ entries) (suc n) ≡ without key (e ∷ entries)) [
+      | true ↦ λ t. absurd (true≢false (sym h
+          ∙ all_in (λ f. has_key key f ≡ false) entries n d (omega arith) (apart key e entries distinct t)))
+      | false ↦ λ t. rw t (ap (λ es. e ∷ es) (removed key entries n d (rest_distinct e entries distinct) (omega arith) h))
+    ]) refl
 
 pub length-without : (key : CacheKeyValue) (entries : List EntryValue) → length (without key entries) ≤ length entries
 length-without key [] = omega arith
-length-without key (e ∷ entries) = let rest = length-without key entries in (elim (has_key key e) as (λ b. has_key key e ≡ b → length (without key (e ∷ entries)) ≤ length (e ∷ entries)) [
-  | true ↦ λ t. rw t (omega arith)
-  | false ↦ λ t. rw t (omega arith)
-]) refl
+length-without key (e ∷ entries) = let rest = length-without key entries in
+    (elim (has_key key e) as (λ b. has_key key e ≡ b → length (without key (e ∷ entries)) ≤ length (e ∷ entries)) [
+      | true ↦ λ t. rw t (omega arith)
+      | false ↦ λ t. rw t (omega arith)
+    ]) refl
 
 -- fewer where there was a hit
 pub length-hit : (key : CacheKeyValue) (now : ℕ) (entries : List EntryValue) (e : EntryValue) → find (is_hit key now) entries ≡ Some e
     → length (without key entries) + 1 ≤ length entries
 length-hit key now [] e h = cc
-length-hit key now (f ∷ entries) e h = (elim (has_key key f) as (λ b. has_key key f ≡ b → length (without key (f ∷ entries)) + 1 ≤ length (f ∷ entries)) [
-  | true ↦ λ t. let rest = length-without key entries in rw t (omega arith)
-  | false ↦ λ t. let rest = length-hit key now entries e (rw (no_hit key now f t) at h) in rw t (omega arith)
-]) refl
+length-hit key now (f ∷ entries) e h =
+    (elim (has_key key f) as (λ b. has_key key f ≡ b → length (without key (f ∷ entries)) + 1 ≤ length (f ∷ entries)) [
+      | true ↦ λ t. let rest = length-without key entries in rw t (omega arith)
+      | false ↦ λ t. let rest = length-hit key now entries e (rw (no_hit key now f t) at h) in rw t (omega arith)
+    ]) refl
 
 -- fewer where an entry has the key
 pub length-found : (key : CacheKeyValue) (entries : List EntryValue) (e : EntryValue) → find (has_key key) entries ≡ Some e
     → length (without key entries) + 1 ≤ length entries
 length-found key [] e h = cc
-length-found key (f ∷ entries) e h = (elim (has_key key f) as (λ b. has_key key f ≡ b → length (without key (f ∷ entries)) + 1 ≤ length (f ∷ entries)) [
-  | true ↦ λ t. let rest = length-without key entries in rw t (omega arith)
-  | false ↦ λ t. let rest = length-found key entries e (rw t at h) in rw t (omega arith)
-]) refl
+length-found key (f ∷ entries) e h =
+    (elim (has_key key f) as (λ b. has_key key f ≡ b → length (without key (f ∷ entries)) + 1 ≤ length (f ∷ entries)) [
+      | true ↦ λ t. let rest = length-without key entries in rw t (omega arith)
+      | false ↦ λ t. let rest = length-found key entries e (rw t at h) in rw t (omega arith)
+    ]) refl
 
 -- ---- keys stay apart
 
-all_left : (P : CacheKeyValue → Type 0) (key : CacheKeyValue) (entries : List EntryValue) → AllByRecursion P (keys entries) → AllByRecursion P (keys (without key entries))
+all_left : (P : CacheKeyValue → Type 0) (key : CacheKeyValue) (entries : List EntryValue) → AllByRecursion P (keys entries)
+    → AllByRecursion P (keys (without key entries))
 all_left P key [] all = tt
 all_left P key (e ∷ entries) all = (elim (has_key key e) as (λ b. has_key key e ≡ b → AllByRecursion P (keys (without key (e ∷ entries)))) [
   | true ↦ λ t. rw t (all_left P key entries all.1)
   | false ↦ λ t. rw t (all.0, all_left P key entries all.1)
 ]) refl
 
-pub distinct-without : (key : CacheKeyValue) (entries : List EntryValue) → IsDistinct key_eq (keys entries) → IsDistinct key_eq (keys (without key entries))
+pub distinct-without : (key : CacheKeyValue) (entries : List EntryValue) → IsDistinct key_eq (keys entries)
+    → IsDistinct key_eq (keys (without key entries))
 unfolding IsDistinct
 distinct-without key [] distinct = tt
-distinct-without key (e ∷ entries) distinct = (elim (has_key key e) as (λ b. has_key key e ≡ b → IsDistinct key_eq (keys (without key (e ∷ entries)))) [
-  | true ↦ λ t. rw t (distinct-without key entries distinct.1)
-  | false ↦ λ t. rw t (all_left (λ k. key_eq e.key k ≡ false) key entries distinct.0, distinct-without key entries distinct.1)
-]) refl
+distinct-without key (e ∷ entries) distinct =
+    (elim (has_key key e) as (λ b. has_key key e ≡ b → IsDistinct key_eq (keys (without key (e ∷ entries)))) [
+      | true ↦ λ t. rw t (distinct-without key entries distinct.1)
+      | false ↦ λ t. rw t (all_left (λ k. key_eq e.key k ≡ false) key entries distinct.0, distinct-without key entries distinct.1)
+    ]) refl
 
 -- of what is left none has the key
 others : (key : CacheKeyValue) (entries : List EntryValue) → NoneIs key (keys (without key entries))
@@ -165,11 +179,13 @@ others key (e ∷ entries) = (elim (has_key key e) as (λ b. has_key key e ≡ b
   | false ↦ λ t. rw t (t, others key entries)
 ]) refl
 
-distinct-front : (e : EntryValue) (entries : List EntryValue) → IsDistinct key_eq (keys entries) → IsDistinct key_eq (keys (e ∷ without e.key entries))
+distinct-front : (e : EntryValue) (entries : List EntryValue) → IsDistinct key_eq (keys entries)
+    → IsDistinct key_eq (keys (e ∷ without e.key entries))
 unfolding IsDistinct
 distinct-front e entries distinct = (others e.key entries, distinct-without e.key entries distinct)
 
-all_taken : (P : CacheKeyValue → Type 0) (n : ℕ) (entries : List EntryValue) → AllByRecursion P (keys entries) → AllByRecursion P (keys (take n entries))
+all_taken : (P : CacheKeyValue → Type 0) (n : ℕ) (entries : List EntryValue) → AllByRecursion P (keys entries)
+    → AllByRecursion P (keys (take n entries))
 all_taken P zero entries all = tt
 all_taken P (suc n) [] all = tt
 all_taken P (suc n) (e ∷ entries) all = (all.0, all_taken P n entries all.1)
@@ -178,7 +194,8 @@ distinct-take : (n : ℕ) (entries : List EntryValue) → IsDistinct key_eq (key
 unfolding IsDistinct
 distinct-take zero entries distinct = tt
 distinct-take (suc n) [] distinct = tt
-distinct-take (suc n) (e ∷ entries) distinct = (all_taken (λ k. key_eq e.key k ≡ false) n entries distinct.0, distinct-take n entries distinct.1)
+distinct-take (suc n) (e ∷ entries) distinct =
+    (all_taken (λ k. key_eq e.key k ≡ false) n entries distinct.0, distinct-take n entries distinct.1)
 
 -- ---- the list stays one of a cache
 
@@ -215,13 +232,15 @@ empty_is capacity = record { distinct = tt; fits = omega arith }
 -- ---- by places
 
 place_of_first : {X : Type 0} (test : X → Bool) (xs : List X) (i : ℕ) → position test xs ≡ Some i → position_or_len test xs ≡ i
-place_of_first test xs i h = (elim (nat_lt (position_or_len test xs) (length xs)) as (λ b. nat_lt (position_or_len test xs) (length xs) ≡ b → position_or_len test xs ≡ i) [
-  | true ↦ λ t. let at : Some (position_or_len test xs) ≡ Some i = rw t at h in cc
-  | false ↦ λ t. let at : None ≡ Some i = rw t at h in cc
-]) refl
+place_of_first test xs i h = (elim (nat_lt (position_or_len test xs) (length xs)) as
+    (λ b. nat_lt (position_or_len test xs) (length xs) ≡ b → position_or_len test xs ≡ i) [
+      | true ↦ λ t. let at : Some (position_or_len test xs) ≡ Some i = rw t at h in cc
+      | false ↦ λ t. let at : None ≡ Some i = rw t at h in cc
+    ]) refl
 
 -- the element at the first place that passes is the one that is found
-pub found_at : {X : Type 0} (test : X → Bool) (xs : List X) (i : ℕ) (x : X) → position test xs ≡ Some i → x ≡ get_or xs i x → find test xs ≡ Some x
+pub found_at : {X : Type 0} (test : X → Bool) (xs : List X) (i : ℕ) (x : X) → position test xs ≡ Some i → x ≡ get_or xs i x
+    → find test xs ≡ Some x
 found_at test xs i x h e =
     let within = (position-Some test xs i x h).0 in
     find_at test xs ∙ ap (slice_get xs) (place_of_first test xs i h) ∙ slice_get_read xs (length xs) i x refl within e
@@ -233,15 +252,17 @@ past_end (x ∷ xs) (suc n) h = past_end xs n (omega arith)
 
 -- without such a place nothing is found
 pub found_nowhere : {X : Type 0} (test : X → Bool) (xs : List X) → position test xs ≡ None → find test xs ≡ None
-found_nowhere test xs h = (elim (nat_lt (position_or_len test xs) (length xs)) as (λ b. nat_lt (position_or_len test xs) (length xs) ≡ b → find test xs ≡ None) [
-  | true ↦ λ t. let at : Some (position_or_len test xs) ≡ None = rw t at h in cc
-  | false ↦ λ t. find_at test xs ∙ past_end xs (position_or_len test xs) (grind (arith, nat_tests, t))
-]) refl
+found_nowhere test xs h = (elim (nat_lt (position_or_len test xs) (length xs)) as (λ b. nat_lt (position_or_len test xs) (length xs) ≡ b
+    → find test xs ≡ None) [
+      | true ↦ λ t. let at : Some (position_or_len test xs) ≡ None = rw t at h in cc
+      | false ↦ λ t. find_at test xs ∙ past_end xs (position_or_len test xs) (grind (arith, nat_tests, t))
+    ]) refl
 
 -- what a slice was written over, put back whole
 pub whole : {X : Type 0} (old new : List X) (n : ℕ) → length new ≡ length old → n ≡ length old → take n (new ++ drop (length new) old) ≡ new
 whole old new n long is =
-    ap (λ rest. take n (new ++ rest)) (drop_all (length new) old (omega arith)) ∙ ap (take n) (append-nil new) ∙ take_all n new (omega arith)
+    ap (λ rest. take n (new ++ rest)) (drop_all (length new) old (omega arith)) ∙ ap (take n) (append-nil new)
+    ∙ take_all n new (omega arith)
 
 -- the list after a get, by the place of the hit
 pub got : (key : CacheKeyValue) (now : ℕ) (old new : List EntryValue) (capacity place : ℕ) (e : EntryValue) → IsDistinct key_eq (keys old)
@@ -250,8 +271,10 @@ pub got : (key : CacheKeyValue) (now : ℕ) (old new : List EntryValue) (capacit
 got key now old new capacity place e distinct first at moved =
     let found = found_at (is_hit key now) old place e first at in
     let passes = position-Some (is_hit key now) old place e first in
-    let has : has_key key (get_or old place e) ≡ true = first_test (has_key key (get_or old place e)) (nat_lt now (get_or old place e).expires) passes.1 in
-    let list : new ≡ e ∷ without key old = moved e ∙ ap (λ x. x ∷ remove old place) (sym at) ∙ ap (λ es. e ∷ es) (removed key old place e distinct passes.0 has) in
+    let has : has_key key (get_or old place e) ≡ true =
+    first_test (has_key key (get_or old place e)) (nat_lt now (get_or old place e).expires) passes.1 in
+    let list : new ≡ e ∷ without key old = moved e ∙ ap (λ x. x ∷ remove old place) (sym at)
+    ∙ ap (λ es. e ∷ es) (removed key old place e distinct passes.0 has) in
     rw found (ap (λ es. record { entries = es; capacity = capacity }) list)
   where
     first_test : (a b : Bool) → (a && b) ≡ true → a ≡ true
@@ -259,7 +282,8 @@ got key now old new capacity place e distinct first at moved =
     first_test false b h = h
 
 -- the list after an insert, by the place of the key
-pub put_over : (entry : EntryValue) (old : List EntryValue) (capacity place : ℕ) → IsCacheList (record { entries = old; capacity = capacity })
+pub put_over : (entry : EntryValue) (old : List EntryValue) (capacity place : ℕ)
+    → IsCacheList (record { entries = old; capacity = capacity })
     → position (has_key entry.key) old ≡ Some place → entry ∷ remove old place ≡ take capacity (entry ∷ without entry.key old)
 put_over entry old capacity place is first =
     let passes = position-Some (has_key entry.key) old place entry first in
@@ -271,7 +295,8 @@ put_over entry old capacity place is first =
 pub put_more : (entry : EntryValue) (old : List EntryValue) (capacity : ℕ) → position (has_key entry.key) old ≡ None
     → take capacity (entry ∷ old) ≡ take capacity (entry ∷ without entry.key old)
 put_more entry old capacity none =
-    ap (λ es. take capacity (entry ∷ es)) (sym (none_left_out entry.key old (none_found entry.key old (found_nowhere (has_key entry.key) old none))))
+    ap (λ es. take capacity (entry ∷ es))
+    (sym (none_left_out entry.key old (none_found entry.key old (found_nowhere (has_key entry.key) old none))))
 
 -- where there is no hit nothing moves
 pub nothing_moves : (key : CacheKeyValue) (now : ℕ) (list : CacheList) → hit key now list ≡ None → after_get key now list ≡ list

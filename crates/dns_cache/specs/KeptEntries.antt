@@ -25,6 +25,6 @@ abbrev pub listed : List KeptPair → ℕ → CacheList
 listed pairs capacity = record { entries = entries_of pairs; capacity = capacity }
 
 -- the pairs are a cache's list, and the map has that capacity, unless it is 0
-pub record IsKept (kept : LruCache CacheKeyValue KeptValue) (capacity : ℕ) : Type 0 where
+pub record IsCacheMap (kept : LruCache CacheKeyValue KeptValue) (capacity : ℕ) : Type 0 where
   pub list : IsCacheList (listed kept.entries capacity)
   pub bounded : 0 < capacity → kept.cap ≡ capacity

@@ -1,13 +1,13 @@
 -- Proofs alone: the laws of equality and order of keys, which the impls of their traits name.
-use Rattle.std.specs.Prelude.{◌≡◌, ℕ, true, ◌==◌, ◌&&◌, nat_eq, List, reverse, Decides}
+use Rattle.std.specs.Prelude.{◌≡◌, true, ◌==◌, ◌&&◌, List, Decides}
 use Rattle.std.specs.Cmp.{IsEquivalence, IsTotalOrder, and_equiv, both_tied, first_so, nat_cmp_total, nat_eq_equiv, on_equiv, on_total, second_so, then_total, unsigned_Decides, unsigned_ties}
 use Rattle.std.specs.Cmp.Lexicographic.{pointwise, pointwise_decides, bytes_decides, slice_cmp, lists_equiv, lists_ties, lists_total, nat_list_cmp_total, nat_list_eq_equiv, texts_ties}
 use Rattle.std.specs.Ordering.{is_eq, nat_cmp}
-use Rattle.std.proofs.Common.{sym, ap, ◌∙◌, subst}
-use Rattle.std.proofs.lemmas.Bool.Decides.{same_from_decides}
-use Rattle.std.proofs.lemmas.List.{reverse-reverse}
+use Rattle.std.proofs.Common.{subst}
 use Rattle.dns_model.specs.Keys.{bytes_eq}
+use Rattle.dns_model.specs.Names.{labels_cmp, labels_eq}
 use Rattle.dns_model.specs.Records.{Question}
+use Rattle.dns_model.proofs.OrderLemmas.{labels_Decides, labels_ties, labels_total}
 use Rattle.dns_rules.specs.CacheKeys.{RecordBytes, CacheKeyValue, query_eq, record_eq, key_eq}
 use Rattle.dns_cache.specs.KeyOrder.{query_cmp, record_cmp, key_cmp}
 
@@ -32,14 +32,11 @@ key_equiv =
 
 -- ---- it decides whether two keys are one
 
-labels_Decides : (a b : List (List ℕ)) → Decides (pointwise (pointwise nat_eq) a b) (a ≡ b)
-labels_Decides = pointwise_decides bytes_decides
-
 query_Decides : (a b : Question) → Decides (query_eq a b) (a ≡ b)
 query_Decides a b = (
   λ h.
-      let rest = second_so (pointwise (pointwise nat_eq) a.owner b.owner) ((a.rtype == b.rtype) && (a.class == b.class)) h in
-      let owner = (labels_Decides a.owner b.owner).0 (first_so (pointwise (pointwise nat_eq) a.owner b.owner) ((a.rtype == b.rtype) && (a.class == b.class)) h) in
+      let rest = second_so (labels_eq a.owner b.owner) ((a.rtype == b.rtype) && (a.class == b.class)) h in
+      let owner = (labels_Decides a.owner b.owner).0 (first_so (labels_eq a.owner b.owner) ((a.rtype == b.rtype) && (a.class == b.class)) h) in
       let rtype = (unsigned_Decides a.rtype b.rtype).0 (first_so (a.rtype == b.rtype) (a.class == b.class) rest) in
       let class = (unsigned_Decides a.class b.class).0 (second_so (a.rtype == b.rtype) (a.class == b.class) rest) in
       λ i. record { owner = owner i; rtype = rtype i; class = class i },
@@ -79,7 +76,7 @@ key_eq-Decides a b = (
 
 query_total : IsTotalOrder query_cmp
 query_total =
-    then_total (on_total (λ (q : Question). reverse q.owner) (lists_total nat_list_cmp_total))
+    then_total (on_total (λ (q : Question). q.owner) labels_total)
     (then_total (on_total (λ (q : Question). q.rtype) nat_cmp_total) (on_total (λ (q : Question). q.class) nat_cmp_total))
 
 record_total : IsTotalOrder record_cmp
@@ -96,19 +93,9 @@ key_total =
 
 -- ---- keys are equal exactly where the order does not tell them apart
 
-reversed_Decides : (a b : List (List ℕ)) → Decides (pointwise (pointwise nat_eq) (reverse a) (reverse b)) (a ≡ b)
-reversed_Decides a b =
-    let d = labels_Decides (reverse a) (reverse b) in
-    (λ h. sym (reverse-reverse a) ∙ ap reverse (d.0 h) ∙ reverse-reverse b, λ h. d.1 (ap reverse h))
-
-labels_ties : (a b : List (List ℕ)) → pointwise (pointwise nat_eq) a b ≡ is_eq (slice_cmp (slice_cmp nat_cmp) (reverse a) (reverse b))
-labels_ties a b =
-    same_from_decides (pointwise (pointwise nat_eq) a b) (pointwise (pointwise nat_eq) (reverse a) (reverse b)) (labels_Decides a b) (reversed_Decides a b)
-    ∙ lists_ties (slice_cmp nat_cmp) texts_ties (reverse a) (reverse b)
-
 query_ties : (a b : Question) → query_eq a b ≡ is_eq (query_cmp a b)
 query_ties a b =
-    both_tied _ _ (slice_cmp (slice_cmp nat_cmp) (reverse a.owner) (reverse b.owner)) _ (labels_ties a.owner b.owner)
+    both_tied _ _ (labels_cmp a.owner b.owner) _ (labels_ties a.owner b.owner)
     (both_tied _ _ (nat_cmp a.rtype b.rtype) (nat_cmp a.class b.class) (unsigned_ties a.rtype b.rtype) (unsigned_ties a.class b.class))
 
 record_ties : (a b : RecordBytes) → record_eq a b ≡ is_eq (record_cmp a b)

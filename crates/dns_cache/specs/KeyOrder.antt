@@ -1,20 +1,19 @@
 -- The order of keys, and what a hasher is fed of them (RFC 4034, 6.1, for the name that is asked for).
-use Rattle.std.specs.Prelude.{ℕ, List, ◌∷◌, [], ◌++◌, length, reverse}
+use Rattle.std.specs.Prelude.{ℕ, List, ◌∷◌, [], ◌++◌, length}
 use Rattle.std.specs.List.{flat_map}
 use Rattle.std.specs.declared.cmp.Ordering.{Ordering}
 use Rattle.std.specs.Ordering.{nat_cmp, ordering_then}
 use Rattle.std.specs.Cmp.Lexicographic.{slice_cmp}
 use Rattle.std.specs.Hash as fed
 use Rattle.std.specs.Hash.{HashWrites}
-use Rattle.dns_model.specs.Names.{wire}
+use Rattle.dns_model.specs.Names.{labels_cmp, wire}
 use Rattle.dns_model.specs.Records.{Question}
 use Rattle.dns_rules.specs.CacheKeys.{RecordBytes, CacheKeyValue}
 
--- by name from the root, by type, by class
+-- by name in canonical order, whose letters are folded already, by type, by class
 abbrev pub query_cmp : Question → Question → Ordering
 query_cmp a b =
-    ordering_then (slice_cmp (slice_cmp nat_cmp) (reverse a.owner) (reverse b.owner))
-    (ordering_then (nat_cmp a.rtype b.rtype) (nat_cmp a.class b.class))
+    ordering_then (labels_cmp a.owner b.owner) (ordering_then (nat_cmp a.rtype b.rtype) (nat_cmp a.class b.class))
 
 -- by the bytes of the owner, by type, by class, by the bytes of the rdata
 abbrev pub record_cmp : RecordBytes → RecordBytes → Ordering

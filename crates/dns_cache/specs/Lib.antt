@@ -1,3 +1,5 @@
+pub mod Kinds
+pub mod Proofs
 pub mod KeyOrder
 pub mod KeyLaws
 pub mod Expiry

@@ -1,14 +1,16 @@
+//! What a cache keeps of a set: what was found, until when, and of a Secure one its chain (RFC 4035, 4.5).
+
 ghost use Rattle.std.specs.Prelude.{◌≡◌, true, IfOk};
 ghost use Rattle.dns_rules.specs.CacheEntries.{is_backed};
+ghost use Rattle.dns_cache.specs.KeptEntries.{entry_of};
 
-use crate::CacheKey;
+use crate::kept::Kept;
+use crate::{CacheKey, ProofError, RrsetProof};
 use dns_evidence::Chain;
-use dns_name::NoMemory;
-use dns_proof::{ProofError, RrsetProof};
+use dns_record::NoMemory;
 use std::marker::Model;
 
 /// What a cache keeps of a set. Each entry whose mark is Secure has a result that is Ok, and a chain.
-#[derive(Drop)]
 pub struct Entry {
     /// By what the cache knows the set.
     pub key: CacheKey,
@@ -18,6 +20,18 @@ pub struct Entry {
     pub result: Result<RrsetProof, ProofError>,
     /// Of a Secure set the chain that ends at it.
     pub chain: Option<Chain>,
+}
+
+// By hand, so that a function that lets one go calls this.
+impl Drop for Entry {
+    fn drop(self) {
+        let Entry {
+            key: _,
+            expires: _,
+            result: _,
+            chain: _,
+        } = self;
+    }
 }
 
 impl Model for Entry {
@@ -56,6 +70,37 @@ impl Entry {
     {
         copied(&self.key, self.expires, &self.result, &self.chain)
     }
+
+    /// The chain alone.
+    pub fn into_chain(self) -> Option<Chain>
+        ensures { result ≡ self.chain }
+    {
+        let Entry {
+            key: _,
+            expires: _,
+            result: _,
+            chain,
+        } = self;
+        chain
+    }
+
+    /// The two parts of an entry.
+    pub(crate) fn into_parts(self) -> (CacheKey, Kept)
+        ensures { entry_of result ≡ self }
+    {
+        let Entry {
+            key,
+            expires,
+            result: found,
+            chain,
+        } = self;
+        let kept = Kept {
+            expires,
+            found,
+            chain,
+        };
+        (key, kept)
+    }
 }
 
 /// An entry of copies of these parts, each in memory of its own.
@@ -69,15 +114,8 @@ pub(crate) fn copied(
     ensures { IfOk result (λ e. e ≡ record { key = key.now; expires = expires; found = found.now; chain = chain.now }) }
 {
     let key = key.try_clone()?;
-    let Ok(chain) = clone_chain(chain) else {
-        drop(key);
-        return Err(NoMemory);
-    };
-    let Ok(found) = clone_found(found) else {
-        drop(key);
-        drop(chain);
-        return Err(NoMemory);
-    };
+    let found = clone_found(found)?;
+    let chain = clone_chain(chain)?;
     Ok(Entry::new(key, expires, found, chain))
 }
 
@@ -89,10 +127,7 @@ fn clone_found(
 {
     match found {
         Ok(proof) => Ok(Ok(*proof)),
-        Err(error) => {
-            let error = error.try_clone()?;
-            Ok(Err(error))
-        }
+        Err(error) => Ok(Err(error.try_clone()?)),
     }
 }
 
@@ -101,10 +136,7 @@ fn clone_chain(chain: &Option<Chain>) -> Result<Option<Chain>, NoMemory>
     ensures { IfOk result (λ c. c ≡ chain.now) }
 {
     match chain {
-        Some(chain) => {
-            let copy = chain.try_clone()?;
-            Ok(Some(copy))
-        }
+        Some(chain) => Ok(Some(chain.try_clone()?)),
         None => Ok(None),
     }
 }

@@ -1,12 +1,14 @@
+//! Until when what is found of a set is kept (RFC 4035, 4.7 and 5.3.3; RFC 2308, 5).
+
 ghost use Rattle.std.specs.Prelude.{◌≡◌, ◌-◌, ◌^◌, map};
 ghost use Rattle.dns_model.specs.SoundAnswers.{signed_ttl};
 ghost use Rattle.dns_model.specs.Views.{rrsig_in};
 ghost use Rattle.dns_evidence.specs.Link.{link_value};
 ghost use Rattle.dns_cache.specs.Expiry.{clamped, expires_at, kept_for as seconds_kept, left_by_chain as seconds_by_chain, left_by_link as seconds_by_link, left_by_links as seconds_by_links};
 
+use crate::{ProofError, RrsetProof};
 use dns_evidence::{Chain, Link};
 use dns_model::Proof;
-use dns_proof::{ProofError, RrsetProof};
 use dns_rdata::Rrsig;
 use dns_record::RecordSet;
 use std::marker::Model;
@@ -132,6 +134,7 @@ fn left_by_chain(now: u64, seconds: u64, chain: &Option<Chain>) -> u64
     }
 }
 
+// What links leave of so many seconds.
 fn left_by_links(now: u64, seconds: u64, links: &[Link]) -> u64
     ensures { result ≡ seconds_by_links now seconds (map link_value links.now) }
 {
@@ -142,6 +145,7 @@ fn left_by_links(now: u64, seconds: u64, links: &[Link]) -> u64
     left
 }
 
+// What one link leaves of so many seconds.
 fn left_by_link(now: u64, seconds: u64, link: &Link) -> u64
     ensures { result ≡ seconds_by_link now seconds (link_value link.now) }
 {

@@ -1,19 +1,33 @@
+//! An entry without its key, as a map from keys keeps it.
+
 ghost use Rattle.std.specs.Prelude.{◌≡◌, IfOk};
 ghost use Rattle.dns_cache.specs.KeptEntries.{entry_of};
 
 use crate::entry::copied;
-use crate::{CacheKey, Entry};
+use crate::{CacheKey, Entry, ProofError, RrsetProof};
 use dns_evidence::Chain;
-use dns_name::NoMemory;
-use dns_proof::{ProofError, RrsetProof};
+use dns_record::NoMemory;
 use std::marker::Model;
 
 /// An entry without its key, which stands beside it.
-#[derive(Drop)]
 pub(crate) struct Kept {
+    /// Seconds since 1970: the first moment at which the entry isn't given any more.
     pub(crate) expires: u64,
+    /// What was found, or why the set isn't Secure.
     pub(crate) found: Result<RrsetProof, ProofError>,
+    /// Of a Secure set the chain that ends at it.
     pub(crate) chain: Option<Chain>,
+}
+
+// By hand, so that a function that lets one go calls this.
+impl Drop for Kept {
+    fn drop(self) {
+        let Kept {
+            expires: _,
+            found: _,
+            chain: _,
+        } = self;
+    }
 }
 
 impl Model for Kept {
@@ -29,24 +43,6 @@ impl Model for Kept {
 }
 
 impl Kept {
-    /// The two parts of an entry.
-    pub(crate) fn of(entry: Entry) -> (CacheKey, Kept)
-        ensures { entry_of result ≡ entry }
-    {
-        let Entry {
-            key,
-            expires,
-            result: found,
-            chain,
-        } = entry;
-        let kept = Kept {
-            expires,
-            found,
-            chain,
-        };
-        (key, kept)
-    }
-
     /// A copy of the entry, in memory of its own, with a copy of this key.
     pub(crate) fn entry(&self, key: &CacheKey) -> Result<Entry, NoMemory>
         ensures { IfOk result (λ e. e ≡ entry_of (key.now, self.now)) }

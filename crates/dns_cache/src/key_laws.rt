@@ -1,4 +1,5 @@
 //! Laws of the comparisons of keys. Each is the contract of a function that does nothing.
+
 ghost use Rattle.std.specs.Prelude.{◌≡◌, ◌↔◌, IsTrue};
 ghost use Rattle.std.specs.Ordering.{ordering_reverse};
 ghost use Rattle.std.specs.declared.cmp.Ordering.TheVariants.{Less, Equal};

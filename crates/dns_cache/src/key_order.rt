@@ -1,4 +1,5 @@
 //! The comparisons of keys, and what they feed a hasher.
+
 ghost use Rattle.std.specs.Prelude.{◌≡◌, fold, map};
 ghost use Rattle.std.specs.Cmp.{partial_equiv_from_equiv, partial_order_from_agreeing_total};
 ghost use Rattle.std.specs.Cmp.Lexicographic.{slice_cmp};
@@ -6,12 +7,12 @@ ghost use Rattle.std.specs.Hash as fed;
 ghost use Rattle.std.specs.Hash.{same_Alike};
 ghost use Rattle.std.specs.Ordering.{as_partial_cmp};
 ghost use Rattle.std.proofs.Common.{refl};
-ghost use Rattle.dns_rules.specs.CacheKeys.{bytes_of, key_eq};
+ghost use Rattle.dns_rules.specs.CacheKeys.{bytes_of, key_eq, key_of};
 ghost use Rattle.dns_cache.specs.KeyOrder.{bytes_input, key_cmp, key_input, record_cmp as record_order, record_input};
 ghost use Rattle.dns_cache.specs.KeyLaws.{key_eq-Decides, key_equiv, key_ties, key_total};
 
 use crate::CacheKey;
-use dns_record::Record;
+use dns_record::{Query, Record, RecordSet};
 use std::cmp::Ordering;
 use std::hash::{Hash, Hasher};
 
@@ -65,14 +66,29 @@ impl Hash for CacheKey {
     }
 }
 
-// The order of two keys: by question, by records, by signatures.
+impl CacheKey {
+    /// Whether it is the key of the set in the answer to the question.
+    pub fn is_of(&self, query: &Query, set: &RecordSet) -> bool
+        ensures { result ≡ key_eq (key_of query.now set.now) self.now }
+    {
+        cmp_sets(query, set, &self.query, &self.set).is_eq()
+    }
+}
+
+// The order of two keys.
 fn cmp_keys(one: &CacheKey, two: &CacheKey) -> Ordering
     ensures { result ≡ key_cmp one.now two.now }
 {
-    let records = cmp_records(&one.set.records, &two.set.records);
-    let signatures = cmp_records(&one.set.rrsigs, &two.set.rrsigs);
-    let query = one.query.cmp(&two.query);
-    query.then(records.then(signatures))
+    cmp_sets(&one.query, &one.set, &two.query, &two.set)
+}
+
+// The order of the keys of two sets in the answers to two questions: by question, by records, by signatures.
+fn cmp_sets(query: &Query, set: &RecordSet, other_query: &Query, other_set: &RecordSet) -> Ordering
+    ensures { result ≡ key_cmp (key_of query.now set.now) (key_of other_query.now other_set.now) }
+{
+    let records = cmp_records(&set.records, &other_set.records);
+    let signatures = cmp_records(&set.rrsigs, &other_set.rrsigs);
+    query.cmp(other_query).then(records.then(signatures))
 }
 
 // The order of two lists of records: of the first two that differ, and a shorter list before one that begins with it.

@@ -1,10 +1,13 @@
+//! A cache that is the list of its entries.
+
 ghost use Rattle.std.specs.Prelude.{◌≡◌, ◌∷◌, ◌<◌, [], true, Some, OnOk, OnErr, length, position, remove, slice_index_or, take};
 ghost use Rattle.std.specs.List.{IsDistinct};
 ghost use Rattle.dns_cache.specs.CacheLists.{IsCacheList, has_key, is_hit, without};
 
-use crate::{AcceptedBy, CacheKey, Entry, ValidationCache};
+use crate::acceptance::of_nobody;
+use crate::{Acceptance, AcceptedBy, CacheKey, Entry, ValidationCache};
 use dns_evidence::Verifier;
-use dns_name::NoMemory;
+use dns_record::NoMemory;
 use std::alloc::Global;
 use std::marker::Model;
 
@@ -72,6 +75,16 @@ impl ValidationCache for ListCache {
 
 impl<V: Verifier> AcceptedBy<V> for ListCache {
     ghost knows_nobody = { λ _. true };
+
+    fn get_for(
+        &mut self,
+        alloc: Global,
+        key: &CacheKey,
+        now: u64,
+        _verifier: &V,
+    ) -> Result<Option<(Entry, Acceptance)>, NoMemory> {
+        Ok(of_nobody(self.get(alloc, key, now)?))
+    }
 }
 
 // The place of the entry of this key, if it doesn't expire by the moment.
@@ -106,8 +119,8 @@ fn rotate_to_front(entries: &mut [Entry], place: usize)
     entries[..place + 1].rotate_right(1);
 }
 
-// The entry becomes the first, in place of one of its key; then the first ones stay, as many as may. For want of memory nothing
-// has changed.
+// The entry becomes the first, in place of one of its key; then the first ones stay, as many as may. Where memory runs out
+// nothing has changed.
 fn put_in_front(entries: &mut Vec<Entry>, capacity: usize, entry: Entry) -> Result<(), NoMemory>
     requires { IsCacheList (record { entries = entries.old.items; capacity = capacity }) }
     ensures ok { OnOk result (entries.new.items ≡ take capacity (entry ∷ without entry.key entries.old.items)) }
@@ -116,7 +129,9 @@ fn put_in_front(entries: &mut Vec<Entry>, capacity: usize, entry: Entry) -> Resu
     let place = place_of(entries, &entry.key);
     entries.insert(0, entry)?;
     match place {
-        Some(place) => drop(entries.remove(place + 1)),
+        Some(place) => {
+            entries.remove(place + 1);
+        }
         None => entries.truncate(capacity),
     }
     Ok(())

@@ -1,18 +1,20 @@
-ghost use Rattle.std.specs.Prelude.{◌≡◌, ◌<◌, [], true, None, Some, IfOk, OnErr, OnOk, find, nat_lt, if◌then◌else◌};
+//! A cache that finds a key by its hash.
+
+ghost use Rattle.std.specs.Prelude.{◌≡◌, ◌<◌, [], true, None, Some, IfOk, find, nat_lt, if◌then◌else◌};
 ghost use Rattle.std.specs.List.{IsDistinct};
 ghost use Rattle.std.specs.Map.{keys_of};
-ghost use Rattle.lru.specs.LruCache.{lru_cache, put_entries};
 ghost use Rattle.dns_rules.specs.CacheKeys.{key_eq};
 ghost use Rattle.dns_cache.specs.CacheLists.{is_hit};
 ghost use Rattle.dns_cache.specs.KeptEntries.{entries_of, entry_of};
 
+use crate::acceptance::of_nobody;
 use crate::kept::Kept;
-use crate::{AcceptedBy, CacheKey, Entry, ValidationCache};
+use crate::{Acceptance, AcceptedBy, CacheKey, Entry, ValidationCache};
 use dns_evidence::Verifier;
-use dns_name::NoMemory;
+use dns_record::NoMemory;
 use lru::{DefaultHasher, LruCache};
 use std::alloc::Global;
-use std::hash::{BuildHasher, BuildHasherDefault, Hash};
+use std::hash::{BuildHasher, BuildHasherDefault};
 use std::marker::Model;
 use std::num::NonZeroUsize;
 
@@ -28,23 +30,22 @@ pub struct LruValidationCache<S: BuildHasher = DefaultHasher> {
 
 impl<S: BuildHasher> Model for LruValidationCache<S> {
     ghost use Rattle.dns_cache.specs.CacheLists.{CountedList};
-    ghost use Rattle.dns_cache.specs.KeptEntries.{IsKept, listed};
+    ghost use Rattle.dns_cache.specs.KeptEntries.{IsCacheMap, listed};
 
     ghost Value = { CountedList };
 
     ghost view = { λ c. record { list = listed c.kept.entries c.capacity; hits = c.hits } };
 
-    ghost invariant = { λ c. IsKept c.kept c.capacity };
+    ghost invariant = { λ c. IsCacheMap c.kept c.capacity };
 }
 
 impl<S: BuildHasher + Drop> Drop for LruValidationCache<S> {
     fn drop(self) {
         let LruValidationCache {
-            kept,
+            kept: _,
             capacity: _,
             hits: _,
         } = self;
-        drop(kept);
     }
 }
 
@@ -77,6 +78,13 @@ impl<S: BuildHasher + Drop> LruValidationCache<S> {
         })
     }
 
+    /// How many entries it keeps at the most.
+    pub fn capacity(&self) -> usize
+        ensures { result ≡ self.now.list.capacity }
+    {
+        self.capacity
+    }
+
     /// How often a call gave an entry; it stops at the greatest `u64`.
     pub fn hits(&self) -> u64
         ensures { result ≡ self.now.hits }
@@ -91,8 +99,7 @@ impl<S: BuildHasher + Drop> ValidationCache for LruValidationCache<S> {
     ghost told = { λ c. Some c.list };
 
     fn get(&mut self, _alloc: Global, key: &CacheKey, now: u64) -> Result<Option<Entry>, NoMemory> {
-        let hit = copy_of_hit(&self.kept, key, now)?;
-        match hit {
+        match copy_of_hit(&self.kept, key, now)? {
             Some(found) => {
                 self.kept.promote(key);
                 self.hits = self.hits.saturating_add(1);
@@ -104,17 +111,26 @@ impl<S: BuildHasher + Drop> ValidationCache for LruValidationCache<S> {
 
     fn insert(&mut self, _alloc: Global, entry: Entry) -> Result<(), NoMemory> {
         if self.capacity == 0 {
-            drop(entry);
             return Ok(());
         }
-        let (key, kept) = Kept::of(entry);
-        put(&mut self.kept, key, kept)?;
+        let (key, kept) = entry.into_parts();
+        self.kept.put(key, kept)?;
         Ok(())
     }
 }
 
 impl<S: BuildHasher + Drop, V: Verifier> AcceptedBy<V> for LruValidationCache<S> {
     ghost knows_nobody = { λ _. true };
+
+    fn get_for(
+        &mut self,
+        alloc: Global,
+        key: &CacheKey,
+        now: u64,
+        _verifier: &V,
+    ) -> Result<Option<(Entry, Acceptance)>, NoMemory> {
+        Ok(of_nobody(self.get(alloc, key, now)?))
+    }
 }
 
 // A map without pairs, of this capacity unless that is 0.
@@ -130,19 +146,6 @@ fn empty_map<S: BuildHasher + Drop>(
     // A map without a bound takes room as pairs come, one made with a bound all of it at once.
     map.resize(NonZeroUsize::new(capacity).unwrap_or(NonZeroUsize::MIN));
     Ok(map)
-}
-
-// Puts a pair into a map, and lets go what that had of the key.
-fn put<K: Eq + Hash + Drop, V: Drop, S: BuildHasher>(
-    map: &mut LruCache<K, V, S>,
-    key: K,
-    value: V,
-) -> Result<(), NoMemory>
-    ensures entries { OnOk result (map.new ≡ lru_cache (put_entries K.eq map.old key value) map.old.cap) }
-    ensures err { OnErr result (map.new ≡ map.old) }
-{
-    drop(map.put(key, value)?);
-    Ok(())
 }
 
 // A copy of the entry of this key, if it doesn't expire by the moment.
@@ -166,8 +169,7 @@ fn copy_of_live(kept: &Kept, key: &CacheKey, now: u64) -> Result<Option<Entry>, 
         ≡ (if nat_lt now kept.now.expires then Some (entry_of (key.now, kept.now)) else None)) }
 {
     if now < kept.expires {
-        let entry = kept.entry(key)?;
-        Ok(Some(entry))
+        Ok(Some(kept.entry(key)?))
     } else {
         Ok(None)
     }

@@ -4,7 +4,8 @@
 
 pub use dns_cache::{
     Acceptance, AcceptedBy, BOGUS_CACHE_TTL, CacheKey, DefaultCache, Entry, ListCache,
-    LruValidationCache, TtlRange, TtlRanges, ValidationCache,
+    LruValidationCache, ProofError, ProofErrorKind, RrsetProof, TtlRange, TtlRanges,
+    ValidationCache,
 };
 pub use dns_chain_check::{accepted_chain, check_chain, is_trusted};
 pub use dns_evidence::{
@@ -18,9 +19,7 @@ pub use dns_marks::{
 };
 pub use dns_message::Message;
 pub use dns_model::{Denial, Proof};
-pub use dns_name::{Name, NoMemory, Octets};
-pub use dns_proof::{ProofError, ProofErrorKind, RrsetProof};
-pub use dns_record::{DNSClass, Query, Record, RecordSet, RecordType};
+pub use dns_record::{DNSClass, Name, NoMemory, Octets, Query, Record, RecordSet, RecordType};
 pub use dns_trail::{check_trail, is_in_order};
 pub use dns_trust::{Judge, RrsigValidity, TrustAnchors};
 pub use dns_validation::{Asking, Validation, Wanted};

@@ -17,10 +17,12 @@ together true true true true e rest = refl
 -- what fits, is good and comes from an earlier link is signed
 in_parts : (j : Judge) (earlier : List LinkValue) (owner : Labels) (class rtype : ℕ) (rdatas : List (List ℕ)) (key_link : ℕ) (key : List ℕ)
     (read : Option RrsigValue) (sig : RrsigValue) → read ≡ Some sig
-    → (fits_set owner rtype sig && (is_good j owner class rtype rdatas sig key (dnskey_in key) && key_comes earlier owner class rtype rdatas sig.signer key_link key))
+    → (fits_set owner rtype sig && (is_good j owner class rtype rdatas sig key (dnskey_in key)
+    && key_comes earlier owner class rtype rdatas sig.signer key_link key))
     ≡ is_signed j earlier owner class rtype rdatas key_link key read
 in_parts j earlier owner class rtype rdatas key_link key read sig is =
-    together (sig.covered == rtype) (signer_fits rtype sig.signer owner) (nat_le sig.labels (num_labels owner)) (never_expanded rtype sig.labels owner)
+    together (sig.covered == rtype) (signer_fits rtype sig.signer owner) (nat_le sig.labels (num_labels owner))
+    (never_expanded rtype sig.labels owner)
     (right_below_signer rtype sig.signer owner)
     (is_good j owner class rtype rdatas sig key (dnskey_in key) && key_comes earlier owner class rtype rdatas sig.signer key_link key)
     ∙ ap (is_signed j earlier owner class rtype rdatas key_link key) (sym is)
@@ -30,7 +32,8 @@ pub unfit : (j : Judge) (earlier : List LinkValue) (owner : Labels) (class rtype
     (read : Option RrsigValue) (sig : RrsigValue) → read ≡ Some sig → fits_set owner rtype sig ≡ false
     → false ≡ is_signed j earlier owner class rtype rdatas key_link key read
 unfit j earlier owner class rtype rdatas key_link key read sig is fits =
-    let rest = is_good j owner class rtype rdatas sig key (dnskey_in key) && key_comes earlier owner class rtype rdatas sig.signer key_link key in
+    let rest = is_good j owner class rtype rdatas sig key (dnskey_in key)
+    && key_comes earlier owner class rtype rdatas sig.signer key_link key in
     ap (λ b. b && rest) (sym fits) ∙ in_parts j earlier owner class rtype rdatas key_link key read sig is
 
 -- it fits, and what is left decides
@@ -39,19 +42,23 @@ fit : (j : Judge) (earlier : List LinkValue) (owner : Labels) (class rtype : ℕ
     → (is_good j owner class rtype rdatas sig key (dnskey_in key) && key_comes earlier owner class rtype rdatas sig.signer key_link key)
     ≡ is_signed j earlier owner class rtype rdatas key_link key read
 fit j earlier owner class rtype rdatas key_link key read sig is fits =
-    let rest = is_good j owner class rtype rdatas sig key (dnskey_in key) && key_comes earlier owner class rtype rdatas sig.signer key_link key in
+    let rest = is_good j owner class rtype rdatas sig key (dnskey_in key)
+    && key_comes earlier owner class rtype rdatas sig.signer key_link key in
     ap (λ b. b && rest) (sym fits) ∙ in_parts j earlier owner class rtype rdatas key_link key read sig is
 
 -- it fits and isn't good
-pub not_good : (j : Judge) (earlier : List LinkValue) (owner : Labels) (class rtype : ℕ) (rdatas : List (List ℕ)) (key_link : ℕ) (key : List ℕ)
+pub not_good : (j : Judge) (earlier : List LinkValue) (owner : Labels) (class rtype : ℕ) (rdatas : List (List ℕ))
+    (key_link : ℕ) (key : List ℕ)
     (read : Option RrsigValue) (sig : RrsigValue) → read ≡ Some sig → fits_set owner rtype sig ≡ true
-    → is_good j owner class rtype rdatas sig key (dnskey_in key) ≡ false → false ≡ is_signed j earlier owner class rtype rdatas key_link key read
+    → is_good j owner class rtype rdatas sig key (dnskey_in key) ≡ false
+    → false ≡ is_signed j earlier owner class rtype rdatas key_link key read
 not_good j earlier owner class rtype rdatas key_link key read sig is fits good =
     ap (λ b. b && key_comes earlier owner class rtype rdatas sig.signer key_link key) (sym good)
     ∙ fit j earlier owner class rtype rdatas key_link key read sig is fits
 
 -- it fits and is good, and where the key comes from decides
-pub by_key : (j : Judge) (earlier : List LinkValue) (owner : Labels) (class rtype : ℕ) (rdatas : List (List ℕ)) (key_link : ℕ) (key : List ℕ)
+pub by_key : (j : Judge) (earlier : List LinkValue) (owner : Labels) (class rtype : ℕ) (rdatas : List (List ℕ)) (key_link : ℕ)
+    (key : List ℕ)
     (read : Option RrsigValue) (sig : RrsigValue) → read ≡ Some sig → fits_set owner rtype sig ≡ true
     → is_good j owner class rtype rdatas sig key (dnskey_in key) ≡ true
     → key_comes earlier owner class rtype rdatas sig.signer key_link key ≡ is_signed j earlier owner class rtype rdatas key_link key read

@@ -30,7 +30,8 @@ holds_for_more answers anchors now chain held wider more answered trusted =
       is_timely = λ sig h. h;
     }) chain held
 
-readable : (anchors : List AnchorValue) (owner : Labels) (key : Option DnskeyValue) → anchored_by anchors owner key ≡ true → is_some key ≡ true
+readable : (anchors : List AnchorValue) (owner : Labels) (key : Option DnskeyValue) → anchored_by anchors owner key ≡ true
+    → is_some key ≡ true
 readable anchors owner None h = h
 readable anchors owner (Some key) h = refl
 

@@ -1,3 +1,5 @@
+pub mod EndLemmas
+pub mod FittingLemmas
 pub mod Members
 pub mod Steps
 pub mod MoreTrust

@@ -23,9 +23,11 @@ pub one_held : (rdatas : List (List ℕ)) (n : ℕ) (rdata : List ℕ) (referenc
     → n < length rdatas → rdata ≡ slice_index_or rdatas n rdata → reference.now ≡ rdata → Updates by_bytes members more reference true
     → Holds members (take n rdatas) → Holds more (take (n + 1) rdatas)
 one_held rdatas n rdata reference members more h at is updates held q =
-    let taken : take (n + 1) rdatas ≡ take n rdatas ++ rdata ∷ [] = take_more rdatas n rdata h ∙ ap (λ r. take n rdatas ++ r ∷ []) (sym at) in
+    let taken : take (n + 1) rdatas ≡ take n rdatas ++ rdata ∷ [] = take_more rdatas n rdata h
+    ∙ ap (λ r. take n rdatas ++ r ∷ []) (sym at) in
     updates.0 q
-    ∙ ap (λ b. cond b true (contains by_bytes members q)) (is_eq-slice_cmp reference.now q.now ∙ ap (λ bytes. bytes_eq bytes q.now) is ∙ either_way rdata q.now)
+    ∙ ap (λ b. cond b true (contains by_bytes members q)) (is_eq-slice_cmp reference.now q.now
+    ∙ ap (λ bytes. bytes_eq bytes q.now) is ∙ either_way rdata q.now)
     ∙ ap (cond (bytes_eq q.now rdata) true) (held q)
     ∙ sym (ap (list_any (bytes_eq q.now)) taken ∙ list_any-append (bytes_eq q.now) (take n rdatas) (rdata ∷ [])
     ∙ last_step (list_any (bytes_eq q.now) (take n rdatas)) (bytes_eq q.now rdata))

@@ -27,7 +27,8 @@ both_more : (a b c d : Bool) → (a ≡ true → c ≡ true) → (b ≡ true →
 both_more a b c d one two h = let parts = and_parts a b h in and_from c d (one parts.0) (two parts.1)
 
 -- a DS that matches a key matches it
-matches_more : (less more : VerifierAnswers) → AnswersMore less more → (owner : Labels) (rdata : List ℕ) (key : Option DnskeyValue) (ds : Option DsValue)
+matches_more : (less more : VerifierAnswers) → AnswersMore less more
+    → (owner : Labels) (rdata : List ℕ) (key : Option DnskeyValue) (ds : Option DsValue)
     → matches_read less owner rdata key ds ≡ true → matches_read more owner rdata key ds ≡ true
 matches_more less more are owner rdata None ds h = h
 matches_more less more are owner rdata (Some key) None h = h
@@ -35,11 +36,13 @@ matches_more less more are owner rdata (Some key) (Some ds) h =
     let by = λ (v : VerifierAnswers). v.supports ds.algorithm && covers_key owner rdata ds in
     and_more (key.algorithm == ds.algorithm) ((key_tag_of rdata == ds.key_tag) && by less) ((key_tag_of rdata == ds.key_tag) && by more)
     (and_more (key_tag_of rdata == ds.key_tag) (by less) (by more)
-    (both_more (less.supports ds.algorithm) (covers_key owner rdata ds) (more.supports ds.algorithm) (covers_key owner rdata ds) (are.supports ds.algorithm) (λ h. h)))
+    (both_more (less.supports ds.algorithm) (covers_key owner rdata ds) (more.supports ds.algorithm) (covers_key owner rdata ds)
+    (are.supports ds.algorithm) (λ h. h)))
     h
 
 -- a key that may sign may
-usable_more : (less more : VerifierAnswers) → AnswersMore less more → (key : DnskeyValue) → usable_key less key ≡ true → usable_key more key ≡ true
+usable_more : (less more : VerifierAnswers) → AnswersMore less more → (key : DnskeyValue) → usable_key less key ≡ true
+    → usable_key more key ≡ true
 usable_more less more are key =
     let tail = λ (v : VerifierAnswers). (key.protocol == 3) && v.supports key.algorithm in
     and_more (is_zone_key key) (not (is_revoked key) && tail less) (not (is_revoked key) && tail more)
@@ -47,8 +50,10 @@ usable_more less more are key =
     (and_more (key.protocol == 3) (less.supports key.algorithm) (more.supports key.algorithm) (are.supports key.algorithm)))
 
 -- a signature that is good is good
-good_more : (less more : Judge) → JudgesMore less more → (owner : Labels) (class rtype : ℕ) (rdatas : List (List ℕ)) (sig : RrsigValue) (rdata : List ℕ)
-    (key : Option DnskeyValue) → is_good less owner class rtype rdatas sig rdata key ≡ true → is_good more owner class rtype rdatas sig rdata key ≡ true
+good_more : (less more : Judge) → JudgesMore less more
+    → (owner : Labels) (class rtype : ℕ) (rdatas : List (List ℕ)) (sig : RrsigValue) (rdata : List ℕ)
+    (key : Option DnskeyValue) → is_good less owner class rtype rdatas sig rdata key ≡ true
+    → is_good more owner class rtype rdatas sig rdata key ≡ true
 good_more less more are owner class rtype rdatas sig rdata None h = h
 good_more less more are owner class rtype rdatas sig rdata (Some key) h =
     let bytes = signed_bytes owner rtype class rdatas sig in
@@ -56,7 +61,8 @@ good_more less more are owner class rtype rdatas sig rdata (Some key) h =
     let timely = λ (j : Judge). j.is_timely sig && accepted j in
     let tagged = λ (j : Judge). (key_tag_of rdata == sig.key_tag) && timely j in
     let named = λ (j : Judge). (key.algorithm == sig.algorithm) && tagged j in
-    both_more (usable_key less.answers key) (named less) (usable_key more.answers key) (named more) (usable_more less.answers more.answers are.answers key)
+    both_more (usable_key less.answers key) (named less) (usable_key more.answers key) (named more)
+    (usable_more less.answers more.answers are.answers key)
     (and_more (key.algorithm == sig.algorithm) (tagged less) (tagged more)
     (and_more (key_tag_of rdata == sig.key_tag) (timely less) (timely more)
     (both_more (less.is_timely sig) (accepted less) (more.is_timely sig) (accepted more) (are.is_timely sig)
@@ -64,9 +70,11 @@ good_more less more are owner class rtype rdatas sig rdata (Some key) h =
     h
 
 -- a set that is signed is signed
-signed_more : (less more : Judge) → JudgesMore less more → (earlier : List LinkValue) (owner : Labels) (class rtype : ℕ) (rdatas : List (List ℕ))
+signed_more : (less more : Judge) → JudgesMore less more
+    → (earlier : List LinkValue) (owner : Labels) (class rtype : ℕ) (rdatas : List (List ℕ))
     (key_link : ℕ) (key : List ℕ) (sig : Option RrsigValue)
-    → is_signed less earlier owner class rtype rdatas key_link key sig ≡ true → is_signed more earlier owner class rtype rdatas key_link key sig ≡ true
+    → is_signed less earlier owner class rtype rdatas key_link key sig ≡ true
+    → is_signed more earlier owner class rtype rdatas key_link key sig ≡ true
 signed_more less more are earlier owner class rtype rdatas key_link key None h = h
 signed_more less more are earlier owner class rtype rdatas key_link key (Some sig) h =
     let comes = key_comes earlier owner class rtype rdatas sig.signer key_link key in
@@ -96,7 +104,8 @@ link_holds-more less more are earlier (KeySet owner class keys links) h = h
 link_holds-more less more are earlier (Signed owner class rtype rdatas sig key_link key) h =
     let signed = λ (j : Judge). is_signed j earlier owner class rtype rdatas key_link key (rrsig_in sig) in
     and_more (not (rtype == type_rrsig)) (is_nonempty rdatas && signed less) (is_nonempty rdatas && signed more)
-    (and_more (is_nonempty rdatas) (signed less) (signed more) (signed_more less more are earlier owner class rtype rdatas key_link key (rrsig_in sig)))
+    (and_more (is_nonempty rdatas) (signed less) (signed more)
+    (signed_more less more are earlier owner class rtype rdatas key_link key (rrsig_in sig)))
     h
 
 -- so do all links that hold
@@ -110,6 +119,7 @@ links_hold-more less more are earlier (link ∷ links) h =
     (links_hold-more less more are (earlier ++ link ∷ []) links) h
 
 -- a chain that is justified is justified
-pub justified-more : (less more : Judge) → JudgesMore less more → (chain : List LinkValue) → justified less chain ≡ true → justified more chain ≡ true
+pub justified-more : (less more : Judge) → JudgesMore less more → (chain : List LinkValue) → justified less chain ≡ true
+    → justified more chain ≡ true
 justified-more less more are chain =
     and_more (is_nonempty chain) (links_hold less [] chain) (links_hold more [] chain) (links_hold-more less more are [] chain)

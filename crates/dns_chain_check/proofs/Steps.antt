@@ -5,7 +5,8 @@ use Rattle.std.proofs.lemmas.List.{drop_all, drop_more, map-append, take_more}
 use Rattle.dns_model.specs.Chains.{LinkValue, Judge, link_holds, links_hold}
 
 -- one link more is taken
-pub taken_more : {X : Type 0} (value : X → LinkValue) (links : List X) (n : ℕ) (link : X) → n < length links → link ≡ slice_index_or links n link
+pub taken_more : {X : Type 0} (value : X → LinkValue) (links : List X) (n : ℕ) (link : X) → n < length links
+    → link ≡ slice_index_or links n link
     → map value (take (n + 1) links) ≡ map value (take n links) ++ value link ∷ []
 taken_more value links n link h at =
     ap (map value) (take_more links n link h ∙ ap (λ l. take n links ++ l ∷ []) (sym at)) ∙ map-append value (take n links) (link ∷ [])
@@ -14,13 +15,16 @@ taken_more value links n link h at =
 abbrev pub LeftDecides : {X : Type 0} → (X → LinkValue) → Judge → List X → ℕ → Type 0
 LeftDecides value j links n = links_hold j (map value (take n links)) (map value (drop n links)) ≡ links_hold j [] (map value links)
 
-next_decides : {X : Type 0} (value : X → LinkValue) (j : Judge) (links : List X) (n : ℕ) (link : X) → n < length links → link ≡ slice_index_or links n link
+next_decides : {X : Type 0} (value : X → LinkValue) (j : Judge) (links : List X) (n : ℕ) (link : X) → n < length links
+    → link ≡ slice_index_or links n link
     → LeftDecides value j links n
-    → (link_holds j (map value (take n links)) (value link) && links_hold j (map value (take (n + 1) links)) (map value (drop (n + 1) links)))
+    → (link_holds j (map value (take n links)) (value link)
+    && links_hold j (map value (take (n + 1) links)) (map value (drop (n + 1) links)))
     ≡ links_hold j [] (map value links)
 unfolding links_hold
 next_decides value j links n link h at decides =
-    sym (ap (λ ls. links_hold j (map value (take n links)) (map value ls)) (drop_more links n link h ∙ ap (λ l. l ∷ drop (n + 1) links) (sym at))
+    sym (ap (λ ls. links_hold j (map value (take n links)) (map value ls)) (drop_more links n link h
+    ∙ ap (λ l. l ∷ drop (n + 1) links) (sym at))
     ∙ ap (λ ls. link_holds j (map value (take n links)) (value link) && links_hold j ls (map value (drop (n + 1) links)))
     (sym (taken_more value links n link h at)))
     ∙ decides

@@ -1,3 +1,4 @@
+pub mod KeptChains
 pub mod LinkJudges
 pub mod Indexed
 pub mod Prefixes

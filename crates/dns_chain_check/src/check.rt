@@ -1,3 +1,5 @@
+//! Whether a chain is justified, or accepted by itself: each link holds by those before it (RFC 4035, 5.2 and 5.3).
+
 ghost use Rattle.std.specs.Prelude.{◌≡◌, [], IfOk, IsTrue, map};
 ghost use Rattle.dns_model.specs.Chains.{accepted_alone, judge, judge_alone, justified, link_holds, links_hold};
 ghost use Rattle.dns_evidence.specs.Link.{link_value};
@@ -10,7 +12,7 @@ use crate::holds::holds;
 use crate::indexed::IndexedLink;
 use crate::link_judge::{LinkJudge, Trust};
 use dns_evidence::{Chain, Link, Verifier};
-use dns_name::NoMemory;
+use dns_record::NoMemory;
 use dns_trust::TrustAnchors;
 use std::alloc::Global;
 
@@ -32,9 +34,14 @@ pub fn check_chain<V: Verifier>(
     // And the verifier accepts it by itself, whoever trusts its first keys and whenever.
     ensures alone { IfOk result (λ b. IsTrue b → IsTrue (accepted_alone (V.answers verifier.now) chain.now.links)) }
 {
-    let moment = now;
-    let trust = Some(Trust { anchors, moment });
-    let judge = LinkJudge { verifier, trust };
+    let trust = Trust {
+        anchors,
+        moment: now,
+    };
+    let judge = LinkJudge {
+        verifier,
+        trust: Some(trust),
+    };
     is_justified(alloc, &judge, &chain.links)
 }
 
@@ -84,8 +91,7 @@ fn all_hold<V: Verifier>(
         if !holds_after(alloc, judge, &links[..number], &indexed, link)? {
             return Ok(false);
         }
-        let next = IndexedLink::of(alloc, link)?;
-        indexed.push(next)?;
+        indexed.push(IndexedLink::of(alloc, link)?)?;
     }
     Ok(true)
 }

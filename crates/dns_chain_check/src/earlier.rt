@@ -1,11 +1,12 @@
+//! The links before one, and what these show.
+
 ghost use Rattle.std.specs.Prelude.{◌≡◌, slice_get, map};
 ghost use Rattle.dns_model.specs.Chains.{all_shown as all_shown_in, shows_ds as shows_ds_in, shows_key as shows_key_in, shows_member as shows_member_in};
 ghost use Rattle.dns_evidence.specs.Link.{link_value};
 
 use crate::indexed::IndexedLink;
 use dns_evidence::{Link, all_shown, shows_key};
-use dns_name::NameRef;
-use dns_record::{DNSClass, Rdata};
+use dns_record::{DNSClass, NameRef, Rdata};
 use std::marker::Model;
 
 /// The links before one, each with its index.

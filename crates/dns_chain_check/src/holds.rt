@@ -1,3 +1,5 @@
+//! Whether a link holds by links before it (RFC 4035, 5.2 and 5.3).
+
 ghost use Rattle.std.specs.Prelude.{◌≡◌, IfOk};
 ghost use Rattle.dns_model.specs.Chains.{link_holds};
 ghost use Rattle.dns_evidence.specs.Link.{link_value};
@@ -7,7 +9,7 @@ use crate::earlier::Earlier;
 use crate::link_judge::LinkJudge;
 use crate::signed::signed_holds;
 use dns_evidence::{Link, Verifier};
-use dns_name::NoMemory;
+use dns_record::NoMemory;
 use dns_trust::ds_matches;
 use std::alloc::Global;
 

@@ -1,11 +1,12 @@
+//! A link with an index of the rdatas that it shows, so that many links that name one of them are tested in little time.
+
 ghost use Rattle.std.specs.Prelude.{◌≡◌, IfOk, Some};
 ghost use Rattle.dns_model.specs.Chains.{has_bytes, shows_ds as shows_ds_in, shows_member as shows_member_in};
 ghost use Rattle.dns_evidence.specs.Link.{link_value};
 ghost use Rattle.dns_chain_check.specs.Indexed.{Holds, IndexesLink, members_in};
 
 use dns_evidence::{Link, same_owner};
-use dns_name::{NameRef, NoMemory};
-use dns_record::{DNSClass, Rdata, RecordType};
+use dns_record::{DNSClass, NameRef, NoMemory, Rdata, RecordType};
 use std::alloc::Global;
 use std::collections::BTreeSet;
 use std::marker::Model;
@@ -46,9 +47,7 @@ impl<'a> IndexedLink<'a> {
         ensures { result ≡ shows_ds_in owner.now class.0 ds.now (Some self.now) }
     {
         match self.link {
-            Link::Anchored { .. } => false,
-            Link::Matched { .. } => false,
-            Link::KeySet { .. } => false,
+            Link::Anchored { .. } | Link::Matched { .. } | Link::KeySet { .. } => false,
             Link::Signed {
                 owner: name,
                 class: of,
@@ -67,8 +66,7 @@ impl<'a> IndexedLink<'a> {
         ensures { result ≡ shows_member_in owner.now class.0 key.now (Some self.now) }
     {
         match self.link {
-            Link::Anchored { .. } => false,
-            Link::Matched { .. } => false,
+            Link::Anchored { .. } | Link::Matched { .. } => false,
             Link::KeySet {
                 owner: name,
                 class: of,
@@ -100,8 +98,7 @@ fn members_of<'a>(alloc: Global, link: &'a Link) -> Result<Members<'a>, NoMemory
     ensures { IfOk result (λ m. IndexesLink m (link_value link.now)) }
 {
     match link {
-        Link::Anchored { .. } => rdatas_in(alloc, &[]),
-        Link::Matched { .. } => rdatas_in(alloc, &[]),
+        Link::Anchored { .. } | Link::Matched { .. } => rdatas_in(alloc, &[]),
         Link::KeySet { keys, .. } => rdatas_in(alloc, keys),
         Link::Signed { rdatas, .. } => rdatas_in(alloc, rdatas),
     }

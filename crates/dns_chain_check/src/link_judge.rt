@@ -1,9 +1,11 @@
+//! By what links are judged: by a verifier, and by whom and when it is trusted.
+
 ghost use Rattle.std.specs.Prelude.{◌≡◌};
 ghost use Rattle.dns_chain_check.specs.LinkJudges.{link_judge};
 
 use dns_evidence::Verifier;
-use dns_name::Name;
 use dns_rdata::{Dnskey, Rrsig};
+use dns_record::Name;
 use dns_trust::{TrustAnchors, anchored, is_timely};
 
 /// Which keys are trusted without a signature, and when.

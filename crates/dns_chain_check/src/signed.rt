@@ -1,3 +1,5 @@
+//! Whether the link of a signed set holds (RFC 4035, 5.3).
+
 ghost use Rattle.std.specs.Prelude.{◌≡◌, ◌==◌, ◌&&◌, IfOk, Some};
 ghost use Rattle.dns_model.specs.Views.{dnskey_in, rrsig_in};
 ghost use Rattle.dns_model.specs.Signing.{key_tag_of};
@@ -9,9 +11,8 @@ ghost use Rattle.dns_chain_check.specs.Fitting.{fits_set, signed_link_holds};
 use crate::earlier::Earlier;
 use crate::link_judge::LinkJudge;
 use dns_evidence::{Link, LinkSignature, Verifier, has_rdata};
-use dns_name::NoMemory;
 use dns_rdata::{Dnskey, RdataSet, Rrsig, key_tag, signed_data_of};
-use dns_record::{Rdata, RecordType};
+use dns_record::{NoMemory, Rdata, RecordType};
 use dns_trust::{
     accepts_signature, is_never_expanded, is_right_below_signer, is_usable, signer_fits,
 };

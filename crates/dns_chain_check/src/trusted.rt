@@ -30,6 +30,7 @@ fn are_trusted(anchors: &TrustAnchors, now: u64, links: &[Link]) -> bool
     each_trusted(anchors, now, links)
 }
 
+// The same of the links as they stand in memory.
 fn each_trusted(anchors: &TrustAnchors, now: u64, links: &[Link]) -> bool
     ensures { result ≡ list_all (λ l. is_trusted_link anchors.now now (link_value l)) links.now }
 {
@@ -47,8 +48,7 @@ fn is_link_trusted(anchors: &TrustAnchors, now: u64, link: &Link) -> bool
 {
     match link {
         Link::Anchored { owner, key, .. } => anchored(anchors, owner, key.as_slice()),
-        Link::Matched { .. } => true,
-        Link::KeySet { .. } => true,
+        Link::Matched { .. } | Link::KeySet { .. } => true,
         Link::Signed { sig, .. } => counts_at(sig, now),
     }
 }

@@ -11,7 +11,8 @@ common_start [] two same = elim (name_eq [] two) as (λ b. cond {A = Labels} b [
 common_start (label ∷ one) two same =
     let e = above_aligned (label ∷ one) two same in
     let step = λ (b : Bool). elim b as
-    (λ (v : Bool). cond v (label ∷ one) (cond v (label ∷ one) (common_ancestor one two)) ≡ cond v (label ∷ one) (common_ancestor one two)) [ true ↦ refl | false ↦ refl ] in
+    (λ (v : Bool). cond v (label ∷ one) (cond v (label ∷ one) (common_ancestor one two)) ≡ cond v (label ∷ one) (common_ancestor one two))
+    [ true ↦ refl | false ↦ refl ] in
     ap (λ b. cond (name_eq (label ∷ one) two) (label ∷ one) (cond b (label ∷ one) (common_ancestor one two))) e
     ∙ step (name_eq (label ∷ one) two) ∙ ap (λ b. cond b (label ∷ one) (common_ancestor one two)) (sym e)
 

@@ -67,7 +67,9 @@ kept {X} passes less xs i x (Some best) here is worse = record {
   counts = is.counts;
   top = λ k d. below_more (λ n. passes (get_or xs n d) ≡ true → less best.1 (get_or xs n d) ≡ false) i
       (λ n lt h. is.top n d lt h)
-      (λ h. ap (less best.1) (here d) ∙ ⊎_elim (λ differs. untrue {P = less best.1 x ≡ false} differs (sym (ap passes (here d)) ∙ h)) (λ differs. differs) (and_cases (passes x) (less best.1 x) worse)) k;
+      (λ h. ap (less best.1) (here d)
+      ∙ ⊎_elim (λ differs. untrue {P = less best.1 x ≡ false} differs (sym (ap passes (here d)) ∙ h)) (λ differs. differs)
+      (and_cases (passes x) (less best.1 x) worse)) k;
   first = is.first;
 }
 
@@ -109,7 +111,8 @@ earlier passes less xs j best y false is lt at counts more = and_left (passes y)
     (list_all (λ z. not (passes z && less y z)) xs) is
 earlier passes less xs j best y true is lt at counts more =
     and_right (passes y) (list_all (λ z. not (passes z && less y z)) xs)
-    (list_all_at (λ z. not (passes z && less y z)) xs j best lt (ap (λ z. not (passes z && less y z)) (sym at) ∙ exceeds (passes best) (less y best) counts (more is)))
+    (list_all_at (λ z. not (passes z && less y z)) xs j best lt (ap (λ z. not (passes z && less y z)) (sym at)
+    ∙ exceeds (passes best) (less y best) counts (more is)))
 
 place_of_none : {X : Type 0} (test : X → Bool) (xs : List X) → position_or_len test xs ≡ length xs
     → position test xs ≡ None
@@ -140,13 +143,15 @@ all_fail : {X : Type 0} (passes : X → Bool) (less : X → X → Bool) (xs : Li
 all_fail passes less [] none = refl
 all_fail passes less (x ∷ xs) none =
     position_or_len_is (is_top passes less (x ∷ xs)) (x ∷ xs) (length (x ∷ xs)) x (omega arith)
-    (λ k lt. and_left (passes (get_or (x ∷ xs) k x)) (list_all (λ y. not (passes y && less (get_or (x ∷ xs) k x) y)) (x ∷ xs)) (none k x lt)) (λ lt. absurd (omega (arith, lt)))
+    (λ k lt. and_left (passes (get_or (x ∷ xs) k x)) (list_all (λ y. not (passes y && less (get_or (x ∷ xs) k x) y)) (x ∷ xs))
+    (none k x lt)) (λ lt. absurd (omega (arith, lt)))
 
 best_passes : {X : Type 0} (passes : X → Bool) (less : X → X → Bool) (xs : List X) (j : ℕ) (best : X)
     → IsBest passes less xs (length xs) j best → is_top passes less xs best ≡ true
 best_passes passes less xs j best is =
     and_from (passes best) (list_all (λ y. not (passes y && less best y)) xs) is.counts
-    (list_all-from_AllPass (λ y. not (passes y && less best y)) xs (λ k d lt. not_both (passes (get_or xs k d)) (less best (get_or xs k d)) (is.top k d lt)))
+    (list_all-from_AllPass (λ y. not (passes y && less best y)) xs
+    (λ k d lt. not_both (passes (get_or xs k d)) (less best (get_or xs k d)) (is.top k d lt)))
 
 best_at : {X : Type 0} (passes : X → Bool) (less : X → X → Bool) (xs : List X) (j : ℕ) (best : X)
     → IsBest passes less xs (length xs) j best → position_or_len (is_top passes less xs) xs ≡ j
@@ -165,7 +170,8 @@ best_found passes less xs (Some best) is =
     let place = best_at passes less xs best.0 best.1 is in
     record {
       number = sym (place_of_some (is_top passes less xs) xs best.0 place lt);
-      found = sym (find_at (is_top passes less xs) xs ∙ ap (slice_get xs) place ∙ slice_get_read xs (length xs) best.0 best.1 refl lt is.at);
+      found = sym (find_at (is_top passes less xs) xs ∙ ap (slice_get xs) place
+          ∙ slice_get_read xs (length xs) best.0 best.1 refl lt is.at);
       bound = λ i h. let same : best.0 ≡ i = cc in omega (arith, lt, same);
     }
 

@@ -48,7 +48,8 @@ pub wildcard_is_name : (name : Labels) (nsec : OwnedNsec) → is_name name ≡ t
 unfolding closest_encloser
 wildcard_is_name name nsec good h differs =
     let apart : at_or_above name nsec.fields.next ≡ false =
-    ⊎_elim (λ e. e) (λ e. absurd (both_ways (name_eq name nsec.fields.next) (next_is_not name nsec h) (not-false (name_eq name nsec.fields.next) e)))
+    ⊎_elim (λ e. e) (λ e. absurd (both_ways (name_eq name nsec.fields.next) (next_is_not name nsec h)
+    (not-false (name_eq name nsec.fields.next) e)))
     (and_cases (at_or_above name nsec.fields.next) (not (name_eq name nsec.fields.next)) differs) in
     cond_both (nat_lt (length (common_ancestor name nsec.owner)) (length (common_ancestor name nsec.fields.next)))
     (common_ancestor name nsec.fields.next) (common_ancestor name nsec.owner) (λ n. is_name (star n) ≡ true)

@@ -6,3 +6,4 @@ pub mod HashOrder
 pub mod HashTexts
 pub mod Nsec3Enclosers
 pub mod Candidates
+pub mod Counts

@@ -88,9 +88,11 @@ encloser_of by zone nsec3s name left label above hash is split =
     let size : length left ≡ length above + 1 = omega (arith, ap length split) in
     record {
       closer = is.last ∙ ap (λ n. last_labels n name) size;
-      hash = is.hash;
-      wildcard = λ h.
-          let same = bytes_eq-Decides label asterisk in
-          split ∙ ap (λ (l : Label). l ∷ above) (same.0 (sym (ap is_wildcard split) ∙ h));
-      is_name = star_fits label above (ap is_name (sym split) ∙ is.is_name);
+      hashed = record {
+        hash = is.hash;
+        wildcard = λ h.
+            let same = bytes_eq-Decides label asterisk in
+            split ∙ ap (λ (l : Label). l ∷ above) (same.0 (sym (ap is_wildcard split) ∙ h));
+        is_name = star_fits label above (ap is_name (sym split) ∙ is.is_name);
+      };
     }

@@ -8,10 +8,13 @@ pub record EncloserValue : Type 0 where
   pub next_closer : Labels
   pub hash : List ℕ
 
--- the next closer name and its hash are those of this encloser of a name; the wildcard below it is a name, and may be the next
--- closer name
-pub record IsEncloserOf (by : Parameters) (name : Labels) (encloser : EncloserValue) : Type 0 where
-  pub closer : encloser.next_closer ≡ next_closer encloser.name name
+-- the next closer name has this hash; the wildcard below the encloser is a name, and may be the next closer name
+pub record IsHashedBy (by : Parameters) (encloser : EncloserValue) : Type 0 where
   pub hash : encloser.hash ≡ hashed by encloser.next_closer
   pub wildcard : is_wildcard encloser.next_closer ≡ true → encloser.next_closer ≡ star encloser.name
   pub is_name : is_name (star encloser.name) ≡ true
+
+-- the next closer name is that of this encloser of a name
+pub record IsEncloserOf (by : Parameters) (name : Labels) (encloser : EncloserValue) : Type 0 where
+  pub closer : encloser.next_closer ≡ next_closer encloser.name name
+  pub hashed : IsHashedBy by encloser

@@ -5,8 +5,8 @@ ghost use Rattle.dns_denial.specs.Common.{same_label};
 ghost use Rattle.dns_rules.specs.NsecVerdict.{closest_encloser as closest_encloser_of};
 
 use arrayvec::ArrayVec;
-use dns_name::NameRef;
 use dns_rdata::NsecRecord;
+use dns_record::NameRef;
 
 /// The longest ancestor of a name that must exist where the record covers it: the longer of those that it shares with the
 /// owner and with the next owner.
@@ -23,7 +23,7 @@ pub(crate) fn closest_encloser<'a>(name: &NameRef<'a>, nsec: &NsecRecord) -> Nam
     }
 }
 
-/// The name that the common last labels of two names make.
+// The name that the common last labels of two names make.
 fn common_ancestor<'a>(name: &NameRef<'a>, other: &NameRef<'_>) -> NameRef<'a>
     ensures { result ≡ common_ancestor_of name.now other.now }
 {
@@ -34,7 +34,7 @@ fn common_ancestor<'a>(name: &NameRef<'a>, other: &NameRef<'_>) -> NameRef<'a>
     common_of_aligned(&one, &two)
 }
 
-/// The same of names with as many labels: what stands above the last labels that differ.
+// The same of names with as many labels: what stands above the last labels that differ.
 fn common_of_aligned<'a>(one: &NameRef<'a>, two: &NameRef<'_>) -> NameRef<'a>
     requires { length one.now ≡ length two.now }
     ensures { result ≡ common_ancestor_of one.now two.now }
@@ -53,7 +53,7 @@ fn common_of_aligned<'a>(one: &NameRef<'a>, two: &NameRef<'_>) -> NameRef<'a>
     common
 }
 
-/// What two names have in common so far: what stands above these two labels, where they differ.
+// What two names have in common so far: what stands above these two labels, where they differ.
 fn common_above<'a>(
     common: NameRef<'a>,
     above: &NameRef<'a>,

@@ -6,7 +6,7 @@ ghost use Rattle.dns_rules.specs.Nsec3Covering.{counts_for, covering as covering
 ghost use Rattle.dns_denial.specs.Best.{is_better, next_best, passes_if_there};
 
 use crate::hash_text::{HashText, lies_between};
-use crate::nsec3_records::{is_considered, next_hash, owner_hash};
+use crate::nsec3_fields::{is_considered, next_hash, owner_hash};
 use dns_rdata::Nsec3Record;
 
 /// The number of the NSEC3 record, from 0 in the given list, that covers a hash (RFC 5155, 1.3): of those between whose owner
@@ -25,14 +25,17 @@ pub fn nsec3_covering(hash: &[u8; 20], nsec3s: &[Nsec3Record]) -> Option<u32>
 
 /// The record that covers a hash.
 #[tactic(auto, unfolding(dns_rules::specs::Nsec3Covering::covering))]
-pub(crate) fn covering<'a>(hash: &HashText, nsec3s: &'a [Nsec3Record]) -> Option<&'a Nsec3Record>
+pub(crate) fn covering_nsec3<'a>(
+    hash: &HashText,
+    nsec3s: &'a [Nsec3Record],
+) -> Option<&'a Nsec3Record>
     ensures { option_copied result ≡ covering_in hash.now nsec3s.now }
 {
     let (_, nsec3) = nearest(hash, nsec3s)?;
     Some(nsec3)
 }
 
-/// Of the records that cover the hash the first with the nearest owner hash, and its number.
+// Of the records that cover the hash the first with the nearest owner hash, and its number.
 fn nearest<'a>(hash: &HashText, nsec3s: &'a [Nsec3Record]) -> Option<(usize, &'a Nsec3Record)>
     ensures number { option_map (λ p. p.0) result ≡ position (counts_for hash.now nsec3s.now) nsec3s.now }
     ensures found { option_map (λ p. p.1.now) result ≡ find (counts_for hash.now nsec3s.now) nsec3s.now }
@@ -45,7 +48,7 @@ fn nearest<'a>(hash: &HashText, nsec3s: &'a [Nsec3Record]) -> Option<(usize, &'a
     best
 }
 
-/// The nearer of the record found so far and the next one.
+// The nearer of the record found so far and the next one.
 fn nearer<'a>(
     hash: &HashText,
     best: Option<(usize, &'a Nsec3Record)>,
@@ -56,14 +59,14 @@ fn nearer<'a>(
     ensures { option_map (λ p. (p.0, p.1.now)) result
         ≡ next_best (spans_in hash.now) (is_farther_in hash.now) (option_map (λ p. (p.0, p.1.now)) best.entry) place nsec3.now }
 {
-    if spans(hash, nsec3) && is_nearer(hash, &best, nsec3) {
+    if nsec3_spans(hash, nsec3) && is_nearer(hash, &best, nsec3) {
         Some((place, nsec3))
     } else {
         best
     }
 }
 
-/// Whether a record's owner hash is nearer before the hash than that of the record found so far.
+// Whether a record's owner hash is nearer before the hash than that of the record found so far.
 fn is_nearer(hash: &HashText, best: &Option<(usize, &Nsec3Record)>, nsec3: &Nsec3Record) -> bool
     requires met { passes_if_there (spans_in hash.now) (option_map (λ p. (p.0, p.1.now)) best.now) ≡ true }
     requires next { spans_in hash.now nsec3.now ≡ true }
@@ -75,7 +78,7 @@ fn is_nearer(hash: &HashText, best: &Option<(usize, &Nsec3Record)>, nsec3: &Nsec
     }
 }
 
-/// Whether the second record's owner hash is nearer before the hash than the first one's.
+// Whether the second record's owner hash is nearer before the hash than the first one's.
 fn is_farther(hash: &HashText, one: &Nsec3Record, two: &Nsec3Record) -> bool
     requires one { is_considered_in one.now ≡ true }
     requires two { is_considered_in two.now ≡ true }
@@ -87,14 +90,14 @@ fn is_farther(hash: &HashText, one: &Nsec3Record, two: &Nsec3Record) -> bool
     }
 }
 
-/// Whether the hash lies between the record's owner hash and its next hash.
-fn spans(hash: &HashText, nsec3: &Nsec3Record) -> bool
+// Whether the hash lies between the record's owner hash and its next hash.
+fn nsec3_spans(hash: &HashText, nsec3: &Nsec3Record) -> bool
     ensures { result ≡ spans_in hash.now nsec3.now }
 {
     is_considered(nsec3) && is_between(hash, nsec3)
 }
 
-/// The same of a record that isn't ignored.
+// The same of a record that isn't ignored.
 fn is_between(hash: &HashText, nsec3: &Nsec3Record) -> bool
     requires { is_considered_in nsec3.now ≡ true }
     ensures { result ≡ lies_between_in (owner_hash_in nsec3.now) nsec3.now.fields.next hash.now }

@@ -50,13 +50,6 @@ impl HashText {
         Some(HashText { text })
     }
 
-    /// An equal hash.
-    pub(crate) fn copy(&self) -> HashText
-        ensures { result ≡ self.now }
-    {
-        HashText { text: self.text }
-    }
-
     /// Whether a label has this hash's text, in either case. The label isn't decoded for it.
     pub(crate) fn is_written(&self, label: &[u8]) -> bool
         ensures same { result ≡ pointwise nat_eq (map to_ascii_lowercase label.now) (base32hex self.now) }
@@ -65,7 +58,7 @@ impl HashText {
         label.eq_ignore_ascii_case(self.text.as_slice())
     }
 
-    /// Whether this hash comes before the other (RFC 5155, 1.3: hash order). It is the order of their texts.
+    // Whether this hash comes before the other (RFC 5155, 1.3: hash order). It is the order of their texts.
     fn comes_before(&self, other: &HashText) -> bool
         ensures { result ≡ hash_before self.now other.now }
     {

@@ -1,19 +1,17 @@
 //! A delegation to a zone that isn't signed, shown by NSEC3 records (RFC 5155, 8.9).
-ghost use Rattle.std.specs.Prelude.{◌≡◌, true, Some};
+ghost use Rattle.std.specs.Prelude.{◌≡◌, true};
 ghost use Rattle.std.specs.List.{find};
 ghost use Rattle.dns_rules.specs.Nsec3Covering.{matches as matches_in};
 ghost use Rattle.dns_rules.specs.Nsec3Verdict.{hashed, is_unsigned_at as is_unsigned_at_in, is_unsigned_by as is_unsigned_by_in, is_unsigned_in as is_unsigned_in_zone, may_be_unsigned as may_be_unsigned_in, parameters_of as parameters_of_in, provable_encloser as provable_encloser_in, shows_insecure_delegation};
 ghost use Rattle.dns_hashed_denial.specs.HashedDenial.{IsInsecureByHashes};
-ghost use Rattle.dns_denial.specs.Enclosers.{IsEncloserOf};
 
-use crate::hash_covering::covering;
-use crate::hash_text::HashText;
 use crate::listed_types::is_unsigned_cut;
-use crate::nsec3_encloser::{Encloser, provable_encloser};
-use crate::nsec3_records::{Parameters, is_opt_out, matching, parameters_of};
-use crate::nsec3_verdict::are_of_zone;
-use dns_name::{Name, NameRef};
+use crate::nsec3_encloser::provable_encloser;
+use crate::nsec3_fields::is_opt_out;
+use crate::nsec3_parameters::Nsec3Parameters;
+use crate::nsec3_records::Nsec3Records;
 use dns_rdata::Nsec3Record;
+use dns_record::{Name, NameRef};
 
 /// Whether the NSEC3 records show that a child's zone isn't signed, or that nothing can show that it is (RFC 5155, 8.9): the
 /// child is a delegation without DS, or the next closer name lies in an opt-out span. The zone is that right above the first
@@ -25,7 +23,7 @@ pub fn verify_nsec3_insecure_delegation(child: &Name, nsec3s: &[Nsec3Record]) ->
     shows_insecure_delegation(child, nsec3s)
 }
 
-/// By the zone right above the first record's owner.
+// By the zone right above the first record's owner.
 #[tactic(auto, unfolding(dns_rules::specs::Nsec3Verdict::shows_insecure_delegation))]
 fn shows_insecure_delegation(child: &Name, nsec3s: &[Nsec3Record]) -> bool
     ensures { result ≡ shows_insecure_delegation child.now nsec3s.now }
@@ -36,26 +34,26 @@ fn shows_insecure_delegation(child: &Name, nsec3s: &[Nsec3Record]) -> bool
     }
 }
 
-/// The same of the records of a zone.
+// The same of the records of a zone.
 fn is_unsigned_in(zone: &NameRef<'_>, nsec3s: &[Nsec3Record], child: &NameRef<'_>) -> bool
     ensures { result ≡ is_unsigned_in_zone zone.now nsec3s.now child.now }
 {
-    zone.strictly_above(child) && are_of_zone(zone, nsec3s) && is_unsigned_by(zone, nsec3s, child)
+    zone.strictly_above(child) && nsec3s.are_of_zone(zone) && is_unsigned_by(zone, nsec3s, child)
 }
 
-/// By the parameters that the records share, if there are any.
+// By the parameters that the records share, if there are any.
 fn is_unsigned_by(zone: &NameRef<'_>, nsec3s: &[Nsec3Record], child: &NameRef<'_>) -> bool
     ensures { result ≡ is_unsigned_by_in zone.now nsec3s.now child.now (parameters_of_in nsec3s.now) }
 {
-    match parameters_of(nsec3s) {
+    match nsec3s.parameters() {
         Some(by) => is_unsigned_at(&by, zone, nsec3s, child),
         None => false,
     }
 }
 
-/// By the record at the child, or else by the one that covers the next closer name.
+// By the record at the child, or else by the one that covers the next closer name.
 fn is_unsigned_at(
-    by: &Parameters<'_>,
+    by: &Nsec3Parameters<'_>,
     zone: &NameRef<'_>,
     nsec3s: &[Nsec3Record],
     child: &NameRef<'_>,
@@ -63,40 +61,27 @@ fn is_unsigned_at(
     ensures { result ≡ is_unsigned_at_in by.now zone.now nsec3s.now child.now (find (matches_in (hashed by.now child.now)) nsec3s.now) }
 {
     let hash = by.hash(child);
-    match matching(&hash, nsec3s) {
+    match nsec3s.matching(&hash, &mut ()) {
         Some(nsec3) => is_unsigned_cut(&nsec3.type_set()),
         None => may_be_unsigned(by, zone, nsec3s, child, &hash),
     }
 }
 
-/// Whether the next closer name of a child with this hash lies in an opt-out span.
+// Whether the next closer name of a child with this hash lies in an opt-out span.
 fn may_be_unsigned(
-    by: &Parameters<'_>,
+    by: &Nsec3Parameters<'_>,
     zone: &NameRef<'_>,
     nsec3s: &[Nsec3Record],
     child: &NameRef<'_>,
-    hash: &HashText,
+    hash: &[u8; 20],
 ) -> bool
     requires { hash.now ≡ hashed by.now child.now }
     ensures { result ≡ may_be_unsigned_in by.now nsec3s.now child.now (provable_encloser_in by.now zone.now nsec3s.now child.now) }
 {
-    match provable_encloser(by, zone, nsec3s, child, hash) {
-        Some(encloser) => is_covered_opt_out(by, nsec3s, child, &encloser),
-        None => false,
-    }
-}
-
-/// The same by the closest encloser.
-fn is_covered_opt_out(
-    _by: &Parameters<'_>,
-    nsec3s: &[Nsec3Record],
-    _child: &NameRef<'_>,
-    encloser: &Encloser<'_>,
-) -> bool
-    requires { IsEncloserOf _by.now _child.now encloser.now }
-    ensures { result ≡ may_be_unsigned_in _by.now nsec3s.now _child.now (Some encloser.now.name) }
-{
-    match covering(&encloser.hash, nsec3s) {
+    let Some(encloser) = provable_encloser(by, zone, &nsec3s, child, hash, &mut ()) else {
+        return false;
+    };
+    match nsec3s.covering(&encloser.hash, &mut ()) {
         Some(closer) => is_opt_out(closer),
         None => false,
     }

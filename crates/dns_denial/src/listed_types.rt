@@ -6,7 +6,7 @@ use dns_model::Answered;
 use dns_rdata::TypeSet;
 use dns_record::{RecordType, ResponseCode};
 
-/// Whether the type stands at the owner. NSEC and RRSIG stand at each owner, so their bits tell nothing.
+// Whether the type stands at the owner. NSEC and RRSIG stand at each owner, so their bits tell nothing.
 fn has_type(types: &TypeSet<'_>, record_type: RecordType) -> bool
     ensures { result ≡ has_type_in record_type.0 types.now }
 {
@@ -14,7 +14,7 @@ fn has_type(types: &TypeSet<'_>, record_type: RecordType) -> bool
         && !(record_type == RecordType::NSEC || record_type == RecordType::RRSIG)
 }
 
-/// Whether the record stands above a zone cut (RFC 6840, 4.1): its owner is a delegation, and no apex.
+// Whether the record stands above a zone cut (RFC 6840, 4.1): its owner is a delegation, and no apex.
 fn is_cut(types: &TypeSet<'_>) -> bool
     ensures { result ≡ is_cut_in types.now }
 {
@@ -37,14 +37,14 @@ pub(crate) fn is_unsigned_cut(types: &TypeSet<'_>) -> bool
         && !types.contains(RecordType::SOA)
 }
 
-/// Whether the owner has neither the type nor a CNAME that would stand for it (RFC 6840, 4.3).
+// Whether the owner has neither the type nor a CNAME that would stand for it (RFC 6840, 4.3).
 fn lacks_data(types: &TypeSet<'_>, record_type: RecordType) -> bool
     ensures { result ≡ lacks_data_in record_type.0 types.now }
 {
     !(has_type(types, record_type) || has_type(types, RecordType::CNAME))
 }
 
-/// Whether a record denies the type at its owner: for DS it may not be the child's, and for others not the parent's.
+// Whether a record denies the type at its owner: for DS it may not be the child's, and for others not the parent's.
 fn denies_at_owner(types: &TypeSet<'_>, record_type: RecordType) -> bool
     ensures { result ≡ denies_at_owner_in record_type.0 types.now }
 {
@@ -71,7 +71,7 @@ pub(crate) fn is_proved_by_owner(
 }
 
 /// Whether nothing at a wildcard answers for the type, and it is no delegation and has no DNAME (RFC 4592, 4.2 and 4.4).
-pub(crate) fn wildcard_lacks(types: &TypeSet<'_>, record_type: RecordType) -> bool
+pub fn wildcard_lacks(types: &TypeSet<'_>, record_type: RecordType) -> bool
     ensures { result ≡ wildcard_lacks_in record_type.0 types.now }
 {
     lacks_data(types, record_type)

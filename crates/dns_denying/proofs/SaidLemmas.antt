@@ -13,7 +13,8 @@ pub said-push : {X : Type 0} (rtype : ℕ) (read : Rr → Option X) (sets : List
     → said_as rtype read (sets ++ x ∷ []) ≡ said_as rtype read sets ++ said_as rtype read (x ∷ [])
 said-push rtype read sets x =
     let f = λ (judged : MarkedSet). filter_map read judged.set.records in
-    ap (flat_map f) (filter-append (is_denying_as rtype) sets (x ∷ [])) ∙ flat_map-append f (denying_as rtype sets) (denying_as rtype (x ∷ []))
+    ap (flat_map f) (filter-append (is_denying_as rtype) sets (x ∷ []))
+    ∙ flat_map-append f (denying_as rtype sets) (denying_as rtype (x ∷ []))
 
 -- what records say, with one more
 pub said_more : {X : Type 0} (read : Rr → Option X) (records : List Rr) (i : ℕ) (x : Rr) → i < length records → x ≡ get_or records i x

@@ -8,9 +8,8 @@ ghost use Rattle.dns_rules.specs.Outcome.{signer_of, is_made_by as is_made_by_zo
 
 use dns_evidence::{ChainedSet, MarkedSet, decider};
 use dns_model::{Proof, Section};
-use dns_name::NameRef;
 use dns_rdata::Rrsig;
-use dns_record::RecordType;
+use dns_record::{NameRef, RecordType};
 
 /// Whether a set of this type denies existence: one of the authority section that is Secure.
 pub fn has_denying(record_type: RecordType, sets: &[ChainedSet]) -> bool

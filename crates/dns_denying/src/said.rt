@@ -6,9 +6,8 @@ ghost use Rattle.dns_rules.specs.Denying.{owned_nsec, denials, owned_nsec3, hash
 
 use crate::denying::is_denying;
 use dns_evidence::{ChainedSet, MarkedSet};
-use dns_name::NoMemory;
 use dns_rdata::{Nsec3Record, NsecRecord};
-use dns_record::{Record, RecordType};
+use dns_record::{NoMemory, Record, RecordType};
 use std::alloc::Global;
 
 // ---- NSEC

@@ -12,8 +12,10 @@ with_parts algorithm key bytes signature = record { algorithm = algorithm; key =
 -- a signature that is an entry is the same
 pub entry_same : (sought entry : AcceptedSignatureValue) → is_entry sought entry ≡ true → sought ≡ entry
 entry_same sought entry h =
-    let one = and_parts (sought.algorithm == entry.algorithm) (bytes_eq sought.key entry.key && (bytes_eq sought.bytes entry.bytes && bytes_eq sought.signature entry.signature)) h in
-    let two = and_parts (bytes_eq sought.key entry.key) (bytes_eq sought.bytes entry.bytes && bytes_eq sought.signature entry.signature) one.1 in
+    let one = and_parts (sought.algorithm == entry.algorithm) (bytes_eq sought.key entry.key
+    && (bytes_eq sought.bytes entry.bytes && bytes_eq sought.signature entry.signature)) h in
+    let two = and_parts (bytes_eq sought.key entry.key) (bytes_eq sought.bytes entry.bytes
+    && bytes_eq sought.signature entry.signature) one.1 in
     let three = and_parts (bytes_eq sought.bytes entry.bytes) (bytes_eq sought.signature entry.signature) two.1 in
     ap (λ a. with_parts a sought.key sought.bytes sought.signature) (eqb-true sought.algorithm entry.algorithm one.0)
     ∙ ap (λ k. with_parts entry.algorithm k sought.bytes sought.signature) ((bytes_eq-Decides sought.key entry.key).0 two.0)

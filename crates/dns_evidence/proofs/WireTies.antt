@@ -35,7 +35,10 @@ wire_one (x ∷ a) (y ∷ b) same =
 name_eq-wires : (a b : Labels) → name_eq a b ≡ pointwise nat_eq (wire (folded a)) (wire (folded b))
 name_eq-wires a b =
     let wires = bytes_decides (wire (folded a)) (wire (folded b)) in
-    one_answer {P = folded a ≡ folded b} (name_eq a b) _ (name_eq-Decides a b) (λ h. wire_one (folded a) (folded b) (wires.0 h), λ h. wires.1 (ap wire h))
+    one_answer {P = folded a ≡ folded b} (name_eq a b) _ (name_eq-Decides a b) (
+      λ h. wire_one (folded a) (folded b) (wires.0 h),
+      λ h. wires.1 (ap wire h),
+    )
 
 -- names are equal exactly where the order of their wire forms doesn't tell them apart
 pub wire_ties : (a b : Labels) → name_eq a b ≡ is_eq (slice_cmp nat_cmp (wire (folded a)) (wire (folded b)))

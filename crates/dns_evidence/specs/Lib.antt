@@ -1,3 +1,4 @@
+-- Definitions for links, trails, verifiers and lists of accepted signatures.
 pub mod Link
 pub mod Trail
 pub mod Verifiers

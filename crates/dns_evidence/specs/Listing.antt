@@ -1,8 +1,9 @@
 -- What a list of accepted signatures supports and accepts.
-use Rattle.std.specs.Prelude.{ℕ, Bool, not, ◌==◌, ◌&&◌, ◌||◌, List, [], ◌∷◌, ◌++◌, if◌then◌else◌}
+use Rattle.std.specs.Prelude.{ℕ, Bool, IsTrue, ◌↔◌, not, ◌==◌, ◌&&◌, ◌||◌, List, [], ◌∷◌, ◌++◌, if◌then◌else◌}
 use Rattle.std.specs.List.{list_all, list_any}
 use Rattle.dns_model.specs.Keys.{VerifierAnswers, bytes_eq, AcceptedSignatureValue}
 use Rattle.dns_evidence.specs.Finding.{mixed}
+use Rattle.dns_evidence.specs.Verifiers.{AnswerAlike}
 
 pub record ListedValue : Type 0 where
   pub algorithms : List ℕ
@@ -25,6 +26,10 @@ answers_of listed = record {
       not (algorithm == 1)
       && list_any (is_entry (record { algorithm = algorithm; key = key; bytes = bytes; signature = signature })) listed.accepted;
 }
+
+-- two lists answer alike exactly where this is true
+abbrev pub SaysSame : ListedValue → ListedValue → Bool → Type 0
+SaysSame one other answer = IsTrue answer ↔ AnswerAlike (answers_of one) (answers_of other)
 
 -- one algorithm more; algorithm 1 changes nothing
 abbrev pub with_algorithm : ListedValue → ℕ → ListedValue

@@ -1,3 +1,4 @@
+//! The signature that decided a set (RFC 4035, 5.3.3).
 ghost use Rattle.std.specs.Prelude.{◌≡◌};
 ghost use Rattle.std.specs.Option.{option_copied};
 ghost use Rattle.dns_rules.specs.MarkedSets.{decider as decider_of};
@@ -9,8 +10,5 @@ use dns_record::Record;
 pub fn decider<'a>(set: &'a MarkedSet) -> Option<&'a Record>
     ensures { option_copied result ≡ decider_of set.now }
 {
-    match set.sig {
-        Some(place) => set.set.rrsigs.get(place as usize),
-        None => None,
-    }
+    set.set.rrsigs.get(set.sig? as usize)
 }

@@ -1,8 +1,9 @@
+//! Places in a list by numbers that are mixed from what is looked for.
 ghost use Rattle.std.specs.Prelude.{◌≡◌, [], ◌∷◌, ℕ, map, OnOk, OnErr};
 ghost use Rattle.std.specs.Char.{to_ascii_lowercase};
 ghost use Rattle.dns_evidence.specs.Finding.{mixed, mixed_once, places_at, places_after};
 
-use dns_name::NoMemory;
+use dns_record::NoMemory;
 use std::alloc::Global;
 use std::collections::BTreeMap;
 
@@ -65,7 +66,7 @@ fn mix_once(seed: u64, byte: u8) -> u64
     seed.wrapping_mul(FACTOR).wrapping_add(u64::from(byte))
 }
 
-/// A number mixed with four bytes. No product waits for another.
+// A number mixed with four bytes. No product waits for another.
 #[tactic(auto, unfolding(crate::specs::Finding::mixed), using(crate::proofs::Mixing::four_at_once))]
 fn mix_four(seed: u64, first: u8, second: u8, third: u8, fourth: u8) -> u64
     ensures { result ≡ mixed seed (first ∷ second ∷ third ∷ fourth ∷ []) }
@@ -90,7 +91,7 @@ pub fn places_of(places: &PlacesByNumber, number: u64) -> &[usize]
     }
 }
 
-/// Adds a place to those of a number. For want of memory all stay as they were.
+/// Adds a place to those of a number. Where memory runs out, all stay as they were.
 #[tactic(auto, unfolding(crate::specs::Finding::places_at))]
 pub fn add_place(
     alloc: Global,

@@ -1,3 +1,4 @@
+//! Sets with their sections, marks and chains.
 use crate::Link;
 use dns_model::{Proof, Section};
 use dns_record::{Record, RecordSet};

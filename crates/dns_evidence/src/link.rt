@@ -1,14 +1,13 @@
+//! Links of a chain of trust, and chains (RFC 4035, 5.2 and 5.3).
 ghost use Rattle.std.specs.Prelude.{◌≡◌, IfOk, map};
 ghost use Rattle.dns_model.specs.Chains.{Matched as matched, KeySet as key_set, Signed as signed};
 ghost use Rattle.dns_evidence.specs.Link.{link_value};
 
 use dns_model::Section;
-use dns_name::{Name, NoMemory};
-use dns_record::{DNSClass, Rdata, RecordType};
+use dns_record::{DNSClass, Name, NoMemory, Rdata, RecordType};
 use std::marker::Model;
 
 /// A step of a chain of trust (RFC 4035, 5.2 and 5.3). Numbers are those of earlier links, from 0.
-#[derive(Drop)]
 pub enum Link {
     /// A key that a trust anchor names.
     Anchored {
@@ -41,6 +40,41 @@ pub enum Link {
         key_link: u32,
         key: Rdata,
     },
+}
+
+// By hand, so that a function that lets one go calls this.
+impl Drop for Link {
+    fn drop(self) {
+        match self {
+            Link::Anchored {
+                owner: _,
+                class: _,
+                key: _,
+            } => {}
+            Link::Matched {
+                owner: _,
+                class: _,
+                key: _,
+                ds_link: _,
+                ds: _,
+            } => {}
+            Link::KeySet {
+                owner: _,
+                class: _,
+                keys: _,
+                links: _,
+            } => {}
+            Link::Signed {
+                owner: _,
+                class: _,
+                record_type: _,
+                rdatas: _,
+                sig: _,
+                key_link: _,
+                key: _,
+            } => {}
+        }
+    }
 }
 
 /// The signature of a signed set, and the key that made it (RFC 4035, 5.3).
@@ -79,8 +113,7 @@ pub fn clone_rdatas(rdatas: &Vec<Rdata>) -> Result<Vec<Rdata>, NoMemory>
 {
     let mut all = Vec::with_capacity(*rdatas.allocator(), rdatas.len())?;
     for rdata in rdatas {
-        let next = rdata.try_clone()?;
-        all.push(next)?;
+        all.push(rdata.try_clone()?)?;
     }
     Ok(all)
 }
@@ -91,13 +124,12 @@ pub fn clone_links(links: &Vec<Link>) -> Result<Vec<Link>, NoMemory>
 {
     let mut all = Vec::with_capacity(*links.allocator(), links.len())?;
     for link in links {
-        let next = link.try_clone()?;
-        all.push(next)?;
+        all.push(link.try_clone()?)?;
     }
     Ok(all)
 }
 
-/// A link to a key that matches a DS record, in memory of its own.
+// A link to a key that matches a DS record, in memory of its own.
 fn clone_matched(
     owner: &Name,
     class: DNSClass,
@@ -119,7 +151,7 @@ fn clone_matched(
     })
 }
 
-/// A link to a key set, in memory of its own.
+// A link to a key set, in memory of its own.
 fn clone_key_set(
     owner: &Name,
     class: DNSClass,
@@ -139,7 +171,7 @@ fn clone_key_set(
     })
 }
 
-/// A link to a signed set, in memory of its own.
+// A link to a signed set, in memory of its own.
 fn clone_signed(
     owner: &Name,
     class: DNSClass,

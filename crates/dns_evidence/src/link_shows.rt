@@ -6,8 +6,7 @@ ghost use Rattle.dns_model.specs.Chains.{has_bytes, shows_key, shows_ds, shows_m
 ghost use Rattle.dns_evidence.specs.Link.{link_value};
 
 use crate::Link;
-use dns_name::{Name, NameRef};
-use dns_record::{DNSClass, Rdata, RecordType};
+use dns_record::{DNSClass, Name, NameRef, Rdata, RecordType};
 
 /// The list holds these bytes.
 pub fn has_rdata(rdatas: &[Rdata], rdata: &[u8]) -> bool
@@ -23,7 +22,7 @@ pub fn same_owner(owner: &NameRef, class: DNSClass, name: &Name, of: DNSClass) -
     owner.eq_name(&name.borrowed()) && class == of
 }
 
-/// The link shows that the owner's zone trusts this key.
+// The link shows that the owner's zone trusts this key.
 fn link_shows_key(link: &Link, owner: &NameRef, class: DNSClass, key: &[u8]) -> bool
     ensures { result ≡ shows_key owner.now class.0 key.now (Some (link_value link.now)) }
 {
@@ -43,7 +42,7 @@ fn link_shows_key(link: &Link, owner: &NameRef, class: DNSClass, key: &[u8]) -> 
     }
 }
 
-/// The link shows a DS of the owner.
+// The link shows a DS of the owner.
 fn link_shows_ds(link: &Link, owner: &NameRef, class: DNSClass, ds: &[u8]) -> bool
     ensures { result ≡ shows_ds owner.now class.0 ds.now (Some (link_value link.now)) }
 {
@@ -63,7 +62,7 @@ fn link_shows_ds(link: &Link, owner: &NameRef, class: DNSClass, ds: &[u8]) -> bo
     }
 }
 
-/// The link shows a key set of the owner with this key in it.
+// The link shows a key set of the owner with this key in it.
 fn link_shows_member(link: &Link, owner: &NameRef, class: DNSClass, key: &[u8]) -> bool
     ensures { result ≡ shows_member owner.now class.0 key.now (Some (link_value link.now)) }
 {

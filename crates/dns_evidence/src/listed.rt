@@ -1,14 +1,15 @@
+//! A verifier that accepts what is listed.
 ghost use Rattle.std.specs.Prelude.{◌≡◌, ◌↔◌, ◌==◌, ◌&&◌, ◌||◌, ◌++◌, ◌∷◌, [], false, IsTrue, IfOk, OnOk, OnErr};
 ghost use Rattle.std.specs.List.{list_all, list_any};
 ghost use Rattle.dns_evidence.specs.Verifiers.{AnswerAlike};
 ghost use Rattle.dns_evidence.specs.ByteSets.{IsByteSet};
 ghost use Rattle.dns_evidence.specs.Finding.{passes_at};
-ghost use Rattle.dns_evidence.specs.Listing.{answers_of, holds as holds_in, is_entry as is_entry_of, is_listed, is_within as is_within_of, signature_number as number_in, with_accepted, with_algorithm};
+ghost use Rattle.dns_evidence.specs.Listing.{answers_of, holds as holds_in, is_entry as is_entry_of, is_listed, SaysSame, is_within as is_within_of, signature_number as number_in, with_accepted, with_algorithm};
 
 use crate::Verifier;
 use crate::finding::{PlacesByNumber, add_place, mix, places_of};
 use arrayvec::ArrayVec;
-use dns_name::{NoMemory, Octets};
+use dns_record::{NoMemory, Octets};
 use std::alloc::Global;
 use std::collections::BTreeMap;
 use std::marker::Model;
@@ -123,8 +124,8 @@ impl Listed {
         add_algorithm(&mut self.algorithms, algorithm);
     }
 
-    /// Accepts a signature over bytes by a key under an algorithm from now on; algorithm 1 changes nothing. For want of
-    /// memory all stays as it was.
+    /// Accepts a signature over bytes by a key under an algorithm from now on; algorithm 1 changes nothing. Where memory
+    /// runs out, all stays as it was.
     pub fn accept(
         &mut self,
         algorithm: u8,
@@ -185,9 +186,11 @@ impl Listed {
 }
 
 impl Verifier for Listed {
-    ghost use Rattle.dns_evidence.specs.Listing.{answers_of};
+    ghost use Rattle.dns_evidence.specs.Listing.{answers_of, SaysSame};
 
     ghost answers = { answers_of };
+
+    ghost says_same = { SaysSame };
 
     fn supports(&self, algorithm: u8) -> bool {
         algorithm != 1 && self.lists(algorithm)
@@ -207,6 +210,7 @@ impl Verifier for Listed {
     fn same(&self, other: &Listed) -> bool
         ensures alike { IsTrue result → AnswerAlike (answers_of self.now) (answers_of other.now) }
         ensures exact { IsTrue result ↔ AnswerAlike (answers_of self.now) (answers_of other.now) }
+        ensures says { SaysSame self.now other.now result }
     {
         holds_same(self, other)
     }
@@ -226,7 +230,7 @@ impl Listed {
         })
     }
 
-    // One signature more. For want of memory all stays as it was.
+    // One signature more. Where memory runs out, all stays as it was.
     fn push(&mut self, entry: ListedSignature) -> Result<(), NoMemory>
         ensures ok { OnOk result (self.new ≡ record self.old { accepted = self.old.accepted ++ entry ∷ [] }) }
         ensures err { OnErr result (self.new ≡ self.old) }

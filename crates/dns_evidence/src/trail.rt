@@ -1,16 +1,22 @@
+//! The trail of a lookup: its asks, what was heard, and how that was judged.
 ghost use Rattle.std.specs.Prelude.{◌≡◌, []};
 
 use dns_model::{AskRef, Denial, MarkOrigin, Proof, Section};
-use dns_name::Name;
-use dns_record::{DNSClass, Query, Record, RecordType, ResponseCode};
+use dns_record::{DNSClass, Name, Query, Record, RecordType, ResponseCode};
 use std::alloc::Global;
 use std::marker::Model;
 
 /// How an answer came about: each ask, what was heard, and how that was judged (RFC 4035, 5).
-#[derive(Drop)]
 pub struct Trail {
     /// Nested asks before their asker, so that the top ask is the last.
     pub steps: Vec<Asked>,
+}
+
+// By hand, so that a function that lets one go calls this.
+impl Drop for Trail {
+    fn drop(self) {
+        let Trail { steps: _ } = self;
+    }
 }
 
 impl Model for Trail {
@@ -23,7 +29,6 @@ impl Model for Trail {
 }
 
 /// A step of a trail: an ask, and what came of it.
-#[derive(Drop)]
 pub struct Asked {
     /// 0 for the top ask, and one more for each asker above it.
     pub depth: u16,
@@ -39,6 +44,21 @@ pub struct Asked {
     pub ending: Ending,
     /// The asks that the ending stands on.
     pub excuse: Vec<AskRef>,
+}
+
+// By hand, so that a function that lets one go calls this.
+impl Drop for Asked {
+    fn drop(self) {
+        let Asked {
+            depth: _,
+            judged: _,
+            query: _,
+            reply: _,
+            sets: _,
+            ending: _,
+            excuse: _,
+        } = self;
+    }
 }
 
 impl Model for Asked {
@@ -59,7 +79,6 @@ impl Model for Asked {
 }
 
 /// What was heard of a reply.
-#[derive(Drop)]
 pub enum Reply {
     /// The records that it tells.
     Told(Told),
@@ -67,8 +86,17 @@ pub enum Reply {
     Fault,
 }
 
+// By hand, so that a function that lets one go calls this.
+impl Drop for Reply {
+    fn drop(self) {
+        match self {
+            Reply::Told(_) => {}
+            Reply::Fault => {}
+        }
+    }
+}
+
 /// The records that a reply tells (RFC 1035, 4.1).
-#[derive(Drop)]
 pub struct Told {
     /// The response code.
     pub code: ResponseCode,
@@ -80,6 +108,19 @@ pub struct Told {
     pub authorities: Vec<Record>,
     /// The additional section, without marks.
     pub additionals: Vec<Record>,
+}
+
+// By hand, so that a function that lets one go calls this.
+impl Drop for Told {
+    fn drop(self) {
+        let Told {
+            code: _,
+            empty: _,
+            answers: _,
+            authorities: _,
+            additionals: _,
+        } = self;
+    }
 }
 
 impl Model for Told {
@@ -100,7 +141,6 @@ impl Model for Told {
 }
 
 /// A set of a reply, and how it was judged (RFC 4035, 5.3).
-#[derive(Drop)]
 pub struct JudgedSet {
     /// Where the set stands.
     pub section: Section,
@@ -116,6 +156,21 @@ pub struct JudgedSet {
     pub sig: Option<u32>,
     /// The asks that the mark stands on, in order.
     pub asked: Vec<AskRef>,
+}
+
+// By hand, so that a function that lets one go calls this.
+impl Drop for JudgedSet {
+    fn drop(self) {
+        let JudgedSet {
+            section: _,
+            owner: _,
+            record_type: _,
+            mark: _,
+            origin: _,
+            sig: _,
+            asked: _,
+        } = self;
+    }
 }
 
 impl Model for JudgedSet {
@@ -135,7 +190,6 @@ impl Model for JudgedSet {
 }
 
 /// How a step ends.
-#[derive(Drop)]
 pub enum Ending {
     /// An answer, and what it denies.
     Answered(Denial),
@@ -151,6 +205,23 @@ pub enum Ending {
     Failed,
     /// The reply was seen, and not to be judged.
     Seen,
+}
+
+// By hand, so that a function that lets one go calls this.
+impl Drop for Ending {
+    fn drop(self) {
+        match self {
+            Ending::Answered(_) => {}
+            Ending::Denied(_) => {}
+            Ending::Foreign {
+                owner: _,
+                class: _,
+                record_type: _,
+            } => {}
+            Ending::Failed => {}
+            Ending::Seen => {}
+        }
+    }
 }
 
 impl Trail {

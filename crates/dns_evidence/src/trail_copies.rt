@@ -1,17 +1,16 @@
+//! Copies of a trail in memory of their own.
 ghost use Rattle.std.specs.Prelude.{◌≡◌, IfOk};
 ghost use Rattle.dns_evidence.specs.Trail.{ending_value, heard_value};
 
 use crate::{Asked, Ending, JudgedSet, Reply, Told, Trail};
-use dns_name::NoMemory;
-use dns_record::clone_records;
+use dns_record::{NoMemory, clone_records};
 
 fn clone_sets(sets: &Vec<JudgedSet>) -> Result<Vec<JudgedSet>, NoMemory>
     ensures { IfOk result (λ v. v.items ≡ sets.now.items) }
 {
     let mut all = Vec::with_capacity(*sets.allocator(), sets.len())?;
     for set in sets {
-        let next = set.try_clone()?;
-        all.push(next)?;
+        all.push(set.try_clone()?)?;
     }
     Ok(all)
 }
@@ -21,8 +20,7 @@ fn clone_steps(steps: &Vec<Asked>) -> Result<Vec<Asked>, NoMemory>
 {
     let mut all = Vec::with_capacity(*steps.allocator(), steps.len())?;
     for step in steps {
-        let next = step.try_clone()?;
-        all.push(next)?;
+        all.push(step.try_clone()?)?;
     }
     Ok(all)
 }
@@ -65,10 +63,7 @@ impl Reply {
         ensures { IfOk result (λ r. heard_value r ≡ heard_value self.now) }
     {
         match self {
-            Reply::Told(told) => {
-                let told = told.try_clone()?;
-                Ok(Reply::Told(told))
-            }
+            Reply::Told(told) => Ok(Reply::Told(told.try_clone()?)),
             Reply::Fault => Ok(Reply::Fault),
         }
     }

@@ -1,4 +1,5 @@
-ghost use Rattle.std.specs.Prelude.{◌≡◌, IsTrue};
+//! What tests signatures.
+ghost use Rattle.std.specs.Prelude.{◌≡◌, ⊤, Bool, IsTrue};
 ghost use Rattle.dns_model.specs.Keys.{VerifierAnswers};
 ghost use Rattle.dns_evidence.specs.Verifiers.{AnswerAlike};
 
@@ -15,7 +16,11 @@ pub trait Verifier {
     fn accepts(&self, algorithm: u8, key: &[u8], bytes: &[u8], signature: &[u8]) -> bool
         ensures { result ≡ (answers self.now).accepts algorithm key.now bytes.now signature.now };
 
+    /// What `same` may answer of two verifiers. Left open it is anything that is true.
+    ghost says_same: { Self → Self → Bool → Type 0 } = { λ _ _ _. ⊤ };
+
     /// The other verifier answers alike; a verifier that can't tell says false.
     fn same(&self, other: &Self) -> bool
-        ensures { IsTrue result → AnswerAlike (answers self.now) (answers other.now) };
+        ensures alike { IsTrue result → AnswerAlike (answers self.now) (answers other.now) }
+        ensures says { says_same self.now other.now result };
 }

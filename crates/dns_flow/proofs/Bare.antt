@@ -88,23 +88,27 @@ try_bare : (q : Question) (placed : PlacedSet) (vs ws : List ChainedVerdict) (rs
 unfolding try_from
 try_bare q placed vs ws [] same = marked_bare placed vs ws same
 try_bare q placed vs ws (r ∷ rs) same =
-    both_if (is_skipped q placed.set r) (try_from q placed (vs ++ unasked ∷ []) rs) (try_from q placed (ws ++ unasked ∷ []) rs) (Trying placed vs) (Trying placed ws)
+    both_if (is_skipped q placed.set r) (try_from q placed (vs ++ unasked ∷ []) rs) (try_from q placed (ws ++ unasked ∷ []) rs)
+    (Trying placed vs) (Trying placed ws)
     (try_bare q placed (vs ++ unasked ∷ []) (ws ++ unasked ∷ []) rs (same_more vs ws unasked unasked same refl))
     (ap (Trying placed) (same_bare vs ws same))
 
-verdict_bare : (q : Question) (placed : PlacedSet) (vs ws : List ChainedVerdict) (v w : ChainedVerdict) → bare_verdicts vs ≡ bare_verdicts ws
+verdict_bare : (q : Question) (placed : PlacedSet) (vs ws : List ChainedVerdict) (v w : ChainedVerdict)
+    → bare_verdicts vs ≡ bare_verdicts ws
     → v.verdict ≡ w.verdict → bare_phase (after_verdict q placed vs v) ≡ bare_phase (after_verdict q placed ws w)
 verdict_bare q placed vs ws v w same one =
     let more = same_more vs ws v w same one in
     let left = λ (n : ℕ). drop (n + 1) (first_signatures placed.set) in
     let go = λ (xs : List ChainedVerdict). try_from q placed xs in
     ap (λ b. bare_phase (if b then Marked (chained_by placed (vs ++ v ∷ [])) else go (vs ++ v ∷ []) (left (length vs)))) (ap is_proved one)
-    ∙ ap (λ n. bare_phase (if is_proved w.verdict then Marked (chained_by placed (vs ++ v ∷ [])) else go (vs ++ v ∷ []) (left n))) (same_length vs ws same)
+    ∙ ap (λ n. bare_phase (if is_proved w.verdict then Marked (chained_by placed (vs ++ v ∷ [])) else go (vs ++ v ∷ []) (left n)))
+    (same_length vs ws same)
     ∙ both_if (is_proved w.verdict) (Marked (chained_by placed (vs ++ v ∷ []))) (Marked (chained_by placed (ws ++ w ∷ [])))
     (go (vs ++ v ∷ []) (left (length ws))) (go (ws ++ w ∷ []) (left (length ws)))
     (marked_bare placed (vs ++ v ∷ []) (ws ++ w ∷ []) more) (try_bare q placed (vs ++ v ∷ []) (ws ++ w ∷ []) (left (length ws)) more)
 
-signature_bare : (j : Judge) (q : Question) (placed : PlacedSet) (vs ws : List ChainedVerdict) (a b : Option (List ChainedSet)) (o : Option Rr)
+signature_bare : (j : Judge) (q : Question) (placed : PlacedSet) (vs ws : List ChainedVerdict) (a b : Option (List ChainedSet))
+    (o : Option Rr)
     → bare_verdicts vs ≡ bare_verdicts ws → option_map bare a ≡ option_map bare b
     → bare_phase (after_signature j q placed vs a o) ≡ bare_phase (after_signature j q placed ws b o)
 signature_bare j q placed vs ws a b None same answers = marked_bare placed vs ws same
@@ -131,7 +135,8 @@ after_bare j q told (NeedsDs placed) got = ds_bare j placed (answer_in (bare_got
 after_bare j q told (Trying placed vs) got =
     let at = λ (n : ℕ). slice_get (first_signatures placed.set) n in
     ap (λ n. bare_phase (after_signature j q placed (map bare_verdict vs) (answer_in (bare_got got)) (at n))) (length-map vs bare_verdict)
-    ∙ signature_bare j q placed (map bare_verdict vs) vs (answer_in (bare_got got)) (answer_in got) (at (length vs)) (verdicts_bare vs) (answer_bare got)
+    ∙ signature_bare j q placed (map bare_verdict vs) vs (answer_in (bare_got got)) (answer_in got) (at (length vs))
+    (verdicts_bare vs) (answer_bare got)
 after_bare j q told (AtName seeker class name) got = ap (λ seen. bare_phase (after_probe q told seeker class name seen)) (probe_bare got)
 after_bare j q told (AtZone seeker class zone) got =
     ap (λ o. bare_phase (found q told seeker (unsigned_mark (zone_verdict j.answers class zone o)).mark)) (answer_bare got)

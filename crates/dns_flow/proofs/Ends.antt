@@ -22,14 +22,16 @@ led g told asks p = option_and_then (λ x. end_of (turn x)) (leads g told asks p
 abbrev pub last_if : List AskRef → NeedValue → Option NeedValue
 last_if asks n = if is_empty asks then Some n else None
 
-no_more : (g : StepContext) (told : Told) (p : PhaseValue) (made : AskRef) (n : NeedValue) (rest : PhaseValue → Option PhaseValue) → end_of n ≡ Some n
+no_more : (g : StepContext) (told : Told) (p : PhaseValue) (made : AskRef) (n : NeedValue) (rest : PhaseValue → Option PhaseValue)
+    → end_of n ≡ Some n
     → led_on g told p made n rest ≡ None
 no_more g told p made (SetEnds c) rest h = refl
 no_more g told p made (StepEnds o) rest h = refl
 no_more g told p made (Asks ask) rest h = cc
 
 -- a phase that ends
-pub ended : (g : StepContext) (told : Told) (asks : List AskRef) (p : PhaseValue) (n : NeedValue) → turn p ≡ n → end_of n ≡ Some n → led g told asks p ≡ last_if asks n
+pub ended : (g : StepContext) (told : Told) (asks : List AskRef) (p : PhaseValue) (n : NeedValue) → turn p ≡ n
+    → end_of n ≡ Some n → led g told asks p ≡ last_if asks n
 unfolding leads
 ended g told [] p n is end = ap end_of is ∙ end
 ended g told (made ∷ asks) p n is end =
@@ -57,11 +59,13 @@ asked g told made asks p ask is =
 
 -- ---- phases that end
 
-pub marked : (g : StepContext) (told : Told) (asks : List AskRef) (c : ChainedSet) → led g told asks (bare_phase (Marked c)) ≡ last_if asks (SetEnds (bare_set c))
+pub marked : (g : StepContext) (told : Told) (asks : List AskRef) (c : ChainedSet)
+    → led g told asks (bare_phase (Marked c)) ≡ last_if asks (SetEnds (bare_set c))
 unfolding turn
 marked g told asks c = ended g told asks (bare_phase (Marked c)) (SetEnds (bare_set c)) refl refl
 
-pub concluded : (g : StepContext) (told : Told) (asks : List AskRef) (o : Outcome) → led g told asks (bare_phase (Concluded o)) ≡ last_if asks (StepEnds o)
+pub concluded : (g : StepContext) (told : Told) (asks : List AskRef) (o : Outcome)
+    → led g told asks (bare_phase (Concluded o)) ≡ last_if asks (StepEnds o)
 unfolding turn
 concluded g told asks o = ended g told asks (Concluded o) (StepEnds o) refl refl
 
@@ -82,11 +86,13 @@ pub led_if : (g : StepContext) (told : Told) (asks : List AskRef) (b : Bool) (x 
 led_if g told asks true x y = refl
 led_if g told asks false x y = refl
 
-pub each_if : {X : Type 0} (b : Bool) (x x' y y' : X) → (b ≡ true → x ≡ x') → (b ≡ false → y ≡ y') → (if b then x else y) ≡ (if b then x' else y')
+pub each_if : {X : Type 0} (b : Bool) (x x' y y' : X) → (b ≡ true → x ≡ x') → (b ≡ false → y ≡ y')
+    → (if b then x else y) ≡ (if b then x' else y')
 each_if true x x' y y' first second = first refl
 each_if false x x' y y' first second = second refl
 
-pub last_map : {X : Type 0} (asks : List AskRef) (end : X → NeedValue) (x : X) → last_if asks (end x) ≡ option_map end (if is_empty asks then Some x else None)
+pub last_map : {X : Type 0} (asks : List AskRef) (end : X → NeedValue) (x : X)
+    → last_if asks (end x) ≡ option_map end (if is_empty asks then Some x else None)
 last_map [] end x = refl
 last_map (made ∷ asks) end x = refl
 
@@ -97,6 +103,7 @@ last_made true (made ∷ asks) end x = refl
 last_made false [] end x = refl
 last_made false (made ∷ asks) end x = refl
 
-pub map_if : {X : Type 0} (b : Bool) (end : X → NeedValue) (o : Option X) → (if b then option_map end o else None) ≡ option_map end (if b then o else None)
+pub map_if : {X : Type 0} (b : Bool) (end : X → NeedValue) (o : Option X)
+    → (if b then option_map end o else None) ≡ option_map end (if b then o else None)
 map_if true end o = refl
 map_if false end o = refl

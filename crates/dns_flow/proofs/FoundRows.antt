@@ -9,8 +9,8 @@ use Rattle.dns_model.specs.SoundAnswers.{is_secure}
 use Rattle.dns_rules.specs.CacheEntries.{Found}
 use Rattle.dns_rules.specs.MarkedSets.{MarkedSet, decider}
 use Rattle.dns_rules.specs.ProofErrors.{ProofErrorKindValue}
-use Rattle.dns_proof.specs.Kinds.{because}
-use Rattle.dns_proof.specs.Proofs.{ttl_by, proved_by, proved_whole, excused}
+use Rattle.dns_cache.specs.Kinds.{because}
+use Rattle.dns_cache.specs.Proofs.{ttl_by, proved_by, proved_whole, excused}
 use Rattle.dns_flow.specs.Causes.{found_of}
 
 abbrev found_by : Option ℕ → Proof → Option ℕ → ProofErrorKindValue → Found

@@ -13,8 +13,8 @@ use Rattle.dns_rules.specs.CacheEntries.{Found, mark_of, sig_of, is_backed}
 use Rattle.dns_rules.specs.Delegations.{Signed, Insecure, Bogus, is_ds_set_of, is_supported_ds, is_readable_ds, verdict_by_ds, shows_no_ds, shows_no_ds_by_hash, is_insecure_above, verdict_without_ds, zone_verdict}
 use Rattle.dns_rules.specs.MarkedSets.{MarkedSet, decider}
 use Rattle.dns_rules.specs.ProofErrors.{ProofErrorKindValue, DsRecordShouldExist, DsResponseInsecure, UnknownKeyAlgorithm}
-use Rattle.dns_proof.specs.Kinds.{because}
-use Rattle.dns_proof.specs.Proofs.{ttl_by, proved_whole, excused}
+use Rattle.dns_cache.specs.Kinds.{because}
+use Rattle.dns_cache.specs.Proofs.{ttl_by, proved_whole, excused}
 use Rattle.dns_trust.specs.ZoneRows.{row_of}
 use Rattle.dns_trust.specs.declared.zone_rows.ZoneRow.{ZoneRow}
 use Rattle.dns_flow.specs.Causes.{zone_cause, is_signed_row, unsigned_row_cause, row_cause, found_of}

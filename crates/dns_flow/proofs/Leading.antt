@@ -15,8 +15,10 @@ use Rattle.dns_flow.specs.Leads.{chainless, bare_phase, is_made, got_of, led_on,
 
 -- ---- one ask more
 
-on_more : (g : StepContext) (told : Told) (p : PhaseValue) (made : AskRef) (need : NeedValue) (rest onward : PhaseValue → Option PhaseValue) (r s : PhaseValue)
-    → ((x : PhaseValue) → rest x ≡ Some r → onward x ≡ Some s) → led_on g told p made need rest ≡ Some r → led_on g told p made need onward ≡ Some s
+on_more : (g : StepContext) (told : Told) (p : PhaseValue) (made : AskRef) (need : NeedValue) (rest onward : PhaseValue
+    → Option PhaseValue) (r s : PhaseValue)
+    → ((x : PhaseValue) → rest x ≡ Some r → onward x ≡ Some s) → led_on g told p made need rest ≡ Some r
+    → led_on g told p made need onward ≡ Some s
 on_more g told p made (SetEnds c) rest onward r s more h = cc
 on_more g told p made (StepEnds o) rest onward r s more h = cc
 on_more g told p made (Asks ask) rest onward r s more h =
@@ -25,7 +27,8 @@ on_more g told p made (Asks ask) rest onward r s more h =
     ap (λ b. if b then onward next else None) some.0 ∙ more next some.1
 
 -- asks lead on by one that is made next
-pub leads_more : (g : StepContext) (told : Told) (asks : List AskRef) (p r : PhaseValue) (ask : Ask) (made : AskRef) → leads g told asks p ≡ Some r
+pub leads_more : (g : StepContext) (told : Told) (asks : List AskRef) (p r : PhaseValue) (ask : Ask) (made : AskRef)
+    → leads g told asks p ≡ Some r
     → turn r ≡ Asks ask → is_made g ask made ≡ true
     → leads g told (asks ++ made ∷ []) p ≡ Some (bare_phase (after g.judge g.query told r (got_of g.earlier ask made)))
 unfolding leads
@@ -41,8 +44,10 @@ leads_more g told (first ∷ asks) p r ask made h is fits =
 
 pub stays_if : (g : StepContext) (more : List AskedValue) (q : Question) (judged : Bool) (made : AskRef)
     → (if judged then is_ask g.limits.depth g.earlier (g.depth + 1) q made else is_plain_ask g.earlier g.depth q made) ≡ true
-    → ((if judged then is_ask g.limits.depth (g.earlier ++ more) (g.depth + 1) q made else is_plain_ask (g.earlier ++ more) g.depth q made) ≡ true)
-    × ((if judged then Answer (option_map (map chainless) (finished_answer (g.earlier ++ more) made)) else Probe (probe_by (g.earlier ++ more) q.owner made))
+    → ((if judged then is_ask g.limits.depth (g.earlier ++ more) (g.depth + 1) q made
+    else is_plain_ask (g.earlier ++ more) g.depth q made) ≡ true)
+    × ((if judged then Answer (option_map (map chainless) (finished_answer (g.earlier ++ more) made))
+    else Probe (probe_by (g.earlier ++ more) q.owner made))
     ≡ (if judged then Answer (option_map (map chainless) (finished_answer g.earlier made)) else Probe (probe_by g.earlier q.owner made)))
 stays_if g more q true made h =
     let stays = ask_stays g.limits.depth g.earlier more (g.depth + 1) q made h in
@@ -51,7 +56,8 @@ stays_if g more q false made h =
     let stays = plain_stays g.earlier more g.depth q q.owner made h in
     (stays.asks, ap Probe stays.sees)
 
-on_stays : (g : StepContext) (more : List AskedValue) (told : Told) (p : PhaseValue) (made : AskRef) (need : NeedValue) (rest later : PhaseValue → Option PhaseValue)
+on_stays : (g : StepContext) (more : List AskedValue) (told : Told) (p : PhaseValue) (made : AskRef) (need : NeedValue)
+    (rest later : PhaseValue → Option PhaseValue)
     (r : PhaseValue) → ((x : PhaseValue) → rest x ≡ Some r → later x ≡ Some r) → led_on g told p made need rest ≡ Some r
     → led_on (later_step_context g more) told p made need later ≡ Some r
 on_stays g more told p made (SetEnds c) rest later r stay h = cc
@@ -64,7 +70,8 @@ on_stays g more told p made (Asks ask) rest later r stay h =
     ∙ ap (λ got. later (next got)) stays.1 ∙ stay (next (got_of g.earlier ask made)) some.1
 
 -- where asks led stays when steps are added
-pub leads_stay : (g : StepContext) (more : List AskedValue) (told : Told) (asks : List AskRef) (p r : PhaseValue) → leads g told asks p ≡ Some r
+pub leads_stay : (g : StepContext) (more : List AskedValue) (told : Told) (asks : List AskRef) (p r : PhaseValue)
+    → leads g told asks p ≡ Some r
     → leads (later_step_context g more) told asks p ≡ Some r
 unfolding leads
 leads_stay g more told [] p r h = h

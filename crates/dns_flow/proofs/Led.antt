@@ -165,9 +165,11 @@ row_of g told placed asks n =
     let settled = last_if asks (keys_end g placed None) in
     let by_zone = option_map (zone_end g.query told (Set placed)) (search_from g placed.set.class (set_start placed.set) asks) in
     let tried = option_map (tried_end placed) (verdicts_by g placed.set (first_signatures placed.set) asks) in
-    of_if P (placed.set.rtype == type_dnskey) (if needs_ds g.judge placed.set then by_ds else settled) (if needs_zone placed.set then by_zone else tried) n
+    of_if P (placed.set.rtype == type_dnskey) (if needs_ds g.judge placed.set then by_ds else settled) (if needs_zone placed.set
+    then by_zone else tried) n
     (of_if P (needs_ds g.judge placed.set) by_ds settled n
-    (of_map P (λ zone. keys_end g placed (Some zone)) (zone_asked g placed.set.class placed.set.owner asks) n (λ zone. placed_of-judged_keys g.judge placed (Some zone)))
+    (of_map P (λ zone. keys_end g placed (Some zone)) (zone_asked g placed.set.class placed.set.owner asks) n
+    (λ zone. placed_of-judged_keys g.judge placed (Some zone)))
     (of_last P asks (keys_end g placed None) n (placed_of-judged_keys g.judge placed None)))
     (of_if P (needs_zone placed.set) by_zone tried n
     (of_map P (zone_end g.query told (Set placed)) (search_from g placed.set.class (set_start placed.set) asks) n (λ zone. refl))
@@ -250,7 +252,8 @@ row_ends : (g : StepContext) (told : Told) (sets : List MarkedSet) (asks : List 
     → outcome_of g.limits g.query told sets ≡ w
     → ending_row g told asks w ≡ Some (StepEnds o) → IsStepEnd g told sets o asks
 row_ends g told sets asks (Given denial) o by h = settled_end g told sets asks (Given denial) o by (λ no. cc) h
-row_ends g told sets asks NeedsZone o by h = zone_ends g told sets asks (search_from g g.query.class (question_start g.query) asks) o by refl h
+row_ends g told sets asks NeedsZone o by h =
+    zone_ends g told sets asks (search_from g g.query.class (question_start g.query) asks) o by refl h
 row_ends g told sets asks (Denied p) o by h = settled_end g told sets asks (Denied p) o by (λ no. cc) h
 
 pub step_ends : (g : StepContext) (told : Told) (sets : List MarkedSet) (asks : List AskRef) (phase : PhaseValue)

@@ -36,7 +36,8 @@ abbrev zone_keys_end : StepContext → PlacedSet → ZoneVerdict → NeedValue
 zone_keys_end g placed zone = keys_end g placed (Some zone)
 
 ds_led : (g : StepContext) (told : Told) (placed : PlacedSet) (asks : List AskRef) → needs_ds g.judge placed.set ≡ true
-    → led g told asks (bare_phase (NeedsDs placed)) ≡ option_map (zone_keys_end g placed) (zone_asked g placed.set.class placed.set.owner asks)
+    → led g told asks (bare_phase (NeedsDs placed))
+    ≡ option_map (zone_keys_end g placed) (zone_asked g placed.set.class placed.set.owner asks)
 unfolding turn after
 ds_led g told placed [] needs =
     unasked_end g told (NeedsDs placed) (judged_ask (ds_question placed.set.class placed.set.owner)) refl
@@ -68,7 +69,8 @@ keys_row g placed asks =
 
 keys_if : (g : StepContext) (told : Told) (placed : PlacedSet) (asks : List AskRef) (b : Bool) → needs_ds g.judge placed.set ≡ b
     → led g told asks (bare_phase (if b then NeedsDs placed else Marked (chained_keys g.judge placed)))
-    ≡ (if b then option_map (zone_keys_end g placed) (zone_asked g placed.set.class placed.set.owner asks) else last_if asks (keys_end g placed None))
+    ≡ (if b then option_map (zone_keys_end g placed) (zone_asked g placed.set.class placed.set.owner asks)
+    else last_if asks (keys_end g placed None))
 keys_if g told placed asks true needs = ds_led g told placed asks needs
 keys_if g told placed asks false needs = settled_led g told placed asks
 
@@ -98,7 +100,8 @@ set_led g told placed asks =
     (led_if g told asks unsigned by_zone tries
     ∙ ap (λ x. if unsigned then x else led g told asks (bare_phase tries))
     (searched g told (Set placed) placed.set.class (set_start placed.set) asks (set_start placed.set))
-    ∙ ap (λ x. if unsigned then option_map (zone_end g.query told (Set placed)) (search_from g placed.set.class (set_start placed.set) asks) else x)
+    ∙ ap (λ x. if unsigned then option_map (zone_end g.query told (Set placed))
+    (search_from g placed.set.class (set_start placed.set) asks) else x)
     (tried_from g told placed asks [] (first_signatures placed.set) refl))
 
 -- ---- the entry of a set
@@ -109,7 +112,8 @@ mark_if : (entry : JudgedSetValue) (b : Bool) (x y : Option NeedValue)
 mark_if entry true x y = refl
 mark_if entry false x y = refl
 
-mark_map : {X : Type 0} (entry : JudgedSetValue) (end : X → NeedValue) (test : X → Bool) (o : Option X) → ((x : X) → ends_with_mark entry (end x) ≡ test x)
+mark_map : {X : Type 0} (entry : JudgedSetValue) (end : X → NeedValue) (test : X → Bool) (o : Option X)
+    → ((x : X) → ends_with_mark entry (end x) ≡ test x)
     → option_map_or (ends_with_mark entry) (option_map end o) false ≡ option_map_or test o false
 mark_map entry end test None same = refl
 mark_map entry end test (Some x) same = same x
@@ -120,7 +124,8 @@ mark_last entry [] n = refl
 mark_last entry (made ∷ asks) n = refl
 
 -- the rules lead a set to the mark of an entry exactly where the entry is by the rows
-pub set_rows : (g : StepContext) (told : Told) (placed : PlacedSet) (entry : JudgedSetValue) → is_by_rules g placed entry ≡ leads_to_mark g told placed entry
+pub set_rows : (g : StepContext) (told : Told) (placed : PlacedSet) (entry : JudgedSetValue)
+    → is_by_rules g placed entry ≡ leads_to_mark g told placed entry
 unfolding leads_to_mark
 set_rows g told placed entry =
     let asks = entry.asked in
@@ -153,7 +158,8 @@ set_rows g told placed entry =
 
 -- ---- the ending of a step
 
-end_map : {X : Type 0} (ending : EndingValue) (end : X → NeedValue) (test : X → Bool) (o : Option X) → ((x : X) → ends_with ending (end x) ≡ test x)
+end_map : {X : Type 0} (ending : EndingValue) (end : X → NeedValue) (test : X → Bool) (o : Option X)
+    → ((x : X) → ends_with ending (end x) ≡ test x)
     → option_map_or (ends_with ending) (option_map end o) false ≡ option_map_or test o false
 end_map ending end test None same = refl
 end_map ending end test (Some x) same = same x
@@ -173,14 +179,16 @@ ending_row g told asks (Given denial) = last_if asks (StepEnds (Given denial))
 ending_row g told asks NeedsZone = option_map (zone_end g.query told Ending) (search_from g g.query.class (question_start g.query) asks)
 ending_row g told asks (Denied p) = last_if asks (StepEnds (Denied p))
 
-pub outcome_led : (g : StepContext) (told : Told) (asks : List AskRef) (o : Outcome) → led g told asks (bare_phase (start_by g.query told o)) ≡ ending_row g told asks o
+pub outcome_led : (g : StepContext) (told : Told) (asks : List AskRef) (o : Outcome)
+    → led g told asks (bare_phase (start_by g.query told o)) ≡ ending_row g told asks o
 outcome_led g told asks (Given denial) = concluded g told asks (Given denial)
 outcome_led g told asks NeedsZone = searched g told Ending g.query.class (question_start g.query) asks (question_start g.query)
 outcome_led g told asks (Denied p) = concluded g told asks (Denied p)
 
 -- where asks lead the ending of a step
 pub ending_led : (g : StepContext) (told : Told) (sets : List MarkedSet) (asks : List AskRef)
-    → led g told asks (bare_phase (start_ending g.limits g.query told sets)) ≡ ending_row g told asks (outcome_of g.limits g.query told sets)
+    → led g told asks (bare_phase (start_ending g.limits g.query told sets))
+    ≡ ending_row g told asks (outcome_of g.limits g.query told sets)
 unfolding start_ending
 ending_led g told sets asks = outcome_led g told asks (outcome_of g.limits g.query told sets)
 
@@ -191,7 +199,8 @@ row_holds g told step (Denied p) same = sym (end_last step.ending step.excuse (D
 row_holds g told step NeedsZone same =
     let test = λ (q : Question) (zone : ZoneVerdict). ending_eq (ending_by (outcome_by_zone q told zone)) step.ending in
     ap (λ q. option_map_or (test q) (search_from g q.class (question_start q) step.excuse) false) same
-    ∙ sym (end_map step.ending (zone_end g.query told Ending) (test g.query) (search_from g g.query.class (question_start g.query) step.excuse)
+    ∙ sym (end_map step.ending (zone_end g.query told Ending) (test g.query)
+    (search_from g g.query.class (question_start g.query) step.excuse)
     (λ zone. ap (λ o. ending_eq (ending_by o) step.ending) (zone_outcome g.query told zone)))
 
 -- the rules lead the judged sets of a step to its ending exactly where the ending follows from the table of answers

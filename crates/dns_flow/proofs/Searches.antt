@@ -33,12 +33,14 @@ zone_led g told seeker class zone (made ∷ asks) =
     let by = λ (o : Option (List MarkedSet)). zone_verdict g.judge.answers class zone o in
     let answer = finished_answer g.earlier made in
     asked g told made asks (AtZone seeker class zone) (judged_ask (ds_question class zone)) refl
-    ∙ ap (λ o. if is_one then led g told asks (bare_phase (found g.query told seeker (unsigned_mark (by o)).mark)) else None) (trail_bare answer)
+    ∙ ap (λ o. if is_one then led g told asks (bare_phase (found g.query told seeker (unsigned_mark (by o)).mark))
+    else None) (trail_bare answer)
     ∙ ap (λ x. if is_one then x else None) (found_ends g told asks g.query seeker (unsigned_mark (by answer)).mark)
     ∙ last_made is_one asks (zone_end g.query told seeker) (by answer)
 
 -- what was seen of a name's NS records
-probe_led : (g : StepContext) (told : Told) (seeker : Seeker) (class : ℕ) (name : Labels) (asks : List AskRef) (seen : NsProbe) (above : Option ZoneVerdict)
+probe_led : (g : StepContext) (told : Told) (seeker : Seeker) (class : ℕ) (name : Labels) (asks : List AskRef)
+    (seen : NsProbe) (above : Option ZoneVerdict)
     → led g told asks (bare_phase (search_at g.query told seeker class (parent name))) ≡ option_map (zone_end g.query told seeker) above
     → led g told asks (bare_phase (after_probe g.query told seeker class name seen))
     ≡ option_map (zone_end g.query told seeker) (search_after g class name asks seen above)
@@ -49,7 +51,8 @@ probe_led g told seeker class name asks probes.Failed above on =
 
 -- from a name up
 pub searched : (g : StepContext) (told : Told) (seeker : Seeker) (class : ℕ) (start : Labels) (asks : List AskRef) (name : Labels)
-    → led g told asks (bare_phase (search_at g.query told seeker class name)) ≡ option_map (zone_end g.query told seeker) (search_by g class start name asks)
+    → led g told asks (bare_phase (search_at g.query told seeker class name)) ≡ option_map (zone_end g.query told seeker)
+    (search_by g class start name asks)
 unfolding search_by turn after
 searched g told seeker class start asks [] =
     found_ends g told asks g.query seeker proof.Bogus ∙ last_map asks (zone_end g.query told seeker) (Bogus (DsRecordShouldExist start))
@@ -61,5 +64,6 @@ searched g told seeker class start (made ∷ asks) (label ∷ name) =
     let above = search_by g class start name asks in
     let seen = probe_by g.earlier here made in
     asked g told made asks (AtName seeker class here) (plain_ask (ns_question class here)) refl
-    ∙ ap (λ x. if is_one then x else None) (probe_led g told seeker class here asks seen above (searched g told seeker class start asks name))
+    ∙ ap (λ x. if is_one then x else None)
+    (probe_led g told seeker class here asks seen above (searched g told seeker class start asks name))
     ∙ map_if is_one (zone_end g.query told seeker) (search_after g class here asks seen above)

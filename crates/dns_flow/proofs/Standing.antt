@@ -81,7 +81,8 @@ decided_stands : (j : Judge) (q : Question) (placed : PlacedSet) (vs : List Chai
 unfolding judged_by
 decided_stands j q placed vs good = λ proper. chained_by-stands j placed most_signatures vs (good proper)
 
-try_stands : (j : Judge) (q : Question) (placed : PlacedSet) (vs : List ChainedVerdict) (rs : List Rr) → drop (length vs) (first_signatures placed.set) ≡ rs
+try_stands : (j : Judge) (q : Question) (placed : PlacedSet) (vs : List ChainedVerdict) (rs : List Rr)
+    → drop (length vs) (first_signatures placed.set) ≡ rs
     → (placed.set.rtype == type_dnskey) ≡ false → (IsProper placed.set → AreGood j placed.set (first_signatures placed.set) vs)
     → Stands j q (try_from q placed vs rs)
 unfolding try_from
@@ -102,7 +103,8 @@ try_stands j q placed vs (r ∷ rs) left other good =
           subst P same no;
     })
 
-signature_stands : (j : Judge) (q : Question) (placed : PlacedSet) (vs : List ChainedVerdict) (answer : Option (List ChainedSet)) (o : Option Rr)
+signature_stands : (j : Judge) (q : Question) (placed : PlacedSet) (vs : List ChainedVerdict) (answer : Option (List ChainedSet))
+    (o : Option Rr)
     → slice_get (first_signatures placed.set) (length vs) ≡ o → TriesStand j q placed vs → IsGoodAnswer j answer
     → Stands j q (after_signature j q placed vs answer o)
 signature_stands j q placed vs answer None at tries good = decided_stands j q placed vs tries.good
@@ -110,10 +112,13 @@ signature_stands j q placed vs answer (Some r) at tries good =
     let all = first_signatures placed.set in
     let v = chained_verdict j placed.set r answer in
     let more : IsProper placed.set → AreGood j placed.set all (vs ++ v ∷ []) =
-    λ proper. good_more j placed.set all vs r v (tries.good proper) at (good_verdict j placed.set q r answer proper tries.other (tries.kept r at) good) in
-    stands_if j q (is_proved v.verdict) (Marked (chained_by placed (vs ++ v ∷ []))) (try_from q placed (vs ++ v ∷ []) (drop (length vs + 1) all))
+    λ proper. good_more j placed.set all vs r v (tries.good proper) at
+    (good_verdict j placed.set q r answer proper tries.other (tries.kept r at) good) in
+    stands_if j q (is_proved v.verdict) (Marked (chained_by placed (vs ++ v ∷ [])))
+    (try_from q placed (vs ++ v ∷ []) (drop (length vs + 1) all))
     (λ yes. decided_stands j q placed (vs ++ v ∷ []) more)
-    (λ no. try_stands j q placed (vs ++ v ∷ []) (drop (length vs + 1) all) (ap (λ n. drop n all) (length-append vs (v ∷ []))) tries.other more)
+    (λ no. try_stands j q placed (vs ++ v ∷ []) (drop (length vs + 1) all) (ap (λ n. drop n all) (length-append vs (v ∷ [])))
+    tries.other more)
 
 -- ---- searches
 
@@ -123,7 +128,8 @@ unsigned_stands j placed proof.Insecure insecure = refl
 unsigned_stands j placed proof.Bogus insecure = refl
 unsigned_stands j placed proof.Indeterminate insecure = refl
 
-found_stands : (j : Judge) (q : Question) (told : Told) (seeker : Seeker) (mark : Proof) → is_secure mark ≡ false → Stands j q (found q told seeker mark)
+found_stands : (j : Judge) (q : Question) (told : Told) (seeker : Seeker) (mark : Proof) → is_secure mark ≡ false
+    → Stands j q (found q told seeker mark)
 found_stands j q told (Set placed) mark insecure = λ proper. unsigned_stands j placed mark insecure
 found_stands j q told Ending mark insecure = tt
 
@@ -132,7 +138,8 @@ zone_insecure (Signed ds) = refl
 zone_insecure (Insecure kind) = refl
 zone_insecure (Bogus kind) = refl
 
-search_stands : (j : Judge) (q : Question) (told : Told) (seeker : Seeker) (class : ℕ) (name : Labels) → Stands j q (search_at q told seeker class name)
+search_stands : (j : Judge) (q : Question) (told : Told) (seeker : Seeker) (class : ℕ) (name : Labels)
+    → Stands j q (search_at q told seeker class name)
 search_stands j q told seeker class [] = found_stands j q told seeker proof.Bogus refl
 search_stands j q told seeker class (label ∷ name) = tt
 
@@ -177,8 +184,10 @@ unfolding start_set
 set_stands j q told placed =
     let by_zone = search_at q told (Set placed) placed.set.class (set_start placed.set) in
     let tries = try_from q placed [] (first_signatures placed.set) in
-    stands_if j q (placed.set.rtype == type_dnskey) (start_keys j placed) (if needs_zone placed.set then by_zone else tries) (λ keys. keys_stand j q placed keys)
-    (λ other. stands_if j q (needs_zone placed.set) by_zone tries (λ yes. search_stands j q told (Set placed) placed.set.class (set_start placed.set))
+    stands_if j q (placed.set.rtype == type_dnskey) (start_keys j placed) (if needs_zone placed.set then by_zone
+    else tries) (λ keys. keys_stand j q placed keys)
+    (λ other. stands_if j q (needs_zone placed.set) by_zone tries
+    (λ yes. search_stands j q told (Set placed) placed.set.class (set_start placed.set))
     (λ no. try_stands j q placed [] (first_signatures placed.set) refl other (λ proper. tt)))
 
 outcome_stands : (j : Judge) (q : Question) (told : Told) (o : Outcome) → Stands j q (start_by q told o)
@@ -187,11 +196,13 @@ outcome_stands j q told NeedsZone = search_stands j q told Ending q.class (quest
 outcome_stands j q told (Denied p) = tt
 
 -- how an ending begins
-pub ending_stands : (j : Judge) (limits : Limits) (q : Question) (told : Told) (sets : List MarkedSet) → Stands j q (start_ending limits q told sets)
+pub ending_stands : (j : Judge) (limits : Limits) (q : Question) (told : Told) (sets : List MarkedSet)
+    → Stands j q (start_ending limits q told sets)
 unfolding start_ending
 ending_stands j limits q told sets = outcome_stands j q told (outcome_of limits q told sets)
 
-signature_end : (j : Judge) (q : Question) (placed : PlacedSet) (vs : List ChainedVerdict) (o : Option Question) (c : ChainedSet) → TriesStand j q placed vs
+signature_end : (j : Judge) (q : Question) (placed : PlacedSet) (vs : List ChainedVerdict) (o : Option Question) (c : ChainedSet)
+    → TriesStand j q placed vs
     → signature_need placed vs o ≡ SetEnds c → IsProper c.judged.set → stands j c ≡ true
 signature_end j q placed vs None c tries is =
     let same : chained_by placed vs ≡ c = cc in
@@ -199,7 +210,8 @@ signature_end j q placed vs None c tries is =
 signature_end j q placed vs (Some question) c tries is = cc
 
 -- how a set ends
-pub end_stands : (j : Judge) (q : Question) (phase : PhaseValue) (c : ChainedSet) → Stands j q phase → turn phase ≡ SetEnds c → IsProper c.judged.set
+pub end_stands : (j : Judge) (q : Question) (phase : PhaseValue) (c : ChainedSet) → Stands j q phase → turn phase ≡ SetEnds c
+    → IsProper c.judged.set
     → stands j c ≡ true
 unfolding turn
 end_stands j q (Marked d) c stand is =

@@ -82,7 +82,8 @@ behind : (placed : PlacedSet) (front : List ChainedVerdict) (v : ChainedVerdict)
     → option_map (tried_with placed (front ++ v ∷ [])) o ≡ option_map (tried_with placed front) (option_map (λ vs. v.verdict ∷ vs) o)
 behind placed front v None = refl
 behind placed front v (Some vs) =
-    ap (λ xs. Some (tried_end placed (xs ++ vs))) (verdicts_more front v) ∙ ap (λ xs. Some (tried_end placed xs)) (append_assoc (bare_verdicts front) (v.verdict ∷ []) vs)
+    ap (λ xs. Some (tried_end placed (xs ++ vs))) (verdicts_more front v)
+    ∙ ap (λ xs. Some (tried_end placed xs)) (append_assoc (bare_verdicts front) (v.verdict ∷ []) vs)
 
 -- ---- one signature
 
@@ -91,7 +92,8 @@ pub record IsAsking (set : RrSet) (r : Rr) : Type 0 where
   pub question : Question
   pub asks : ask_of set r ≡ Some question
 
-asking_by : (q : Question) (set : RrSet) (r : Rr) (read : Option RrsigValue) → rrsig_of r ≡ read → is_skipped_read q set read ≡ false → IsAsking set r
+asking_by : (q : Question) (set : RrSet) (r : Rr) (read : Option RrsigValue) → rrsig_of r ≡ read
+    → is_skipped_read q set read ≡ false → IsAsking set r
 asking_by q set r None is kept = cc
 asking_by q set r (Some sig) is kept = record { question = key_question set.class sig.signer; asks = ap (signer_question set.class) is }
 
@@ -100,13 +102,15 @@ is_asking q set r kept = asking_by q set r (rrsig_of r) refl kept
 
 -- the verdict that the answer of a trail gives
 pub trail_verdict : (g : StepContext) (set : RrSet) (r : Rr) (made : AskRef)
-    → (chained_verdict g.judge set r (option_map (map chainless) (finished_answer g.earlier made))).verdict ≡ verdict_of g.judge set r (finished_answer g.earlier made)
+    → (chained_verdict g.judge set r (option_map (map chainless) (finished_answer g.earlier made))).verdict
+    ≡ verdict_of g.judge set r (finished_answer g.earlier made)
 trail_verdict g set r made =
     chained_verdict-bare g.judge set r (option_map (map chainless) (finished_answer g.earlier made))
     ∙ ap (verdict_of g.judge set r) (trail_bare (finished_answer g.earlier made))
 
 -- what needs the next ask
-pub next_need : (placed : PlacedSet) (vs : List ChainedVerdict) (r : Rr) (question : Question) → slice_get (first_signatures placed.set) (length vs) ≡ Some r
+pub next_need : (placed : PlacedSet) (vs : List ChainedVerdict) (r : Rr) (question : Question)
+    → slice_get (first_signatures placed.set) (length vs) ≡ Some r
     → ask_of placed.set r ≡ Some question → turn (Trying placed vs) ≡ Asks (judged_ask question)
 unfolding turn
 next_need placed vs r question at asks =
@@ -126,23 +130,27 @@ after_if : (b : Bool) (v : Verdict) (asks : List AskRef) (o : Option (List Verdi
 after_if true v asks o end = refl
 after_if false v asks o end = refl
 
-ask_if : (b : Bool) (end : List Verdict → NeedValue) (o : Option (List Verdict)) → (if b then option_map end o else None) ≡ option_map end (if b then o else None)
+ask_if : (b : Bool) (end : List Verdict → NeedValue) (o : Option (List Verdict))
+    → (if b then option_map end o else None) ≡ option_map end (if b then o else None)
 ask_if true end o = refl
 ask_if false end o = refl
 
 -- ---- signatures
 
 -- from the verdict of a signature on
-verdict_led : (g : StepContext) (told : Told) (placed : PlacedSet) (asks : List AskRef) (front : List ChainedVerdict) (v : ChainedVerdict) (w : Verdict)
+verdict_led : (g : StepContext) (told : Told) (placed : PlacedSet) (asks : List AskRef) (front : List ChainedVerdict)
+    (v : ChainedVerdict) (w : Verdict)
     (o : Option (List Verdict)) → v.verdict ≡ w
     → led g told asks (bare_phase (try_from g.query placed (front ++ v ∷ []) (drop (length front + 1) (first_signatures placed.set))))
     ≡ option_map (tried_with placed (front ++ v ∷ [])) o
-    → led g told asks (bare_phase (after_verdict g.query placed front v)) ≡ option_map (tried_with placed front) (verdicts_after w asks (λ xs. o))
+    → led g told asks (bare_phase (after_verdict g.query placed front v))
+    ≡ option_map (tried_with placed front) (verdicts_after w asks (λ xs. o))
 verdict_led g told placed asks front v w o is on =
     let next = try_from g.query placed (front ++ v ∷ []) (drop (length front + 1) (first_signatures placed.set)) in
     led_if g told asks (is_proved v.verdict) (Marked (chained_by placed (front ++ v ∷ []))) next
     ∙ ap (λ x. if is_proved v.verdict then x else led g told asks (bare_phase next)) (proved_end g told asks placed front v)
-    ∙ ap (λ x. if is_proved v.verdict then option_map (tried_with placed front) (if is_empty asks then Some (v.verdict ∷ []) else None) else x)
+    ∙ ap (λ x. if is_proved v.verdict then option_map (tried_with placed front) (if is_empty asks then Some (v.verdict ∷ []) else None)
+    else x)
     (on ∙ behind placed front v o)
     ∙ after_if (is_proved v.verdict) v.verdict asks o (tried_with placed front)
     ∙ ap (λ u. option_map (tried_with placed front) (verdicts_after u asks (λ xs. o))) is
@@ -156,13 +164,16 @@ skip_if false end x y = refl
 ask_led : (g : StepContext) (told : Told) (placed : PlacedSet) (asks : List AskRef) (front : List ChainedVerdict) (r : Rr) (rs : List Rr)
     → drop (length front) (first_signatures placed.set) ≡ r ∷ rs → IsAsking placed.set r
     → ((left : List AskRef) (before : List ChainedVerdict) → drop (length before) (first_signatures placed.set) ≡ rs
-    → led g told left (bare_phase (try_from g.query placed before rs)) ≡ option_map (tried_with placed before) (verdicts_by g placed.set rs left))
-    → led g told asks (bare_phase (Trying placed front)) ≡ option_map (tried_with placed front) (verdicts_asked g placed.set r asks (verdicts_by g placed.set rs))
+    → led g told left (bare_phase (try_from g.query placed before rs)) ≡ option_map (tried_with placed before)
+    (verdicts_by g placed.set rs left))
+    → led g told asks (bare_phase (Trying placed front))
+    ≡ option_map (tried_with placed front) (verdicts_asked g placed.set r asks (verdicts_by g placed.set rs))
 unfolding after
 ask_led g told placed [] front r rs left asking go =
     let vs = map bare_verdict front in
     let here = is_next (first_signatures placed.set) (length front) r rs left in
-    let at : slice_get (first_signatures placed.set) (length vs) ≡ Some r = ap (slice_get (first_signatures placed.set)) (length-map front bare_verdict) ∙ here.at in
+    let at : slice_get (first_signatures placed.set) (length vs) ≡ Some r =
+    ap (slice_get (first_signatures placed.set)) (length-map front bare_verdict) ∙ here.at in
     unasked_end g told (Trying placed vs) (judged_ask asking.question) (next_need placed vs r asking.question at asking.asks)
 ask_led g told placed (made ∷ asks) front r rs left asking go =
     let vs = map bare_verdict front in
@@ -177,21 +188,25 @@ ask_led g told placed (made ∷ asks) front r rs left asking go =
     let more = verdicts_by g placed.set rs asks in
     let left_here : drop (length vs) all ≡ r ∷ rs = ap (λ n. drop n all) count ∙ left in
     let left_more : drop (length (vs ++ v ∷ [])) all ≡ rs = next_drop all vs v r rs left_here in
-    let on : led g told asks (bare_phase (try_from g.query placed (vs ++ v ∷ []) (drop (length vs + 1) all))) ≡ option_map (tried_with placed (vs ++ v ∷ [])) more =
+    let on : led g told asks (bare_phase (try_from g.query placed (vs ++ v ∷ []) (drop (length vs + 1) all)))
+    ≡ option_map (tried_with placed (vs ++ v ∷ [])) more =
     ap (λ xs. led g told asks (bare_phase (try_from g.query placed (vs ++ v ∷ []) xs))) (is_next all (length vs) r rs left_here).more
     ∙ go asks (vs ++ v ∷ []) left_more in
     asked g told made asks (Trying placed vs) (judged_ask asking.question) (next_need placed vs r asking.question at asking.asks)
     ∙ ap (λ o. if is_one then led g told asks (bare_phase (after_signature g.judge g.query placed vs answer o)) else None) at
     ∙ ap (λ x. if is_one then x else None) (verdict_led g told placed asks vs v w more (trail_verdict g placed.set r made) on)
-    ∙ ap (λ xs. if is_one then option_map (λ ws. tried_end placed (xs ++ ws)) (verdicts_after w asks (λ x. more)) else None) (verdicts_bare front)
+    ∙ ap (λ xs. if is_one then option_map (λ ws. tried_end placed (xs ++ ws)) (verdicts_after w asks (λ x. more))
+    else None) (verdicts_bare front)
     ∙ ask_if is_one (tried_with placed front) (verdicts_after w asks (λ x. more))
-    ∙ ap (λ o. option_map (tried_with placed front) (if option_map_or (λ q. is_ask g.limits.depth g.earlier (g.depth + 1) q made) o false then verdicts_after w asks (λ x. more) else None))
+    ∙ ap (λ o. option_map (tried_with placed front) (if option_map_or (λ q. is_ask g.limits.depth g.earlier (g.depth + 1) q made) o false
+    then verdicts_after w asks (λ x. more) else None))
     (sym asking.asks)
 
 -- from the signatures that are left on
 pub tried_from : (g : StepContext) (told : Told) (placed : PlacedSet) (asks : List AskRef) (front : List ChainedVerdict) (rs : List Rr)
     → drop (length front) (first_signatures placed.set) ≡ rs
-    → led g told asks (bare_phase (try_from g.query placed front rs)) ≡ option_map (tried_with placed front) (verdicts_by g placed.set rs asks)
+    → led g told asks (bare_phase (try_from g.query placed front rs))
+    ≡ option_map (tried_with placed front) (verdicts_by g placed.set rs asks)
 unfolding try_from verdicts_by
 tried_from g told placed asks front [] left =
     marked_with g told asks placed front ∙ ap (λ xs. last_if asks (tried_end placed xs)) (sym (append-nil (bare_verdicts front)))
@@ -201,17 +216,20 @@ tried_from g told placed asks front (r ∷ rs) left =
     let on = led g told asks (bare_phase (try_from g.query placed (front ++ unasked ∷ []) rs)) in
     led_if g told asks skipped (try_from g.query placed (front ++ unasked ∷ []) rs) (Trying placed front)
     ∙ each_if skipped on (option_map (tried_with placed front) (option_map (λ vs. marks.Failed ∷ vs) (verdicts_by g placed.set rs asks)))
-    (led g told asks (bare_phase (Trying placed front))) (option_map (tried_with placed front) (verdicts_asked g placed.set r asks (verdicts_by g placed.set rs)))
+    (led g told asks (bare_phase (Trying placed front)))
+    (option_map (tried_with placed front) (verdicts_asked g placed.set r asks (verdicts_by g placed.set rs)))
     (λ yes. tried_from g told placed asks (front ++ unasked ∷ []) rs (next_drop (first_signatures placed.set) front unasked r rs left)
     ∙ behind placed front unasked (verdicts_by g placed.set rs asks))
-    (λ no. ask_led g told placed asks front r rs left (is_asking g.query placed.set r no) (λ some before h. tried_from g told placed some before rs h))
+    (λ no. ask_led g told placed asks front r rs left (is_asking g.query placed.set r no)
+    (λ some before h. tried_from g told placed some before rs h))
     ∙ skip_if skipped (tried_with placed front) (option_map (λ vs. marks.Failed ∷ vs) (verdicts_by g placed.set rs asks))
     (verdicts_asked g placed.set r asks (verdicts_by g placed.set rs))
 
 -- ---- in the code
 
 -- a signature that is left out
-skip_at : {V : Type 0} (value : V → ChainedVerdict) (q : Question) (placed : PlacedSet) (items : List V) (v : V) (o : Option Rr) → value v ≡ unasked
+skip_at : {V : Type 0} (value : V → ChainedVerdict) (q : Question) (placed : PlacedSet) (items : List V) (v : V) (o : Option Rr)
+    → value v ≡ unasked
     → slice_get (first_signatures placed.set) (length items) ≡ o → option_map_or (is_skipped q placed.set) o false ≡ true
     → try_from q placed (map value (items ++ v ∷ [])) (drop (length (items ++ v ∷ [])) (first_signatures placed.set))
     ≡ try_from q placed (map value items) (drop (length items) (first_signatures placed.set))
@@ -234,7 +252,8 @@ skip_on q placed items more grown skips =
     ap (λ xs. try_from q placed (map verdict_value xs) (drop (length xs) (first_signatures placed.set))) grown
     ∙ skip_at verdict_value q placed items declared.Failed (slice_get (first_signatures placed.set) (length items)) refl refl skips
 
-stop_at : (q : Question) (placed : PlacedSet) (vs : List ChainedVerdict) (n : ℕ) (o : Option Rr) → slice_get (first_signatures placed.set) n ≡ o
+stop_at : (q : Question) (placed : PlacedSet) (vs : List ChainedVerdict) (n : ℕ) (o : Option Rr)
+    → slice_get (first_signatures placed.set) n ≡ o
     → option_map_or (is_skipped q placed.set) o false ≡ false
     → try_from q placed vs (drop n (first_signatures placed.set)) ≡ (if is_some o then Trying placed vs else Marked (chained_by placed vs))
 unfolding try_from
@@ -248,21 +267,25 @@ stop_at q placed vs n (Some r) at stops =
 pub stops_trying : (q : Question) (placed : PlacedSet) (items : List Declared)
     → option_map_or (is_skipped q placed.set) (slice_get (first_signatures placed.set) (length items)) false ≡ false
     → is_some (slice_get (first_signatures placed.set) (length items)) ≡ true
-    → Trying placed (map verdict_value items) ≡ try_from q placed (map verdict_value items) (drop (length items) (first_signatures placed.set))
+    → Trying placed (map verdict_value items) ≡ try_from q placed (map verdict_value items)
+    (drop (length items) (first_signatures placed.set))
 stops_trying q placed items stops left =
     let at = slice_get (first_signatures placed.set) (length items) in
     let vs = map verdict_value items in
-    ap (λ b. if b then Trying placed vs else Marked (chained_by placed vs)) (sym left) ∙ sym (stop_at q placed vs (length items) at refl stops)
+    ap (λ b. if b then Trying placed vs else Marked (chained_by placed vs)) (sym left)
+    ∙ sym (stop_at q placed vs (length items) at refl stops)
 
 -- and where none is left, the verdicts decide
 pub stops_marked : (q : Question) (placed : PlacedSet) (items : List Declared)
     → option_map_or (is_skipped q placed.set) (slice_get (first_signatures placed.set) (length items)) false ≡ false
     → is_some (slice_get (first_signatures placed.set) (length items)) ≡ false
-    → Marked (chained_by placed (map verdict_value items)) ≡ try_from q placed (map verdict_value items) (drop (length items) (first_signatures placed.set))
+    → Marked (chained_by placed (map verdict_value items)) ≡ try_from q placed (map verdict_value items)
+    (drop (length items) (first_signatures placed.set))
 stops_marked q placed items stops left =
     let at = slice_get (first_signatures placed.set) (length items) in
     let vs = map verdict_value items in
-    ap (λ b. if b then Trying placed vs else Marked (chained_by placed vs)) (sym left) ∙ sym (stop_at q placed vs (length items) at refl stops)
+    ap (λ b. if b then Trying placed vs else Marked (chained_by placed vs)) (sym left)
+    ∙ sym (stop_at q placed vs (length items) at refl stops)
 
 fewer_at : (all : List Rr) (n : ℕ) (test : Rr → Bool) (o : Option Rr) → slice_get all n ≡ o → option_map_or test o false ≡ true
     → length all - (n + 1) < length all - n
@@ -280,7 +303,8 @@ fewer all items more v test grown passes =
     subst (λ n. length all - n < length all - length items) (sym one) less
 
 -- a signature that can't be read
-pub unread_verdict : (j : Judge) (set : RrSet) (r : Rr) (answer : Option (List ChainedSet)) → rrsig_of r ≡ None → chained_verdict j set r answer ≡ unasked
+pub unread_verdict : (j : Judge) (set : RrSet) (r : Rr) (answer : Option (List ChainedSet)) → rrsig_of r ≡ None
+    → chained_verdict j set r answer ≡ unasked
 unfolding chained_verdict verdict_of
 unread_verdict j set r None unread = refl
 unread_verdict j set r (Some cs) unread = ap (λ o. with_chain (verdict_by j set r (bare cs) o) (chain_by_read j set r cs o)) unread

@@ -15,8 +15,8 @@ use Rattle.dns_rules.specs.Probes.{NsProbe}
 use Rattle.dns_rules.specs.Probes as probes
 use Rattle.dns_rules.specs.ProofErrors.{ProofErrorKindValue, RrsigsNotPresent, Net, RrsigsUnverified, DnskeyNotFound, DsRecordsButNoDnskey, DsRecordShouldExist, DsResponseInsecure, UnknownKeyAlgorithm}
 use Rattle.dns_rules.specs.Unsigned.{ns_question, set_start, needs_zone}
-use Rattle.dns_proof.specs.Kinds.{because}
-use Rattle.dns_proof.specs.Proofs.{ttl_by, proved_whole, excused}
+use Rattle.dns_cache.specs.Kinds.{because}
+use Rattle.dns_cache.specs.Proofs.{ttl_by, proved_whole, excused}
 use Rattle.dns_trust.specs.declared.zone_rows.ZoneRow.{ZoneRow}
 use Rattle.dns_trust.specs.declared.zone_rows.ZoneRow.TheVariants as row
 use Rattle.dns_flow.specs.declared.phases.Seeker.TheVariants.{Set, Ending}

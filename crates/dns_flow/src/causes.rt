@@ -11,8 +11,8 @@ ghost use Rattle.dns_rules.specs.Derivation.{StepContext};
 ghost use Rattle.dns_rules.specs.MarkedSets.{decider as decider_of};
 ghost use Rattle.dns_rules.specs.ProofErrors as cause;
 ghost use Rattle.dns_rules.specs.Unsigned.{ns_question};
-ghost use Rattle.dns_proof.specs.Kinds.{kind_value};
-ghost use Rattle.dns_proof.specs.Proofs.{ttl_by as ttl_under};
+ghost use Rattle.dns_cache.specs.Kinds.{kind_value};
+ghost use Rattle.dns_cache.specs.Proofs.{ttl_by as ttl_under};
 ghost use Rattle.dns_trust.specs.Judge.{judge_of};
 ghost use Rattle.dns_trust.specs.Searching.{probe_value};
 ghost use Rattle.dns_trust.specs.Verdicts.{listed};
@@ -25,12 +25,11 @@ ghost use Rattle.dns_flow.specs.Values.{got_value, phase_value};
 use crate::asks::Got;
 use crate::phases::{Phase, Seeker, set_of};
 use crate::signatures::question_at;
+use dns_cache::{ProofError, ProofErrorKind, RrsetProof};
 use dns_evidence::{ChainedSet, MarkedSet, Verifier, decider};
 use dns_model::Proof;
-use dns_name::{Name, NoMemory};
-use dns_proof::{ProofError, ProofErrorKind, RrsetProof};
 use dns_rdata::Rrsig;
-use dns_record::{DNSClass, Record, RecordSet};
+use dns_record::{DNSClass, Name, NoMemory, Record, RecordSet};
 use dns_trust::{
     Judge, NsProbe, ZoneRow, ds_query, is_key_set, needs_zone, ns_query, set_start, zone_row,
 };
@@ -93,10 +92,9 @@ pub fn cause_after<V: Verifier>(
         (got_value got.now) (kind_value cause)) }
 {
     let none = None;
-    let next = match phase {
+    match phase {
         Phase::Marked(_) => Ok(cause),
         Phase::NeedsDs(placed) => {
-            drop(cause);
             keys_cause(alloc, judge.verifier, set_of(placed), answer_in(got, &none))
         }
         Phase::Trying(placed, verdicts) => {
@@ -105,15 +103,12 @@ pub fn cause_after<V: Verifier>(
         }
         Phase::AtName(_, class, name) => after_seen(*class, name, seen_in(got), cause),
         Phase::AtZone(Seeker::Set(placed), class, zone) => {
-            drop(cause);
             let answer = answer_in(got, &none);
             unsigned_cause(alloc, judge.verifier, set_of(placed), *class, zone, answer)
         }
         Phase::AtZone(Seeker::Ending, _, _) => Ok(cause),
         Phase::Concluded(_) => Ok(cause),
-    };
-    drop(none);
-    next
+    }
 }
 
 // The answer, where the reply was to be judged; `none` where it was only to be seen.
@@ -189,13 +184,7 @@ fn unsigned_cause<V: Verifier>(
 fn is_signed(row: ZoneRow) -> bool
     ensures { result ≡ is_signed_row row }
 {
-    match row {
-        ZoneRow::Signed => true,
-        ZoneRow::Unanswered => false,
-        ZoneRow::Unsupported => false,
-        ZoneRow::ShownAbsent => false,
-        ZoneRow::NotShown => false,
-    }
+    matches!(row, ZoneRow::Signed)
 }
 
 // The cause that the row of a zone's DS verdict names, where the zone isn't signed.
@@ -213,8 +202,7 @@ fn row_cause(class: DNSClass, zone: &Name, row: ZoneRow) -> Result<ProofErrorKin
             let name = zone.try_clone()?;
             Ok(ProofErrorKind::DsResponseInsecure { name })
         }
-        ZoneRow::Signed => should_exist(zone),
-        ZoneRow::NotShown => should_exist(zone),
+        ZoneRow::Signed | ZoneRow::NotShown => should_exist(zone),
     }
 }
 
@@ -240,7 +228,6 @@ fn after_try(
     if is_net(&cause) {
         return Ok(cause);
     }
-    drop(cause);
     if answer.is_some() {
         return unverified(set);
     }
@@ -268,10 +255,8 @@ fn after_seen(
         ≡ seen_cause (kind_value cause) (ns_question class.0 name.now) (probe_value seen)) }
 {
     match seen {
-        NsProbe::Found => Ok(cause),
-        NsProbe::Absent => Ok(cause),
+        NsProbe::Found | NsProbe::Absent => Ok(cause),
         NsProbe::Failed => {
-            drop(cause);
             let query = ns_query(name, class)?;
             Ok(ProofErrorKind::Net { query })
         }
@@ -289,7 +274,6 @@ pub fn found_of(
     ensures { result ≡ found_in now judged.now (kind_value cause) }
 {
     if judged.mark == Proof::Secure {
-        drop(cause);
         return Ok(RrsetProof {
             proof: Proof::Secure,
             adjusted_ttl: ttl_left(now, judged),
@@ -297,7 +281,6 @@ pub fn found_of(
         });
     }
     if judged.sig.is_some() {
-        drop(cause);
         return Ok(RrsetProof {
             proof: judged.mark,
             adjusted_ttl: None,
@@ -311,10 +294,8 @@ pub fn found_of(
 fn ttl_left(now: u64, judged: &MarkedSet) -> Option<u32>
     ensures { result ≡ option_map (ttl_under now judged.now.set) (decider_of judged.now) }
 {
-    match decider(judged) {
-        Some(sig) => Some(ttl_by(now, &judged.set, sig)),
-        None => None,
-    }
+    let sig = decider(judged)?;
+    Some(ttl_by(now, &judged.set, sig))
 }
 
 // The ttl that a signature leaves to a set.

@@ -1,3 +1,5 @@
+//! How the ending of a step begins, once all its sets are judged (RFC 4035, 5.4).
+
 ghost use Rattle.std.specs.Prelude.{◌≡◌, IfOk};
 ghost use Rattle.dns_model.specs.SoundAnswers.{Told, told_by};
 ghost use Rattle.dns_model.specs.Trails.{AskedValue};
@@ -12,9 +14,8 @@ use crate::phases::{Phase, Seeker};
 use crate::searching::search_at;
 use dns_evidence::{ChainedSet, Limits};
 use dns_message::Message;
-use dns_name::NoMemory;
 use dns_outcome::{Outcome, outcome_of};
-use dns_record::Query;
+use dns_record::{NoMemory, Query};
 use dns_trust::question_start;
 use std::alloc::Global;
 

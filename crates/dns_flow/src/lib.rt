@@ -9,11 +9,9 @@ mod phases;
 mod searching;
 mod sets;
 mod signatures;
-mod turning;
 
 pub use asks::{Ask, Got, probe_of};
 pub use causes::{cause_after, found_of, start_cause};
 pub use endings::start_ending;
 pub use phases::{Need, Phase, Seeker};
 pub use sets::start_set;
-pub use turning::{after, turn};

@@ -5,16 +5,15 @@ ghost use Rattle.std.specs.Prelude.{◌≡◌, IfOk};
 ghost use Rattle.dns_model.specs.SoundAnswers.{told_by};
 ghost use Rattle.dns_outcome.specs.Outcome.{outcome_value};
 ghost use Rattle.dns_trust.specs.Searching.{probe_value};
-ghost use Rattle.dns_flow.specs.Phases.{found as found_by, search_at as search_from, after_probe as after_seen, outcome_by_mark};
+ghost use Rattle.dns_flow.specs.Phases.{search_at as search_from, after_probe as after_seen, outcome_by_mark};
 ghost use Rattle.dns_flow.specs.Values.{phase_value};
 
 use crate::phases::{Phase, Seeker};
 use dns_message::Message;
 use dns_model::Proof;
-use dns_name::{Name, NoMemory};
 use dns_outcome::{Outcome, outcome_by_zone};
-use dns_record::{DNSClass, Query};
-use dns_trust::{NsProbe, unsigned_set};
+use dns_record::{DNSClass, Name, NoMemory, Query};
+use dns_trust::NsProbe;
 use std::alloc::Global;
 
 /// The search at a name. At the root no zone was found.
@@ -29,8 +28,7 @@ pub(crate) fn search_at(
     ensures { phase_value result ≡ search_from query.now (told_by message.now) seeker class.0 name }
 {
     if name.is_root() {
-        drop(name);
-        found(alloc, query, message, seeker, Proof::Bogus)
+        seeker.found(alloc, query, message, Proof::Bogus)
     } else {
         Phase::AtName(seeker, class, name)
     }
@@ -52,39 +50,15 @@ pub(crate) fn after_probe(
     match seen {
         NsProbe::Found => Ok(Phase::AtZone(seeker, class, name)),
         NsProbe::Absent => {
-            let above = name.base_name();
-            drop(name);
-            let Ok(above) = above else {
-                drop(seeker);
-                return Err(NoMemory);
-            };
+            let above = name.base_name()?;
             Ok(search_at(alloc, query, message, seeker, class, above))
         }
-        NsProbe::Failed => {
-            drop(name);
-            Ok(found(alloc, query, message, seeker, Proof::Bogus))
-        }
-    }
-}
-
-/// What the mark that a zone leaves to what is unsigned in it comes to for whoever searched the zone.
-pub(crate) fn found(
-    alloc: Global,
-    query: &Query,
-    message: &Message,
-    seeker: Seeker,
-    mark: Proof,
-) -> Phase
-    ensures { phase_value result ≡ found_by query.now (told_by message.now) seeker mark }
-{
-    match seeker {
-        Seeker::Set(placed) => Phase::Marked(unsigned_set(alloc, placed, mark)),
-        Seeker::Ending => Phase::Concluded(outcome_of_mark(query, message, mark)),
+        NsProbe::Failed => Ok(seeker.found(alloc, query, message, Proof::Bogus)),
     }
 }
 
 // The outcome of a step whose query's zone leaves this mark.
-fn outcome_of_mark(query: &Query, message: &Message, mark: Proof) -> Outcome
+pub(crate) fn outcome_of_mark(query: &Query, message: &Message, mark: Proof) -> Outcome
     ensures { outcome_value result ≡ outcome_by_mark query.now (told_by message.now) mark }
 {
     outcome_by_zone(query, message, mark)

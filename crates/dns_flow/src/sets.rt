@@ -1,3 +1,5 @@
+//! How a set of a reply begins (RFC 4035, 5.2 and 5.3).
+
 ghost use Rattle.std.specs.Prelude.{◌≡◌, ◌==◌, true, IfOk};
 ghost use Rattle.dns_model.specs.SoundAnswers.{Told, told_by};
 ghost use Rattle.dns_model.specs.Trails.{JudgedSetValue};
@@ -15,8 +17,7 @@ use crate::searching::search_at;
 use crate::signatures::try_from;
 use dns_evidence::{ChainedSet, PlacedSet, Verifier};
 use dns_message::Message;
-use dns_name::NoMemory;
-use dns_record::{DNSClass, Query};
+use dns_record::{DNSClass, NoMemory, Query};
 use dns_trust::{Judge, KeysStep, is_key_set, judged_beside, keys_step_of, needs_zone, set_start};
 use std::alloc::Global;
 
@@ -83,13 +84,11 @@ fn start_unsigned(
         placed.set.class (start_of placed.set)) }
 {
     let class = class_of(&placed);
-    let Ok(start) = set_start(set_of(&placed)) else {
-        drop(placed);
-        return Err(NoMemory);
-    };
+    let start = set_start(set_of(&placed))?;
     Ok(search_at(alloc, query, message, Seeker::Set(placed), class, start))
 }
 
+// The class of a set.
 fn class_of(placed: &PlacedSet) -> DNSClass
     ensures { result.0 ≡ placed.now.set.class }
 {

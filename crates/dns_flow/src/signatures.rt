@@ -13,9 +13,8 @@ ghost use Rattle.dns_flow.specs.Values.{Keeps, need_value, phase_value};
 
 use crate::phases::{Need, Phase, asks, set_of};
 use dns_evidence::{ChainedSet, PlacedSet, Verifier};
-use dns_name::NoMemory;
 use dns_rdata::Rrsig;
-use dns_record::{Query, Record, RecordSet};
+use dns_record::{NoMemory, Query, Record, RecordSet};
 use dns_trust::{
     Judge, SetSignature, Verdict, chained_by, chained_verdict, first_signatures, is_skipped_read,
     key_query,
@@ -32,24 +31,13 @@ pub(crate) fn try_from(
         (drop (length verdicts.items) (first_of placed.set))) }
 {
     'signatures: while skips_next(query, &placed, &verdicts) {
-        if let Err(NoMemory) = add_verdict(&mut verdicts, Verdict::Failed) {
-            drop(placed);
-            drop(verdicts);
-            return Err(NoMemory);
-        }
+        verdicts.push(Verdict::Failed)?;
     }
     if has_next(&placed, &verdicts) {
         Ok(Phase::Trying(placed, verdicts))
     } else {
         marked_by(placed, verdicts)
     }
-}
-
-fn add_verdict(verdicts: &mut Vec<Verdict>, next: Verdict) -> Result<(), NoMemory>
-    ensures { OnOk result (verdicts.new.items ≡ verdicts.old.items ++ next ∷ []) }
-{
-    verdicts.push(next)?;
-    Ok(())
 }
 
 // The verdicts decide.
@@ -99,11 +87,7 @@ pub(crate) fn signature_need(
         (option_and_then (ask_of placed.set) (slice_get (first_of placed.set) (length verdicts.items)))) }
     ensures keeps { IfOk result (λ n. Keeps (Phase.Trying placed verdicts) n) }
 {
-    let Ok(question) = question_at(alloc, set_of(&placed), verdicts.len()) else {
-        drop(placed);
-        drop(verdicts);
-        return Err(NoMemory);
-    };
+    let question = question_at(alloc, set_of(&placed), verdicts.len())?;
     match question {
         Some(question) => Ok(asks(question, true, Phase::Trying(placed, verdicts))),
         None => {
@@ -144,14 +128,9 @@ pub(crate) fn after_signature<V: Verifier>(
         (map verdict_value verdicts.items) (listed answer.now)
         (slice_get (first_of placed.set) (length verdicts.items))) }
 {
-    match verdict_at(alloc, judge, set_of(&placed), verdicts.len(), answer) {
-        Ok(Some(verdict)) => after_verdict(query, placed, verdicts, verdict),
-        Ok(None) => marked_by(placed, verdicts),
-        Err(NoMemory) => {
-            drop(placed);
-            drop(verdicts);
-            Err(NoMemory)
-        }
+    match verdict_at(alloc, judge, set_of(&placed), verdicts.len(), answer)? {
+        Some(verdict) => after_verdict(query, placed, verdicts, verdict),
+        None => marked_by(placed, verdicts),
     }
 }
 
@@ -167,11 +146,7 @@ fn after_verdict(
 {
     let proved = verdict.is_proved();
     let mut verdicts = verdicts;
-    if let Err(NoMemory) = add_verdict(&mut verdicts, verdict) {
-        drop(placed);
-        drop(verdicts);
-        return Err(NoMemory);
-    }
+    verdicts.push(verdict)?;
     if proved {
         marked_by(placed, verdicts)
     } else {

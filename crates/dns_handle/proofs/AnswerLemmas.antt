@@ -66,11 +66,13 @@ pub noted : (old new : BTreeSet QueryKey) (owner : Labels) (rtype : ℕ) (key : 
 noted old new owner rtype key is updates o t =
     let k = key_of (asked o t) in
     let tie : is_eq (key_cmp key k) ≡ (name_eq owner o && (rtype == t)) =
-    ap (λ x. is_eq (key_cmp x k)) is ∙ sym (key_ties (asked owner rtype) (asked o t)) ∙ ap (λ b. name_eq owner o && b) (and_true (rtype == t)) in
+    ap (λ x. is_eq (key_cmp x k)) is ∙ sym (key_ties (asked owner rtype) (asked o t))
+    ∙ ap (λ b. name_eq owner o && b) (and_true (rtype == t)) in
     updates.0 k ∙ put_case (is_eq (key_cmp key k)) (has_at old o t) ∙ ap (λ b. has_at old o t || b) tie
 
 -- a record is put in by its type and by ANY
-pub record_noted : (old mid new : BTreeSet QueryKey) (r : Rr) → Noted old mid r.owner r.rtype → Noted mid new r.owner type_any → RecordNoted old new r
+pub record_noted : (old mid new : BTreeSet QueryKey) (r : Rr) → Noted old mid r.owner r.rtype → Noted mid new r.owner type_any
+    → RecordNoted old new r
 record_noted old mid new r first second o t =
     second o t ∙ ap (λ b. b || (name_eq r.owner o && (type_any == t))) (first o t)
     ∙ or_assoc (has_at old o t) (name_eq r.owner o && (r.rtype == t)) (name_eq r.owner o && (type_any == t))
@@ -79,7 +81,8 @@ record_noted old mid new r first second o t =
 pub none_noted : (index : BTreeSet QueryKey) → AllNoted index index []
 none_noted index o t = sym (or_false (has_at index o t))
 
-pub more_noted : (old mid new : BTreeSet QueryKey) (rs : List Rr) (r : Rr) → AllNoted old mid rs → RecordNoted mid new r → AllNoted old new (rs ++ r ∷ [])
+pub more_noted : (old mid new : BTreeSet QueryKey) (rs : List Rr) (r : Rr) → AllNoted old mid rs → RecordNoted mid new r
+    → AllNoted old new (rs ++ r ∷ [])
 more_noted old mid new rs r before here o t =
     here o t ∙ ap (λ b. b || is_noted o t r) (before o t) ∙ or_assoc (has_at old o t) (list_any (is_noted o t) rs) (is_noted o t r)
     ∙ ap (λ b. has_at old o t || (list_any (is_noted o t) rs || b)) (sym (or_false (is_noted o t r)))
@@ -105,7 +108,8 @@ equal_above : (zone name : Labels) → name_eq zone name ≡ true → at_or_abov
 equal_above zone name same = below_alike zone zone name same (above_itself zone)
 
 -- a name in a zone is the zone's own or below one more label
-above_step : (zone : Labels) (label : Label) (name : Labels) → (name_eq zone (label ∷ name) || at_or_above zone name) ≡ at_or_above zone (label ∷ name)
+above_step : (zone : Labels) (label : Label) (name : Labels)
+    → (name_eq zone (label ∷ name) || at_or_above zone name) ≡ at_or_above zone (label ∷ name)
 above_step zone label name =
     same_test _ _
     (λ h. elim (or_cases (name_eq zone (label ∷ name)) (at_or_above zone name) h) as (λ _. at_or_above zone (label ∷ name) ≡ true) [
@@ -121,7 +125,8 @@ abbrev is_soa_above : Labels → Rr → Bool
 is_soa_above name r = (r.rtype == type_soa) && at_or_above r.owner name
 
 noted_soa : (name : Labels) (r : Rr) → is_noted name type_soa r ≡ ((r.rtype == type_soa) && name_eq r.owner name)
-noted_soa name r = ap (λ b. name_eq r.owner name && b) (or_false (r.rtype == type_soa)) ∙ and_swap (name_eq r.owner name) (r.rtype == type_soa)
+noted_soa name r = ap (λ b. name_eq r.owner name && b) (or_false (r.rtype == type_soa))
+    ∙ and_swap (name_eq r.owner name) (r.rtype == type_soa)
 
 root_above-eq : (zone : Labels) → name_eq zone [] ≡ at_or_above zone []
 root_above-eq [] = refl
@@ -134,7 +139,8 @@ zone_found has rs are [] =
     are [] type_soa ∙ any_agree (is_noted [] type_soa) (is_soa_above [])
     (λ r. noted_soa [] r ∙ ap (λ b. (r.rtype == type_soa) && b) (root_above-eq r.owner)) rs
 zone_found has rs are (label ∷ name) =
-    ap (λ b. b || zone_at has name) (are (label ∷ name) type_soa) ∙ ap (λ b. list_any (is_noted (label ∷ name) type_soa) rs || b) (zone_found has rs are name)
+    ap (λ b. b || zone_at has name) (are (label ∷ name) type_soa)
+    ∙ ap (λ b. list_any (is_noted (label ∷ name) type_soa) rs || b) (zone_found has rs are name)
     ∙ sym (any_either (is_noted (label ∷ name) type_soa) (is_soa_above name) rs)
     ∙ any_agree (λ r. is_noted (label ∷ name) type_soa r || is_soa_above name r) (is_soa_above (label ∷ name))
     (λ r. ap (λ b. b || is_soa_above name r) (noted_soa (label ∷ name) r)
@@ -157,16 +163,20 @@ noted_answers : (q : Question) (r : Rr) (any : Bool) → (q.rtype == type_any) �
 noted_answers q r true any soa =
     let e : (type_any == q.rtype) ≡ true = number_back type_any q.rtype ∙ any in
     let each : answers_to q r ≡ name_eq r.owner q.owner = rw any refl in
-    ap (λ b. name_eq r.owner q.owner && b) (or_right (r.rtype == q.rtype) (type_any == q.rtype) e) ∙ and_true (name_eq r.owner q.owner) ∙ sym each
+    ap (λ b. name_eq r.owner q.owner && b) (or_right (r.rtype == q.rtype) (type_any == q.rtype) e)
+    ∙ and_true (name_eq r.owner q.owner) ∙ sym each
 noted_answers q r false any soa =
     let e : (type_any == q.rtype) ≡ false = number_back type_any q.rtype ∙ any in
     let each : answers_to q r ≡ ((r.rtype == q.rtype) && name_eq r.owner q.owner) = rw (any, soa) refl in
-    ap (λ b. name_eq r.owner q.owner && ((r.rtype == q.rtype) || b)) e ∙ ap (λ b. name_eq r.owner q.owner && b) (or_false (r.rtype == q.rtype))
+    ap (λ b. name_eq r.owner q.owner && ((r.rtype == q.rtype) || b)) e
+    ∙ ap (λ b. name_eq r.owner q.owner && b) (or_false (r.rtype == q.rtype))
     ∙ and_swap (name_eq r.owner q.owner) (r.rtype == q.rtype) ∙ sym each
 
-found_case : (has : Labels → ℕ → Bool) (rs : List Rr) → ((o : Labels) (t : ℕ) → has o t ≡ list_any (is_noted o t) rs) → (q : Question) (soa : Bool)
+found_case : (has : Labels → ℕ → Bool) (rs : List Rr) → ((o : Labels) (t : ℕ) → has o t ≡ list_any (is_noted o t) rs)
+    → (q : Question) (soa : Bool)
     → (q.rtype == type_soa) ≡ soa → cond soa (zone_at has q.owner) (has q.owner q.rtype) ≡ list_any (answers_to q) rs
-found_case has rs are q true soa = zone_found has rs are q.owner ∙ any_agree (is_soa_above q.owner) (answers_to q) (λ r. soa_answers q r soa) rs
+found_case has rs are q true soa = zone_found has rs are q.owner
+    ∙ any_agree (is_soa_above q.owner) (answers_to q) (λ r. soa_answers q r soa) rs
 found_case has rs are q false soa =
     are q.owner q.rtype ∙ any_agree (is_noted q.owner q.rtype) (answers_to q) (λ r. noted_answers q r (q.rtype == type_any) refl soa) rs
 
@@ -182,7 +192,8 @@ contains_found index message are =
     let rs = all_records message in
     let taken = not (is_empty message.answers) in
     any_either (λ q. takes_any_answer q.rtype && taken) (λ q. list_any (answers_to q) rs) message.queries
-    ∙ ap (λ b. b || list_any (λ q. list_any (answers_to q) rs) message.queries) (any_both (λ q. takes_any_answer q.rtype) taken message.queries)
+    ∙ ap (λ b. b || list_any (λ q. list_any (answers_to q) rs) message.queries)
+    (any_both (λ q. takes_any_answer q.rtype) taken message.queries)
     ∙ ap (λ b. takes_answers message || b)
     (sym (any_agree (answered_by (has_at index)) (λ q. list_any (answers_to q) rs) (λ q. found (has_at index) rs are q) message.queries))
 
@@ -192,4 +203,5 @@ contains_any message any =
     let rs = all_records message in
     let taken = not (is_empty message.answers) in
     any_either (λ q. takes_any_answer q.rtype && taken) (λ q. list_any (answers_to q) rs) message.queries
-    ∙ ap (λ b. b || list_any (λ q. list_any (answers_to q) rs) message.queries) (any_both (λ q. takes_any_answer q.rtype) taken message.queries ∙ any)
+    ∙ ap (λ b. b || list_any (λ q. list_any (answers_to q) rs) message.queries)
+    (any_both (λ q. takes_any_answer q.rtype) taken message.queries ∙ any)

@@ -102,7 +102,8 @@ pub form_cased : (bits : List ℕ) (name : Labels) → is_name name ≡ true →
 form_cased bits name good =
     subst (λ w. IsWire w) (sym (wire_cased bits name good)) (IsWire-wire (name_cased bits name) (is_name-cased bits name ∙ good))
 
-pub labels_of_cased : (bits : List ℕ) (name : Labels) → is_name name ≡ true → labels_of (label_cased bits [] (wire name)) ≡ name_cased bits name
+pub labels_of_cased : (bits : List ℕ) (name : Labels) → is_name name ≡ true
+    → labels_of (label_cased bits [] (wire name)) ≡ name_cased bits name
 labels_of_cased bits name good =
     ap labels_of (wire_cased bits name good) ∙ labels_of-wire (name_cased bits name) (is_name-cased bits name ∙ good)
 
@@ -114,6 +115,7 @@ cased_none bits = refl
 
 -- the bytes up to the next one
 pub cased_more : (bits bytes : List ℕ) (i : ℕ) → i < length bytes
-    → label_cased bits [] (take (i + 1) bytes) ≡ label_cased bits [] (take i bytes) ++ byte_cased bits (letters (take i bytes)) (get_or bytes i 0) ∷ []
+    → label_cased bits [] (take (i + 1) bytes) ≡ label_cased bits [] (take i bytes)
+    ++ byte_cased bits (letters (take i bytes)) (get_or bytes i 0) ∷ []
 unfolding label_cased
 cased_more bits bytes i within = rw (take_more bytes i 0 within, label_cased-append bits [] (take i bytes) (get_or bytes i 0 ∷ [])) refl

@@ -54,7 +54,8 @@ pub other_more : (name : Labels) (rs : List Rr) (r : Rr) → is_address r ≡ fa
     → filter (is_address_of name) rs ≡ filter (is_address_of name) (rs ++ r ∷ [])
 other_more name rs r is =
     let none : filter (is_address_of name) (r ∷ []) ≡ [] = rw is refl in
-    sym (filter-append (is_address_of name) rs (r ∷ []) ∙ ap (λ xs. filter (is_address_of name) rs ++ xs) none ∙ append-nil (filter (is_address_of name) rs))
+    sym (filter-append (is_address_of name) rs (r ∷ []) ∙ ap (λ xs. filter (is_address_of name) rs ++ xs) none
+    ∙ append-nil (filter (is_address_of name) rs))
 
 -- a map without a key has no address
 pub no_addresses : {Z : Type 0} (m : BTreeMap (List ℕ) (Vec Rr Z)) → m.entries ≡ [] → (name : Labels) → addresses_at m name ≡ []

@@ -12,7 +12,8 @@ use Rattle.dns_evidence.proofs.WireTies.{wire_ties}
 use Rattle.dns_handle.specs.QueryKeys.{key_cmp, key_of}
 
 pub key_total : IsTotalOrder key_cmp
-key_total = then_total (on_total (λ k. k.name) nat_list_cmp_total) (then_total (on_total (λ k. k.record_type) nat_cmp_total) (on_total (λ k. k.class) nat_cmp_total))
+key_total = then_total (on_total (λ k. k.name) nat_list_cmp_total)
+    (then_total (on_total (λ k. k.record_type) nat_cmp_total) (on_total (λ k. k.class) nat_cmp_total))
 
 -- questions are equal exactly where the order of their keys doesn't tell them apart
 pub key_ties : (a b : Question) → question_eq a b ≡ is_eq (key_cmp (key_of a) (key_of b))

@@ -1,3 +1,4 @@
+-- What contracts of this crate name, by subject.
 pub mod LetterCase
 pub mod Requests
 pub mod NoRecords

@@ -6,8 +6,7 @@ ghost use Rattle.dns_handle.specs.Responses.{contains_answer, takes_any_answer};
 
 use crate::query_key::QueryKey;
 use dns_message::Message;
-use dns_name::{Name, NameRef, NoMemory};
-use dns_record::{Query, Record, RecordType};
+use dns_record::{Name, NameRef, NoMemory, Query, Record, RecordType};
 use std::alloc::Global;
 use std::collections::BTreeSet;
 
@@ -15,7 +14,7 @@ use std::collections::BTreeSet;
 /// for each.
 type AnswerIndex = BTreeSet<QueryKey>;
 
-/// Notes an owner and a type.
+// Notes an owner and a type.
 fn note(
     alloc: Global,
     index: &mut AnswerIndex,
@@ -29,7 +28,7 @@ fn note(
     Ok(())
 }
 
-/// Notes a record.
+// Notes a record.
 fn note_record(alloc: Global, index: &mut AnswerIndex, next: &Record) -> Result<(), NoMemory>
     ensures { OnOk result (RecordNoted index.old index.new next.now) }
 {
@@ -38,7 +37,7 @@ fn note_record(alloc: Global, index: &mut AnswerIndex, next: &Record) -> Result<
     Ok(())
 }
 
-/// Notes the records of a section.
+// Notes the records of a section.
 fn note_section(alloc: Global, index: &mut AnswerIndex, section: &[Record]) -> Result<(), NoMemory>
     ensures { OnOk result (AllNoted index.old index.new section.now) }
 {
@@ -48,7 +47,7 @@ fn note_section(alloc: Global, index: &mut AnswerIndex, section: &[Record]) -> R
     Ok(())
 }
 
-/// The records of a message.
+// The records of a message.
 fn index_of(alloc: Global, message: &Message) -> Result<AnswerIndex, NoMemory>
     ensures { IfOk result (λ i. Indexes i message.now) }
 {
@@ -59,7 +58,7 @@ fn index_of(alloc: Global, message: &Message) -> Result<AnswerIndex, NoMemory>
     Ok(index)
 }
 
-/// Whether an owner and a type are noted.
+// Whether an owner and a type are noted.
 fn has(
     alloc: Global,
     index: &AnswerIndex,
@@ -72,7 +71,7 @@ fn has(
     Ok(index.contains(&key))
 }
 
-/// Whether the name or one above it has an SOA.
+// Whether the name or one above it has an SOA.
 fn has_zone(alloc: Global, index: &AnswerIndex, name: &NameRef) -> Result<bool, NoMemory>
     ensures { IfOk result (λ b. b ≡ zone_at (has_at index.now) name.now) }
 {
@@ -85,7 +84,7 @@ fn has_zone(alloc: Global, index: &AnswerIndex, name: &NameRef) -> Result<bool, 
     }
 }
 
-/// Whether what is noted answers a question.
+// Whether what is noted answers a question.
 fn is_answered(alloc: Global, index: &AnswerIndex, query: &Query) -> Result<bool, NoMemory>
     ensures { IfOk result (λ b. b ≡ answered_by (has_at index.now) query.now) }
 {
@@ -97,7 +96,7 @@ fn is_answered(alloc: Global, index: &AnswerIndex, query: &Query) -> Result<bool
     }
 }
 
-/// Whether what is noted answers one of the questions.
+// Whether what is noted answers one of the questions.
 fn answers_some(alloc: Global, index: &AnswerIndex, queries: &[Query]) -> Result<bool, NoMemory>
     ensures { IfOk result (λ b. b ≡ list_any (answered_by (has_at index.now)) queries.now) }
 {
@@ -109,21 +108,21 @@ fn answers_some(alloc: Global, index: &AnswerIndex, queries: &[Query]) -> Result
     Ok(false)
 }
 
-/// Whether any record of the answer section answers a question of the type, as an alias does.
+// Whether any record of the answer section answers a question of the type, as an alias does.
 fn takes_any_answer(record_type: RecordType) -> bool
     ensures { result ≡ takes_any_answer record_type.0 }
 {
     record_type != RecordType::ANY && record_type != RecordType::SOA
 }
 
-/// Whether some question is of such a type.
+// Whether some question is of such a type.
 fn asks_for_any(queries: &[Query]) -> bool
     ensures { result ≡ asks_for_any queries.now }
 {
     queries.iter().any(|q| takes_any_answer(q.query_type))
 }
 
-/// Whether there is a record in the answer section, and some question takes it.
+// Whether there is a record in the answer section, and some question takes it.
 fn takes_answers(message: &Message) -> bool
     ensures { result ≡ takes_answers message.now }
 {
@@ -138,6 +137,5 @@ pub(crate) fn contains_answer(alloc: Global, message: &Message) -> Result<bool, 
         return Ok(true);
     }
     let index = index_of(alloc, message)?;
-    let answered = answers_some(alloc, &index, &message.queries)?;
-    Ok(answered)
+    answers_some(alloc, &index, &message.queries)
 }

@@ -1,3 +1,4 @@
+//! Errors of a send or a lookup, their texts, and what they say.
 ghost use Rattle.std.specs.Prelude.{◌≡◌, IfOk};
 ghost use Rattle.dns_handle.specs.Replies.{dns_error_of, error_of};
 ghost use Rattle.dns_handle.specs.Conversions.{decode_failed, outside_failed, proto_failed};
@@ -8,8 +9,7 @@ ghost use Rattle.dns_handle.specs.ErrorKinds.{is_nx_domain, is_no_records_found,
 use crate::{DnsResponse, IoKind, NoRecords, Notice};
 use dns_message::{DecodeError, DecodeKind};
 use dns_model::Proof;
-use dns_name::{Name, NoMemory, Text};
-use dns_record::{DNSClass, Query, Record, RecordType, ResponseCode};
+use dns_record::{DNSClass, Name, NoMemory, Query, Record, RecordType, ResponseCode, Text};
 use std::alloc::{AllocError, AllocFailed};
 use std::fmt;
 use thiserror::Error;
@@ -161,7 +161,7 @@ impl From<Text> for NetError {
     }
 }
 
-/// Want of memory stays want of memory.
+/// A decoder's `NoMemory` becomes `NoMemory`.
 impl From<ProtoError> for NetError {
     ghost from_gives = { λ error e. e ≡ proto_failed error };
 
@@ -173,7 +173,7 @@ impl From<ProtoError> for NetError {
     }
 }
 
-/// Want of memory stays want of memory.
+/// A decoder's `NoMemory` becomes `NoMemory`.
 impl From<DecodeError> for NetError {
     ghost from_gives = { λ error e. e ≡ decode_failed error };
 
@@ -232,12 +232,11 @@ impl NetError {
     pub fn is_nx_domain(&self) -> bool
         ensures { result ≡ is_nx_domain (error_of self.now) }
     {
-        match self {
-            NetError::Dns(DnsError::NoRecordsFound(missing)) => {
-                missing.response_code == ResponseCode::NX_DOMAIN
-            }
-            _ => false,
-        }
+        matches!(
+            self,
+            NetError::Dns(DnsError::NoRecordsFound(missing))
+                if missing.response_code == ResponseCode::NX_DOMAIN
+        )
     }
 
     /// Whether there are no records to the question.
@@ -251,17 +250,16 @@ impl NetError {
     pub fn is_connection_closed(&self) -> bool
         ensures { result ≡ is_connection_closed (error_of self.now) }
     {
-        match self {
-            NetError::Io(kind) => matches!(
-                kind,
+        matches!(
+            self,
+            NetError::Io(
                 IoKind::ConnectionReset
                     | IoKind::ConnectionAborted
                     | IoKind::NotConnected
                     | IoKind::BrokenPipe
                     | IoKind::UnexpectedEof
-            ),
-            _ => false,
-        }
+            )
+        )
     }
 
     /// Whether memory ran out.

@@ -10,9 +10,8 @@ ghost use Rattle.dns_handle.specs.Glue.{Joined, addresses_at, forwarded_by, glue
 
 use crate::ForwardNSData;
 use crate::query_key::folded_of;
-use dns_name::{NoMemory, Octets};
 use dns_rdata::Ns;
-use dns_record::{Record, RecordType, clone_records};
+use dns_record::{NoMemory, Octets, Record, RecordType, clone_records};
 use std::alloc::Global;
 use std::collections::BTreeMap;
 
@@ -26,7 +25,7 @@ fn is_address(of: &Record) -> bool
     of.record_type == RecordType::A || of.record_type == RecordType::AAAA
 }
 
-/// A list of one record.
+// A list of one record.
 fn list_of_one(alloc: Global, next: Record) -> Result<Vec<Record>, NoMemory>
     ensures { IfOk result (λ v. v.items ≡ next ∷ []) }
 {
@@ -35,7 +34,7 @@ fn list_of_one(alloc: Global, next: Record) -> Result<Vec<Record>, NoMemory>
     Ok(own)
 }
 
-/// Puts a record behind the others of its owner, whose key is given.
+// Puts a record behind the others of its owner, whose key is given.
 fn join_at(
     alloc: Global,
     addresses: &mut Addresses,
@@ -46,7 +45,6 @@ fn join_at(
     ensures { OnOk result (Joined addresses.old addresses.new next) }
 {
     if let Some(known) = addresses.get_mut(&key) {
-        drop(key);
         known.push(next)?;
         return Ok(());
     }
@@ -55,7 +53,7 @@ fn join_at(
     Ok(())
 }
 
-/// Puts a record behind the others of its owner.
+// Puts a record behind the others of its owner.
 fn join(alloc: Global, addresses: &mut Addresses, next: Record) -> Result<(), NoMemory>
     ensures { OnOk result (Joined addresses.old addresses.new next) }
 {
@@ -63,7 +61,7 @@ fn join(alloc: Global, addresses: &mut Addresses, next: Record) -> Result<(), No
     join_at(alloc, addresses, key, next)
 }
 
-/// The A and AAAA records among these.
+// The A and AAAA records among these.
 fn addresses_of(alloc: Global, records: Vec<Record>) -> Result<Addresses, NoMemory>
     ensures { IfOk result (λ a. (name : Labels) → addresses_at a name ≡ filter (is_address_of name) records.items) }
 {
@@ -76,7 +74,7 @@ fn addresses_of(alloc: Global, records: Vec<Record>) -> Result<Addresses, NoMemo
     Ok(addresses)
 }
 
-/// The addresses of the server that an NS record names.
+// The addresses of the server that an NS record names.
 fn glue_of(alloc: Global, addresses: &Addresses, ns: &Record) -> Result<Vec<Record>, NoMemory>
     ensures { IfOk result (λ v. v.items ≡ glue_by addresses.now (read_as type_ns ns_in ns.now)) }
 {
@@ -90,7 +88,7 @@ fn glue_of(alloc: Global, addresses: &Addresses, ns: &Record) -> Result<Vec<Reco
     }
 }
 
-/// An NS record with its addresses.
+// An NS record with its addresses.
 fn forwarded_of(
     alloc: Global,
     addresses: &Addresses,
@@ -103,7 +101,7 @@ fn forwarded_of(
     Ok(ForwardNSData { ns, glue })
 }
 
-/// The NS records of a section, each with its addresses.
+// The NS records of a section, each with its addresses.
 fn all_forwarded(
     alloc: Global,
     addresses: &Addresses,
@@ -130,7 +128,5 @@ pub(crate) fn forwarded_among(
     ensures { IfOk result (λ v. v.items ≡ map (forwarded records.items) (filter is_ns section.now)) }
 {
     let addresses = addresses_of(alloc, records)?;
-    let all = all_forwarded(alloc, &addresses, section);
-    drop(addresses);
-    all
+    all_forwarded(alloc, &addresses, section)
 }

@@ -1,3 +1,4 @@
+//! The trait of handles, and what each send and lookup of one promises.
 ghost use Rattle.std.specs.Prelude.{◌≡◌, ◌≤◌, ⊤, ℕ, Bool, true, false, Option, Some};
 ghost use Rattle.dns_model.specs.Records.{Question};
 ghost use Rattle.dns_handle.specs.Errors.{Reply};
@@ -22,11 +23,11 @@ pub trait DnsHandle {
     /// The handle before a `send`, the request's first question, the handle after, the reply.
     ghost sent: { Self → Option Question → Self → Reply → Type 0 };
 
-    /// The replies in order and whether they are served by turn, where the handle tells them: the reply to a question is the
+    /// The replies in order and whether they are served by turn, where the handle says it: the reply to a question is the
     /// first with that question.
     ghost told: { Self → Option Replies };
 
-    /// The handle before a `send`, the whole request, the moment, the handle after, the reply; a handle may leave it open.
+    /// The handle before a `send`, the whole request, the time, the handle after, the reply; a handle may leave it open.
     ghost requested: { Self → RequestValue → ℕ → Self → Reply → Type 0 } = { λ _ _ _ _ _. ⊤ };
 
     /// The handle's answers are validated.
@@ -35,8 +36,8 @@ pub trait DnsHandle {
     /// The handle's requests are to have an OPT record.
     ghost uses_edns: { Self → Bool } = { λ _. true };
 
-    /// Sends the request at a moment, in seconds, and waits. An error other than want of memory and
-    /// that there are no records comes only where `faults` rises.
+    /// Sends the request at a time, in seconds since 1970, and waits for its response. An error other than `NoMemory` and
+    /// `NoRecordsFound` comes only where `faults` rises.
     fn send(
         &mut self,
         alloc: Global,
@@ -51,8 +52,24 @@ pub trait DnsHandle {
         ensures told { IsLeft (told self.old) (first_question request) (reply_of result) (told self.new) }
         ensures reply { ReplyIsTold (told self.old) (first_question request) (reply_of result) };
 
-    /// Sends the request for one question at a moment, in seconds. Where memory runs out before the send, nothing is sent and
-    /// nothing changes.
+    /// Sends the request for one question at a time, in seconds since 1970. Where memory runs out before the send, nothing is
+    /// sent and nothing changes.
+    ///
+    /// ```
+    /// fn ask<H: DnsHandle>(
+    ///     alloc: Global,
+    ///     handle: &mut H,
+    ///     name: Name,
+    ///     now: u64,
+    /// ) -> Result<DnsResponse, NetError> {
+    ///     let query = Query {
+    ///         name,
+    ///         query_type: RecordType::A,
+    ///         query_class: DNSClass::IN,
+    ///     };
+    ///     handle.lookup(alloc, query, DnsRequestOptions::default(), now)
+    /// }
+    /// ```
     fn lookup(
         &mut self,
         alloc: Global,
@@ -80,16 +97,13 @@ pub trait DnsHandle {
         false
     }
 
-    /// Whether requests are to have an OPT record (RFC 6891): `false` only where they aren't.
+    /// Whether requests are to have an OPT record (RFC 6891). Each handle answers it itself: what the trait answered for all
+    /// could promise nothing of any.
     fn is_using_edns(&self) -> bool
-        ensures { result ≡ false → uses_edns self.now ≡ false }
-    {
-        true
-    }
+        ensures { result ≡ uses_edns self.now };
 }
 
-/// A handle's count of faults after a reply, which stops at the largest u64. That there are no records is no fault, nor is want
-/// of memory.
+/// A handle's count of faults after a reply, which stops at the largest u64. `NoRecordsFound` is no fault, nor is `NoMemory`.
 pub fn faults_after(count: u64, reply: &Result<DnsResponse, NetError>) -> u64
     ensures { result ≡ faults_after count (reply_of reply.now) }
 {

@@ -1,4 +1,6 @@
-/// What went wrong outside, as the operating system tells it. A kind that isn't listed is `Other`.
+//! What goes wrong outside.
+
+/// What went wrong outside, as the operating system says it. A kind that isn't listed is `Other`.
 #[derive(Clone, Copy, Debug, PartialEq, Eq, Hash)]
 pub enum IoKind {
     /// The system forbids it.

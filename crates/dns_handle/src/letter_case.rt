@@ -2,7 +2,7 @@
 ghost use Rattle.std.specs.Prelude.{◌≡◌, [], IfOk};
 ghost use Rattle.dns_handle.specs.LetterCase.{byte_cased, is_chosen, label_cased, letters, name_cased, other_case};
 
-use dns_name::{Name, NoMemory, Octets};
+use dns_record::{Name, NoMemory, Octets};
 use std::alloc::Global;
 
 fn other_case(letter: u8) -> u8
@@ -15,7 +15,7 @@ fn other_case(letter: u8) -> u8
     }
 }
 
-/// Whether bit number `place` is set, the lowest of each byte first.
+// Whether bit number `place` is set, the lowest of each byte first.
 fn is_chosen(bits: &[u8], place: usize) -> bool
     ensures { result ≡ is_chosen bits.now place }
 {
@@ -25,7 +25,7 @@ fn is_chosen(bits: &[u8], place: usize) -> bool
     }
 }
 
-/// The byte in its other case, if it is a letter whose bit is set.
+// The byte in its other case, if it is a letter whose bit is set.
 #[tactic(auto, unfolding(crate::specs::LetterCase::byte_cased))]
 fn byte_cased(bits: &[u8], place: usize, byte: u8) -> u8
     ensures { result ≡ byte_cased bits.now place byte }
@@ -37,7 +37,7 @@ fn byte_cased(bits: &[u8], place: usize, byte: u8) -> u8
     }
 }
 
-/// The bytes with each letter in its other case whose bit is set; letters count from 0.
+// The bytes with each letter in its other case whose bit is set; letters count from 0.
 fn bytes_cased(alloc: Global, bytes: &[u8], bits: &[u8]) -> Result<Vec<u8>, NoMemory>
     ensures { IfOk result (λ v. v.items ≡ label_cased bits.now [] bytes.now) }
 {

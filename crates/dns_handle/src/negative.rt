@@ -10,31 +10,29 @@ use crate::answered::contains_answer;
 use crate::glue::forwarded_among;
 use crate::{DnsError, DnsResponse, NoRecords};
 use dns_message::Message;
-use dns_name::{Name, NoMemory};
 use dns_rdata::Soa;
-use dns_record::{DNSClass, Query, Record, RecordType, ResponseCode};
+use dns_record::{DNSClass, Name, NoMemory, Query, Record, RecordType, ResponseCode};
 use std::alloc::Global;
 use std::mem;
 
-/// Whether a server says by the code that it failed or refused.
+// Whether a server says by the code that it failed or refused.
 fn is_failure(code: ResponseCode) -> bool
     ensures { result ≡ is_failure code.0 }
 {
     matches!(code.0, 1 | 2 | 4..=10 | 16..=23)
 }
 
-/// Whether the message says that there are no records.
+// Whether the message says that there are no records.
 fn is_negative(alloc: Global, message: &Message) -> Result<bool, NoMemory>
     ensures { IfOk result (λ b. b ≡ is_negative message.now) }
 {
     if !message.response_code.can_deny() || message.truncated {
         return Ok(false);
     }
-    let answered = contains_answer(alloc, message)?;
-    Ok(!answered)
+    Ok(!contains_answer(alloc, message)?)
 }
 
-/// The question for the root's addresses.
+// The question for the root's addresses.
 fn ask_root(alloc: Global) -> Result<Query, NoMemory>
     ensures { IfOk result (λ q. q ≡ root_question) }
 {
@@ -46,7 +44,7 @@ fn ask_root(alloc: Global) -> Result<Query, NoMemory>
     })
 }
 
-/// The first question, or the root's addresses.
+// The first question, or the root's addresses.
 fn question_of(alloc: Global, queries: &[Query]) -> Result<Query, NoMemory>
     ensures { IfOk result (λ q. q ≡ unwrap_or (first_query queries.now) root_question) }
 {
@@ -56,21 +54,21 @@ fn question_of(alloc: Global, queries: &[Query]) -> Result<Query, NoMemory>
     }
 }
 
-/// Whether this is an SOA that can be read.
+// Whether this is an SOA that can be read.
 fn is_soa(of: &Record) -> bool
     ensures { result ≡ is_soa of.now }
 {
     Soa::of(of).is_some()
 }
 
-/// The first SOA that can be read.
+// The first SOA that can be read.
 fn first_soa(section: &[Record]) -> Option<&Record>
     ensures { option_copied result ≡ find is_soa section.now }
 {
     section.iter().find(|r| is_soa(r))
 }
 
-/// A copy of the first SOA that can be read.
+// A copy of the first SOA that can be read.
 fn soa_of(section: &[Record]) -> Result<Option<Record>, NoMemory>
     ensures { IfOk result (λ s. s ≡ find is_soa section.now) }
 {
@@ -83,7 +81,7 @@ fn soa_of(section: &[Record]) -> Result<Option<Record>, NoMemory>
     }
 }
 
-/// For how long an SOA lets it be believed that there are no records (RFC 2308, 5).
+// For how long an SOA lets it be believed that there are no records (RFC 2308, 5).
 fn negative_ttl_of(soa: &Option<Record>) -> Option<u32>
     ensures { result ≡ option_and_then negative_ttl_of soa.now }
 {
@@ -93,7 +91,7 @@ fn negative_ttl_of(soa: &Option<Record>) -> Option<u32>
     Some(ttl.min(read.minimum))
 }
 
-/// What a message says that has no records. Its last two sections are taken from it.
+// What a message says that has no records. Its last two sections are taken from it.
 fn no_records_of(alloc: Global, message: &mut Message) -> Result<NoRecords, NoMemory>
     ensures { IfOk result (λ n. n ≡ no_records_of message.old) }
 {
@@ -115,7 +113,7 @@ fn no_records_of(alloc: Global, message: &mut Message) -> Result<NoRecords, NoMe
 impl DnsError {
     /// What becomes of a response: the error of its code, where a server says by it that it failed (RFC 6895, 2.3); that there
     /// are no records, where its code is NOERROR or NXDOMAIN, it answers none of its questions and it isn't cut off
-    /// (RFC 2308, 2); else the response itself. The outer error is want of memory.
+    /// (RFC 2308, 2); else the response itself. The outer error says that memory ran out.
     pub fn from_response(
         alloc: Global,
         mut response: DnsResponse,
@@ -124,19 +122,12 @@ impl DnsError {
     {
         let code = response.message.response_code;
         if is_failure(code) {
-            drop(response);
             return Ok(Err(DnsError::ResponseCode(code)));
         }
-        match is_negative(alloc, &response.message) {
-            Ok(true) => (),
-            Ok(false) => return Ok(Ok(response)),
-            Err(error) => {
-                drop(response);
-                return Err(error);
-            }
+        if !is_negative(alloc, &response.message)? {
+            return Ok(Ok(response));
         }
-        let missing = no_records_of(alloc, &mut response.message);
-        drop(response);
-        Ok(Err(DnsError::NoRecordsFound(missing?)))
+        let missing = no_records_of(alloc, &mut response.message)?;
+        Ok(Err(DnsError::NoRecordsFound(missing)))
     }
 }

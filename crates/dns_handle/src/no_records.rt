@@ -1,8 +1,8 @@
+//! That there are no records to a question (RFC 2308, 2), and what a server says beside it.
 ghost use Rattle.std.specs.Prelude.{◌≡◌, IfOk};
 ghost use Rattle.dns_handle.specs.NoRecords.{bare_no_records};
 
-use dns_name::NoMemory;
-use dns_record::{Query, Record, ResponseCode, clone_records};
+use dns_record::{NoMemory, Query, Record, ResponseCode, clone_records};
 use std::alloc::Global;
 use std::marker::Model;
 
@@ -39,12 +39,18 @@ impl Model for NoRecords {
 }
 
 /// An NS record, with the addresses of the server that it names (RFC 1034, 4.2.1).
-#[derive(Drop)]
 pub struct ForwardNSData {
     /// The NS record.
     pub ns: Record,
     /// A and AAAA records.
     pub glue: Vec<Record>,
+}
+
+// By hand, so that a function that drops one calls this.
+impl Drop for ForwardNSData {
+    fn drop(self) {
+        let ForwardNSData { ns: _, glue: _ } = self;
+    }
 }
 
 impl Model for ForwardNSData {
@@ -66,7 +72,7 @@ fn clone_forwarded(all: &Vec<ForwardNSData>) -> Result<Vec<ForwardNSData>, NoMem
     Ok(copies)
 }
 
-/// A copy of the record, if there is one.
+// A copy of the record, if there is one.
 fn clone_soa(soa: &Option<Record>) -> Result<Option<Record>, NoMemory>
     ensures { IfOk result (λ s. s ≡ soa.now) }
 {
@@ -98,10 +104,10 @@ impl NoRecords {
     pub fn try_clone(&self) -> Result<NoRecords, NoMemory>
         ensures { IfOk result (λ n. n ≡ self.now) }
     {
-        let ns = clone_forwarded(&self.ns)?;
-        let authorities = clone_records(&self.authorities)?;
         let query = self.query.try_clone()?;
         let soa = clone_soa(&self.soa)?;
+        let ns = clone_forwarded(&self.ns)?;
+        let authorities = clone_records(&self.authorities)?;
         Ok(NoRecords {
             query,
             soa,

@@ -1,3 +1,4 @@
+//! Fixed texts of errors.
 ghost use Rattle.std.specs.Prelude.{◌≡◌, Some};
 ghost use Rattle.dns_handle.specs.Notices.{notice_text};
 
@@ -8,15 +9,15 @@ use std::fmt;
 pub enum Notice {
     /// A request has no question where one is needed.
     NoQueryInRequest,
-    /// The moment isn't in a signature's validity.
+    /// The time is outside a signature's validity.
     ExpiredRrsig,
     /// A key isn't the one that a signature names, or is no zone key.
     WrongDnskey,
     /// A signature isn't one of the set.
     WrongRrsig,
-    /// An ask would be deeper than the limit of a lookup lets asks go.
+    /// A nested query would be deeper than the limit of a lookup allows.
     ExceededMaxValidationDepth,
-    /// A lookup has made as many asks as it may.
+    /// A lookup has sent as many queries as it may.
     ExceededMaxNestedQueries,
     /// Each id that was drawn for a request is a live request's.
     IdSpaceExhausted,
@@ -26,6 +27,12 @@ pub enum Notice {
     PolledAfterCompletion,
     /// A socket took fewer bytes than a datagram has.
     NotAllBytesSent,
+    /// A zone transfer goes on behind its last record (RFC 5936, 2.2; RFC 1995, 4).
+    TransferHasTrailingRecords,
+    /// A whole zone was asked for, and changes of it came (RFC 5936, 2.2; RFC 1995, 4).
+    TransferIsIncremental,
+    /// An exchange that threads share has recorded as many calls, or as many bytes of messages, as it may.
+    HistoryFull,
 }
 
 impl Notice {
@@ -44,6 +51,11 @@ impl Notice {
             Notice::SendQueueFull => "send queue full",
             Notice::PolledAfterCompletion => "polled after completion",
             Notice::NotAllBytesSent => "not all bytes of message sent",
+            Notice::TransferHasTrailingRecords => {
+                "invalid zone transfer, contains trailing records"
+            }
+            Notice::TransferIsIncremental => "invalid zone transfer, expected AXFR, got IXFR",
+            Notice::HistoryFull => "history full",
         }
     }
 }

@@ -1,3 +1,4 @@
+//! What carries messages (RFC 1035, 4.2).
 ghost use Rattle.std.specs.Prelude.{◌≡◌, false, Some};
 ghost use Rattle.dns_handle.specs.Protocols.{is_datagram as is_datagram_protocol, is_stream as is_stream_protocol, protocol_text};
 
@@ -17,10 +18,7 @@ impl Protocol {
     pub fn is_datagram(self) -> bool
         ensures { result ≡ is_datagram_protocol self }
     {
-        match self {
-            Protocol::Udp => true,
-            Protocol::Tcp => false,
-        }
+        matches!(self, Protocol::Udp)
     }
 
     /// Whether messages come one behind another over a connection.
@@ -34,10 +32,7 @@ impl Protocol {
     pub fn is_encrypted(self) -> bool
         ensures { result ≡ false }
     {
-        match self {
-            Protocol::Udp => false,
-            Protocol::Tcp => false,
-        }
+        false
     }
 
     /// The text, as Display writes it.

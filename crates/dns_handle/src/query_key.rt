@@ -1,10 +1,10 @@
+//! Queries as keys of ordered maps.
 ghost use Rattle.std.specs.Prelude.{◌≡◌, IfOk};
 ghost use Rattle.dns_model.specs.Names.{folded, wire};
 ghost use Rattle.dns_handle.specs.QueryKeys.{key_of};
 ghost use Rattle.dns_handle.specs.AnswerIndex.{asked};
 
-use dns_name::{NameRef, NoMemory, Octets};
-use dns_record::{DNSClass, Query, RecordType};
+use dns_record::{DNSClass, NameRef, NoMemory, Octets, Query, RecordType};
 use std::alloc::Global;
 
 /// A query as a key of an ordered map. The name's bytes are folded once, so that two keys are compared in one pass; and no
@@ -17,15 +17,14 @@ pub struct QueryKey {
     class: u16,
 }
 
-// By hand, so that a function that lets a key go calls this.
+// By hand, so that a function that drops a key calls this.
 impl Drop for QueryKey {
     fn drop(self) {
         let QueryKey {
-            name,
+            name: _,
             record_type: _,
             class: _,
         } = self;
-        drop(name);
     }
 }
 

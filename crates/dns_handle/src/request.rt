@@ -1,10 +1,10 @@
+//! Requests: a message to send, and how (RFC 1035, 4.1; RFC 6891).
 ghost use Rattle.std.specs.Prelude.{◌≡◌, IfOk, OnOk};
 ghost use Rattle.dns_handle.specs.Requests.{requested_edns, first_cased, first_query, plain_options, request_cased, request_of};
 
 use crate::letter_case::name_cased;
 use dns_message::{Edns, Message};
-use dns_name::{NoMemory, Octets};
-use dns_record::{OpCode, Query, ResponseCode};
+use dns_record::{NoMemory, Octets, OpCode, Query, ResponseCode};
 use std::alloc::Global;
 use std::marker::Model;
 use std::mem;
@@ -64,7 +64,7 @@ impl Model for DnsRequest {
     ghost view = { λ r. record { message = r.message; options = r.options; original = r.original } };
 }
 
-/// The OPT record that the options ask for: version 0, no flag but DO, no option.
+// The OPT record that the options ask for: version 0, no flag but DO, no option.
 fn make_edns(alloc: Global, options: &DnsRequestOptions) -> Option<Edns>
     ensures { result ≡ requested_edns options.now }
 {
@@ -81,7 +81,7 @@ fn make_edns(alloc: Global, options: &DnsRequestOptions) -> Option<Edns>
     }
 }
 
-/// Changes the case of the first question's letters whose bit is set, and gives the question as it was.
+// Changes the case of the first question's letters whose bit is set, and gives the question as it was.
 fn change_first(queries: &mut Vec<Query>, bits: &[u8]) -> Result<Option<Query>, NoMemory>
     ensures before { IfOk result (λ q. q ≡ first_query queries.old.items) }
     ensures after { OnOk result (queries.new.items ≡ first_cased bits.now queries.old.items) }
@@ -100,7 +100,15 @@ fn change_first(queries: &mut Vec<Query>, bits: &[u8]) -> Result<Option<Query>, 
 
 impl DnsRequest {
     /// A request that asks one question: a query of id 0 with RD and an OPT record as the options say (RFC 1035, 4.1.1;
-    /// RFC 6891, 6.1.3). Whoever sends it gives it an id. The only error is want of memory.
+    /// RFC 6891, 6.1.3). Whoever sends it gives it an id. The only error is that memory ran out.
+    ///
+    /// ```
+    /// fn request_with_edns(alloc: Global, query: Query) -> Result<DnsRequest, NoMemory> {
+    ///     let mut options = DnsRequestOptions::default();
+    ///     options.use_edns = true;
+    ///     DnsRequest::from_query(alloc, query, options)
+    /// }
+    /// ```
     pub fn from_query(
         alloc: Global,
         query: Query,
@@ -137,7 +145,7 @@ impl DnsRequest {
     /// The request with the case of some letters of its first question's name changed, and `original` that question as it
     /// was before this call (RFC 4343, 4.1). Each letter, A to Z or a to z, takes the next bit in its turn, from the leaf to
     /// the root; a byte gives its bits from the least upward. A letter whose bit is set is changed, and one for which no
-    /// byte is left isn't. A request without a question stays as it is. The only error is want of memory.
+    /// byte is left isn't. A request without a question stays as it is. The only error is that memory ran out.
     pub fn with_case(mut self, bits: &[u8]) -> Result<DnsRequest, NoMemory>
         ensures { IfOk result (λ r. r ≡ request_cased bits.now self) }
     {
@@ -151,15 +159,11 @@ impl DnsRequest {
     pub fn try_clone(&self) -> Result<DnsRequest, NoMemory>
         ensures { IfOk result (λ r. r ≡ self.now) }
     {
+        let message = self.message.try_clone()?;
         let original = match &self.original {
             None => None,
-            Some(query) => {
-                let query = query.try_clone()?;
-                Some(query)
-            }
+            Some(query) => Some(query.try_clone()?),
         };
-        // The message has most to let go, so no way out comes after it.
-        let message = self.message.try_clone()?;
         Ok(DnsRequest {
             message,
             options: self.options,

@@ -1,9 +1,10 @@
+//! Responses: a message, with what was found of it.
 ghost use Rattle.std.specs.Prelude.{◌≡◌, IfOk};
 
 use dns_evidence::{Chain, Trail};
 use dns_message::Message;
 use dns_model::Denial;
-use dns_name::NoMemory;
+use dns_record::NoMemory;
 use std::marker::Model;
 
 /// A response, with the chains of its Secure sets, what it denies and how it came about.
@@ -43,10 +44,9 @@ impl DnsResponse {
     pub fn try_clone(&self) -> Result<DnsResponse, NoMemory>
         ensures { IfOk result (λ r. r ≡ self.now) }
     {
+        let message = self.message.try_clone()?;
         let chains = clone_chains(&self.chains)?;
         let trail = self.trail.try_clone()?;
-        // The message has most to let go, so no way out comes after it.
-        let message = self.message.try_clone()?;
         Ok(DnsResponse {
             message,
             chains,

@@ -81,7 +81,8 @@ hidden_by_match by nsec3s child None = false
 hidden_by_match by nsec3s child (Some found) = if ends_zone found.1.fields.types then false else is_hidden by nsec3s child (length found.0)
 
 ended_step : (by : Parameters) (nsec3s : List OwnedNsec3) (child above : Labels) (b : Bool)
-    → may_be_unsigned by nsec3s child (if b then None else Some above) ≡ (if b then false else is_hidden by nsec3s child (length (folded above)))
+    → may_be_unsigned by nsec3s child (if b then None else Some above) ≡ (if b then false
+    else is_hidden by nsec3s child (length (folded above)))
 ended_step by nsec3s child above true = refl
 ended_step by nsec3s child above false = ap (is_hidden by nsec3s child) (sym (length-map above lowered))
 
@@ -99,7 +100,8 @@ child_alike by nsec3s one two (Some found) same =
     (hash_alike by (last_labels n one) (last_labels n two) (last_alike n one two same))
 
 hidden_alike : (by : Parameters) (zone : Labels) (nsec3s : List OwnedNsec3) (one two : Labels) → folded one ≡ folded two
-    → may_be_unsigned by nsec3s one (provable_encloser by zone nsec3s one) ≡ may_be_unsigned by nsec3s two (provable_encloser by zone nsec3s two)
+    → may_be_unsigned by nsec3s one (provable_encloser by zone nsec3s one)
+    ≡ may_be_unsigned by nsec3s two (provable_encloser by zone nsec3s two)
 hidden_alike by zone nsec3s one two same =
     by_match by nsec3s one (nearest_match by zone nsec3s one)
     ∙ ap (hidden_by_match by nsec3s one) (match_alike by zone nsec3s one two same)
@@ -123,8 +125,10 @@ by_alike zone nsec3s one two (Some by) same =
 in_alike : (zone : Labels) (nsec3s : List OwnedNsec3) (one two : Labels) → folded one ≡ folded two
     → is_unsigned_in zone nsec3s one ≡ is_unsigned_in zone nsec3s two
 in_alike zone nsec3s one two same =
-    ap (λ b. b && (list_all (is_of_zone zone) nsec3s && is_unsigned_by zone nsec3s one (parameters_of nsec3s))) (below_alike zone one two same)
-    ∙ ap (λ b. strictly_above zone two && (list_all (is_of_zone zone) nsec3s && b)) (by_alike zone nsec3s one two (parameters_of nsec3s) same)
+    ap (λ b. b && (list_all (is_of_zone zone) nsec3s && is_unsigned_by zone nsec3s one (parameters_of nsec3s)))
+    (below_alike zone one two same)
+    ∙ ap (λ b. strictly_above zone two && (list_all (is_of_zone zone) nsec3s && b))
+    (by_alike zone nsec3s one two (parameters_of nsec3s) same)
 
 pub delegation_alike : (one two : Labels) (nsec3s : List OwnedNsec3) → name_eq one two ≡ true
     → shows_insecure_delegation one nsec3s ≡ shows_insecure_delegation two nsec3s

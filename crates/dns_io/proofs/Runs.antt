@@ -32,7 +32,8 @@ not_long None bytes status fits same = tt
 not_long (Some left) bytes status fits same = λ long. absurd (omega (arith, ap length same))
 
 -- an input was read to its end, and answered
-pub keeps_answered : {S W : Type 0} (seen : Outside S W) (status : ℕ) (full rest : S) (before now : W) (bytes : List ℕ) → length bytes ≤ input_limit
+pub keeps_answered : {S W : Type 0} (seen : Outside S W) (status : ℕ) (full rest : S) (before now : W) (bytes : List ℕ)
+    → length bytes ≤ input_limit
     → IfSome (seen.left full) (λ told. bytes ≡ told) → IsEnded (seen.left full) (seen.left rest)
     → ReadsFront (input_limit + 1) (seen.left full) (seen.left rest)
     → seen.failed_reads full ≤ seen.failed_reads rest → KeepsSink seen.failed_writes status before now

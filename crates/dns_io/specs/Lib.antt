@@ -1,3 +1,4 @@
+-- Definitions for sources, sinks and what is told of them.
 pub mod Calls
 pub mod Reading
 pub mod Pieces

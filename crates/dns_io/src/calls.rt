@@ -1,4 +1,4 @@
-// The calls of an object in memory, of which some are set to fail.
+//! The calls of an object in memory, of which some are set to fail.
 ghost use Rattle.std.specs.Prelude.{◌≡◌, ◌≤◌};
 ghost use Rattle.dns_io.specs.Calls.{no_calls, next_fails, with_call};
 

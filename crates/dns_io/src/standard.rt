@@ -1,4 +1,4 @@
-// A source over any reader of std, and a sink over any writer: the edge to the system.
+//! A source over any reader of std, and a sink over any writer: the edge to the system.
 ghost use Rattle.std.specs.Prelude.{◌≡◌, false};
 
 use crate::sink::{Sink, SinkFault};

@@ -1,4 +1,4 @@
-// Sinks whose bytes are in memory.
+//! Sinks whose bytes are in memory.
 ghost use Rattle.std.specs.Prelude.{◌≡◌, ℕ, ◌<◌, ◌≤◌, ◌↔◌, List, [], length, Some, IfOk, IfErr, IsTrue, true};
 ghost use Rattle.std.specs.Io.{WritesAtMost};
 ghost use Rattle.std.specs.Io.KnownBytes.{WriteAppends};

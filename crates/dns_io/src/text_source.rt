@@ -1,4 +1,4 @@
-// Sources whose bytes are in memory.
+//! Sources whose bytes are in memory.
 ghost use Rattle.std.specs.Prelude.{◌≡◌, ℕ, ◌≤◌, ◌↔◌, List, length, take, min, Some, IsOk, IsErr, IfOk, OnErr, IsTrue};
 ghost use Rattle.std.specs.Io.{ReadsAtMost};
 ghost use Rattle.std.specs.Io.KnownBytes.{ReadConsumes};
@@ -7,7 +7,7 @@ ghost use Rattle.dns_model.specs.Counts.{Rose};
 
 use crate::calls::Calls;
 use crate::source::{Failed, Source};
-use dns_name::Octets;
+use dns_record::Octets;
 use std::marker::Model;
 
 /// A source in memory that never fails. Contracts see it as the bytes that are left.

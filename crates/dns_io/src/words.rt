@@ -1,6 +1,6 @@
 //! The words of a command line.
 
-use dns_name::NoMemory;
+use dns_record::NoMemory;
 use std::{env, io};
 
 /// The words after the program's name; none where one of them can't be read, as where it isn't UTF-8.

@@ -49,10 +49,12 @@ one_or_none j q set (inl signed) = inl (signed.signature, signed.alone)
 one_or_none j q set (inr none) = inr none.none
 
 -- a set that isn't DNSKEY has a signature
-has_signature : (j : Judge) (q : Question) (set : RrSet) → IsSigned q set ⊎ IsUnsigned j set → (set.rtype == type_dnskey) ≡ false → IsSigned q set
+has_signature : (j : Judge) (q : Question) (set : RrSet) → IsSigned q set ⊎ IsUnsigned j set → (set.rtype == type_dnskey) ≡ false
+    → IsSigned q set
 has_signature j q set (inl signed) other = signed
 has_signature j q set (inr none) other =
-    absurd (true≢false (sym ((and_parts (set.rtype == type_dnskey) (list_all (is_anchored_key j set) set.records) none.anchored).0) ∙ other))
+    absurd (true≢false (sym ((and_parts (set.rtype == type_dnskey) (list_all (is_anchored_key j set) set.records) none.anchored).0)
+    ∙ other))
 
 only_one : (test : Rr → Bool) (rs : List Rr) (r : Rr) → rs ≡ r ∷ [] → list_any test rs ≡ true → test r ≡ true
 only_one test rs r is h =
@@ -60,15 +62,18 @@ only_one test rs r is h =
 
 -- ---- the query after it
 
-depth_or : (b : Bool) → (b || true || (type_dnskey == type_ds) || (type_dnskey == type_nsec) || (type_dnskey == type_nsec3) || (type_dnskey == type_soa)) ≡ true
+depth_or : (b : Bool) → (b || true || (type_dnskey == type_ds) || (type_dnskey == type_nsec) || (type_dnskey == type_nsec3)
+    || (type_dnskey == type_soa)) ≡ true
 depth_or true = refl
 depth_or false = refl
 
-ds_depth_or : (b : Bool) → (b || (type_ds == type_dnskey) || true || (type_ds == type_nsec) || (type_ds == type_nsec3) || (type_ds == type_soa)) ≡ true
+ds_depth_or : (b : Bool) → (b || (type_ds == type_dnskey) || true || (type_ds == type_nsec) || (type_ds == type_nsec3)
+    || (type_ds == type_soa)) ≡ true
 ds_depth_or true = refl
 ds_depth_or false = refl
 
-keys_are_lower : (q next : Question) (question : Question) → question.rtype ≡ type_dnskey → question_eq question next ≡ true → rank question < rank q → IsLower q next
+keys_are_lower : (q next : Question) (question : Question) → question.rtype ≡ type_dnskey → question_eq question next ≡ true
+    → rank question < rank q → IsLower q next
 keys_are_lower q next question keys same lower =
     let rtype : type_dnskey ≡ next.rtype = sym keys ∙ (same_parts question next same).rtype in
     let as_high = same_rank question next same in
@@ -79,7 +84,8 @@ keys_are_lower q next question keys same lower =
       lower = omega arith;
     }
 
-ds_is_lower : (q next : Question) (question : Question) → question.rtype ≡ type_ds → question_eq question next ≡ true → rank question < rank q → IsLower q next
+ds_is_lower : (q next : Question) (question : Question) → question.rtype ≡ type_ds → question_eq question next ≡ true
+    → rank question < rank q → IsLower q next
 ds_is_lower q next question ds same lower =
     let rtype : type_ds ≡ next.rtype = sym ds ∙ (same_parts question next same).rtype in
     let as_high = same_rank question next same in
@@ -128,8 +134,10 @@ record IsNextSet {R : Type 0} (w : Walk R) (next : Question) (n : ℕ) (ask : As
   rtype : above.rtype ≡ next.rtype
   class : above.class ≡ next.class
 
-next_set : {R : Type 0} (w : Walk R) (next : Question) (rest : List Question) (r : R) (n : ℕ) (step : AskedValue) (met more : List ℕ) (ask : AskRef) (above : RrSet)
-    → (asked : IsAsked w next rest r n step met more ask) → IsShown w next rest asked.m asked.asked more → straight_set w.judge w.tells next ≡ Some above
+next_set : {R : Type 0} (w : Walk R) (next : Question) (rest : List Question) (r : R) (n : ℕ) (step : AskedValue)
+    (met more : List ℕ) (ask : AskRef) (above : RrSet)
+    → (asked : IsAsked w next rest r n step met more ask) → IsShown w next rest asked.m asked.asked more
+    → straight_set w.judge w.tells next ≡ Some above
     → IsNextSet w next n ask above
 next_set w next rest r n step met more ask above asked shown found =
     let same = same_Some shown.set above (sym shown.straight ∙ found) in
@@ -160,7 +168,8 @@ shown_signed w q next rest s above found by_rules other proved later =
     let rtype : s.set.rtype ≡ s.step.query.rtype = s.here.one.rtype ∙ (same_parts q s.step.query s.at.same).rtype in
     let itself = number_back type_dnskey s.step.query.rtype ∙ ap (λ t. t == type_dnskey) (sym rtype) ∙ other in
     let by = one_ask g q next set above entry signed ask other itself by_rules in
-    let lower = keys_lower set.rtype set.class set.owner signer q ask.fits other (sym h.one.rtype) (name_lengths q.owner set.owner h.one.owner) in
+    let lower = keys_lower set.rtype set.class set.owner signer q ask.fits other (sym h.one.rtype)
+    (name_lengths q.owner set.owner h.one.owner) in
     let asked = asked_next w q question next rest s.r s.n s.step s.met s.more set by.ask s.at h by.alone by.asks ask.next_is
     (keys_are_lower q next question refl ask.next_is lower) in
     let shown = later (w.up.left s.r s.step.query) asked.m asked.asked (s.met ++ s.n ∷ []) h.on.more asked.at in
@@ -202,7 +211,8 @@ shown_next : {R : Type 0} (w : Walk R) (q next : Question) (rest : List Question
     else list_any (is_proved_by_keys w.judge s.set next above) s.set.signatures) ≡ true
     → ShowsNext w next rest → IsShown w q (next ∷ rest) s.n s.step s.more
 shown_next w q next rest s above true found by_rules keys proved later = shown_keys w q next rest s above found by_rules keys proved later
-shown_next w q next rest s above false found by_rules keys proved later = shown_signed w q next rest s above found by_rules keys proved later
+shown_next w q next rest s above false found by_rules keys proved later =
+    shown_signed w q next rest s above found by_rules keys proved later
 
 -- ---- the entry was kept, and ends the list
 
@@ -239,7 +249,8 @@ next_by w q next rest s above found (ByRules by_rules) proved later =
     shown_next w q next rest s above (s.set.rtype == type_dnskey) found by_rules refl proved later
 next_by w q next rest s above found (Served asked mark some) proved later = shown_served w q (next ∷ rest) s asked mark some
 
-abbrev stand : {R : Type 0} (w : Walk R) (q : Question) (rest : List Question) (r : R) (n : ℕ) (step : AskedValue) (met more : List ℕ) (set : RrSet)
+abbrev stand : {R : Type 0} (w : Walk R) (q : Question) (rest : List Question) (r : R) (n : ℕ) (step : AskedValue)
+    (met more : List ℕ) (set : RrSet)
     → IsAt w q rest r n step met more → straight_set w.judge w.tells q ≡ Some set → Stand w q rest
 stand w q rest r n step met more set at is = record {
   r = r;
@@ -286,14 +297,16 @@ by_itself q h =
     let two = or_parts (q.rtype == type_nsec) ((q.rtype == type_nsec3) || last) one.1 in
     let three = or_parts (q.rtype == type_nsec3) last two.1 in
     record {
-      plain = not_from_false ((q.rtype == type_nsec) || (q.rtype == type_nsec3)) (or_from (q.rtype == type_nsec) (q.rtype == type_nsec3) two.0 three.0);
+      plain = not_from_false ((q.rtype == type_nsec) || (q.rtype == type_nsec3))
+          (or_from (q.rtype == type_nsec) (q.rtype == type_nsec3) two.0 three.0);
       other = one.0;
     }
 
 same_top : (trail : List AskedValue) (a b : AskedValue) → top_step trail ≡ Some a → top_step trail ≡ Some b → a ≡ b
 same_top trail a b one two = same_Some a b (sym one ∙ two)
 
-records_by : {R : Type 0} (w : Walk R) (q : Question) (rest : List Question) (n : ℕ) (step : AskedValue) (more : List ℕ) → is_other q ≡ false
+records_by : {R : Type 0} (w : Walk R) (q : Question) (rest : List Question) (n : ℕ) (step : AskedValue) (more : List ℕ)
+    → is_other q ≡ false
     → (is : IsShown w q rest n step more) → (now : ℕ) → shows_secure q (marked_section now (judged_sets step) Answer is.told.answers) ≡ true
 records_by w q rest n step more other is now =
     ap (λ sets. shows_secure q (marked_section now sets Answer is.told.answers)) is.sets
@@ -389,7 +402,8 @@ first_set j tells q (next ∷ rest) leads =
     record { set = set.value; found = set.found }
 
 -- the reply of a valid session
-pub valid_reply : (j : Judge) (tells : Question → Option Told) (depth : ℕ) (q : Question) → IsValidSession j tells depth q → HasReply tells q
+pub valid_reply : (j : Judge) (tells : Question → Option Told) (depth : ℕ) (q : Question) → IsValidSession j tells depth q
+    → HasReply tells q
 valid_reply j tells depth q valid =
     let first = first_set j tells q valid.queries valid.leads in
     let reply = answered j tells q first.set ((by_itself q valid.plain).other) first.found in

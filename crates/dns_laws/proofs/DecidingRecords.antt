@@ -28,7 +28,8 @@ record IsSplit {X : Type 0} (p : X → Bool) (xs : List X) (n : ℕ) (x : X) : T
   place : length (filter p before) ≡ n
   passes : p x ≡ true
 
-behind_passing : {X : Type 0} (p : X → Bool) (y : X) (xs : List X) (n : ℕ) (x : X) → p y ≡ true → IsSplit p xs n x → IsSplit p (y ∷ xs) (suc n) x
+behind_passing : {X : Type 0} (p : X → Bool) (y : X) (xs : List X) (n : ℕ) (x : X) → p y ≡ true → IsSplit p xs n x
+    → IsSplit p (y ∷ xs) (suc n) x
 behind_passing p y xs n x is s = record {
   before = y ∷ s.before;
   rest = s.rest;
@@ -98,20 +99,24 @@ unfolding marked
 decider_marked now told sets s n before r known is place about =
     let count : signature_place before r ≡ n =
     sym (length-filter (covers (covered r)) before)
-    ∙ ap length (filter_agree (covers (covered r)) (covers_set s.set) (about_agrees s.section r s (about_parts s.section r s about)) before) ∙ place in
-    let decides : is_place s.sig (signature_place before r) ≡ true = ap (λ o. is_place o (signature_place before r)) is ∙ ap (λ m. n == m) count ∙ number_refl n in
+    ∙ ap length (filter_agree (covers (covered r)) (covers_set s.set) (about_agrees s.section r s (about_parts s.section r s about))
+    before) ∙ place in
+    let decides : is_place s.sig (signature_place before r) ≡ true = ap (λ o. is_place o (signature_place before r)) is
+    ∙ ap (λ m. n == m) count ∙ number_refl n in
     ap (marked_by now (signature_place before r) r) (known.found.found s.section r about)
     ∙ ap (λ b. if b then cleared r else record r { proof = s.mark; ttl = adjusted_ttl now s r })
     (ap (λ b. is_signature r && not b) decides ∙ and_right (is_signature r) false refl)
 
 -- some record of the marked section is the signature that decided a judged set, marked as the set is
-pub some_decider : (p : Rr → Bool) (now : ℕ) (told : Told) (sets : List MarkedSet) (s : MarkedSet) (r : Rr) → IsKnown told sets s → decider s ≡ Some r
+pub some_decider : (p : Rr → Bool) (now : ℕ) (told : Told) (sets : List MarkedSet) (s : MarkedSet) (r : Rr)
+    → IsKnown told sets s → decider s ≡ Some r
     → (IsAbout s.section r s → is_signature r ≡ true → p (record r { proof = s.mark; ttl = adjusted_ttl now s r }) ≡ true)
     → list_any p (marked_section now sets s.section (section_of told s.section)) ≡ true
 some_decider p now told sets s r known decides passes =
     let f = marked now sets s.section in
     let placed = placed_step s r s.sig refl decides in
-    let at = split_at (covers_set s.set) (section_of told s.section) placed.place r (ap (λ xs. slice_get xs placed.place) (sym known.signed.signed) ∙ placed.there) in
+    let at = split_at (covers_set s.set) (section_of told s.section) placed.place r
+    (ap (λ xs. slice_get xs placed.place) (sym known.signed.signed) ∙ placed.there) in
     let about = covering_about s r at.passes in
     ap (λ xs. list_any p (map_after f [] xs)) (sym at.split)
     ∙ any_behind p f [] at.before at.rest r

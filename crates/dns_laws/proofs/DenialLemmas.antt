@@ -65,7 +65,8 @@ ending_leads g step told d (outcome.Given c) h ends =
 ending_leads g step told d outcome.NeedsZone h ends =
     inr (refl, search_step step told d (search_from g step.query.class (question_start step.query) step.excuse) h ends)
 ending_leads g step told d (outcome.Denied proof) h ends =
-    let other = ap (ending_eq (Denied proof)) (sym ends) ∙ (and_parts (ending_eq (Denied proof) step.ending) (is_empty step.excuse) h).0 in cc
+    let other = ap (ending_eq (Denied proof)) (sym ends)
+    ∙ (and_parts (ending_eq (Denied proof) step.ending) (is_empty step.excuse) h).0 in cc
 
 -- ---- a step
 
@@ -88,8 +89,10 @@ step_denies j limits cached earlier step h = λ told d judged heard ends.
     let g = step_context_of j limits cached earlier step in
     let sets = with_entries (judged_part step.depth told) step.sets in
     let same : judged_sets step ≡ sets = ap (λ o. option_map_or (λ t. with_entries (judged_part step.depth t) step.sets) o []) heard in
-    let leads = class_leads g step told d (foreign_record step.query told) (judged_step j limits cached earlier step told h judged heard) ends in
-    subst (λ s. ShowsDenial step.query told s d) (sym same) (outcome_shows limits step.query told sets d (judged_told step.depth told step.sets) leads)
+    let leads = class_leads g step told d (foreign_record step.query told)
+    (judged_step j limits cached earlier step told h judged heard) ends in
+    subst (λ s. ShowsDenial step.query told s d) (sym same)
+    (outcome_shows limits step.query told sets d (judged_told step.depth told step.sets) leads)
 
 -- ---- a trail
 

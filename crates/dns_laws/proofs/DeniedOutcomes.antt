@@ -49,7 +49,8 @@ labels_of q s h =
     let read = passing _ (rrsig_of wild.value) wild.passes in
     record {
       labels = read.value.labels;
-      is = ap (λ o. option_map (λ sig. sig.labels) (option_and_then rrsig_of o)) wild.found ∙ ap (option_map (λ sig. sig.labels)) read.found;
+      is = ap (λ o. option_map (λ sig. sig.labels) (option_and_then rrsig_of o)) wild.found
+          ∙ ap (option_map (λ sig. sig.labels)) read.found;
     }
 
 pub record IsExpansion (how : Answered) : Type 0 where
@@ -76,7 +77,8 @@ expanded_is q told sets each h =
     let by = least_is (filter_map decider_labels kept) first.labels (filter_map decider_labels begins.rest) labels in
     record {
       labels = by.labels;
-      is = ap (λ b. cond b (answered_from (least (filter_map decider_labels kept))) No) (expanded_answers q told p.it p.known p.passes).answer ∙ by.is;
+      is = ap (λ b. cond b (answered_from (least (filter_map decider_labels kept))) No)
+          (expanded_answers q told p.it p.known p.passes).answer ∙ by.is;
     }
 
 no_answer_step : (answer : Bool) (labels : Option ℕ) → cond answer (answered_from labels) No ≡ No → answer ≡ false
@@ -255,7 +257,8 @@ by_denials q told sets d (Some apex) each some is h =
     } in
     shown_by q told sets d apex how each refl
     (λ none. shown.AbsentByNsec denier (denial_of q apex told.code how (denials sets) proof refl parts.0 none))
-    (λ labels expanded. shown.ExpandedByNsec denier (expansion_of q apex told.code how (denials sets) proof labels refl parts.0 expanded)) parts.1
+    (λ labels expanded. shown.ExpandedByNsec denier (expansion_of q apex told.code how (denials sets) proof labels refl parts.0 expanded))
+    parts.1
 
 -- by its NSEC3 records
 by_hashes : (limits : Limits) (q : Question) (told : Told) (sets : List MarkedSet) (d : Denial)
@@ -277,7 +280,8 @@ by_hashes limits q told sets d (Some apex) each some is h =
     shown_by q told sets d apex how each refl
     (λ none. shown.AbsentByNsec3 denier (denial_holds q apex told.code nsec3s limits.soft limits.hard (ap proof (sym none) ∙ parts.0)))
     (λ labels expanded.
-    shown.ExpandedByNsec3 denier (expansion_holds q apex told.code labels nsec3s limits.soft limits.hard (ap proof (sym expanded) ∙ parts.0))) parts.1
+    shown.ExpandedByNsec3 denier (expansion_holds q apex told.code labels nsec3s limits.soft limits.hard (ap proof (sym expanded)
+    ∙ parts.0))) parts.1
 
 unexpanded_for : (q : Question) (sets : List MarkedSet) → list_any is_expanded_answer sets ≡ false
     → list_any (is_expanded_for q) sets ≡ false
@@ -302,7 +306,8 @@ outcome_shows limits q told sets d each h =
     let insecure = is_insecure_authority q told sets in
     let wild = has_wildcard_signature told in
     let answer = if has_answer q told then denied.None else denied.Absent Insecure in
-    row (ShowsDenial q told sets d) (insecure && not wild) (list_any is_denying sets) (list_any is_hash_denying sets) (list_any is_expanded_answer sets)
+    row (ShowsDenial q told sets d) (insecure && not wild) (list_any is_denying sets) (list_any is_hash_denying sets)
+    (list_any is_expanded_answer sets)
     (has_answer q told && not wild) (has_answer q told) (insecure_answer q told)
     (outcome_by_hashed_denials limits q told.code (answered q told sets) (hashed_denials sets) (one_signer (hash_denying sets)))
     (outcome_by_denials q told.code (answered q told sets) (denials sets) (one_signer (denying sets))) d h

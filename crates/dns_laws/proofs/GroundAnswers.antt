@@ -54,7 +54,8 @@ pub record IsGroundOf (verifier : VerifierAnswers) (name : Labels) (step : Asked
   pub rtype : (step.query.rtype == type_ds) ≡ true
   pub below_root : not (is_root step.query.owner) ≡ true
   pub above : at_or_above step.query.owner name ≡ true
-  pub shows : option_map_or (shows_unsigned verifier step.query.class step.query.owner) (if_answered step.ending (judged_sets step)) false ≡ true
+  pub shows : option_map_or (shows_unsigned verifier step.query.class step.query.owner) (if_answered step.ending (judged_sets step)) false
+      ≡ true
 
 ground_parts : (verifier : VerifierAnswers) (name : Labels) (step : AskedValue) → is_ground verifier name step ≡ true
     → IsGroundOf verifier name step
@@ -62,7 +63,8 @@ ground_parts verifier name step h =
     let rtype = step.query.rtype == type_ds in
     let below = not (is_root step.query.owner) in
     let above = at_or_above step.query.owner name in
-    let shows = option_map_or (shows_unsigned verifier step.query.class step.query.owner) (if_answered step.ending (judged_sets step)) false in
+    let shows = option_map_or (shows_unsigned verifier step.query.class step.query.owner)
+    (if_answered step.ending (judged_sets step)) false in
     let one = and_parts step.judged (rtype && (below && (above && shows))) h in
     let two = and_parts rtype (below && (above && shows)) one.1 in
     let three = and_parts below (above && shows) two.1 in
@@ -75,9 +77,11 @@ ground_made verifier name step i =
     let rtype = step.query.rtype == type_ds in
     let below = not (is_root step.query.owner) in
     let above = at_or_above step.query.owner name in
-    let shows = option_map_or (shows_unsigned verifier step.query.class step.query.owner) (if_answered step.ending (judged_sets step)) false in
+    let shows = option_map_or (shows_unsigned verifier step.query.class step.query.owner)
+    (if_answered step.ending (judged_sets step)) false in
     and_from step.judged (rtype && (below && (above && shows))) i.judged
-    (and_from rtype (below && (above && shows)) i.rtype (and_from below (above && shows) i.below_root (and_from above shows i.above i.shows)))
+    (and_from rtype (below && (above && shows)) i.rtype
+    (and_from below (above && shows) i.below_root (and_from above shows i.above i.shows)))
 
 -- a ground of a name is one of each name below it
 pub grounded_below : (verifier : VerifierAnswers) (earlier : List AskedValue) (above name : Labels)
@@ -109,7 +113,8 @@ is_insecure_zone (delegation.Insecure kind) = true
 is_insecure_zone (delegation.Bogus kind) = false
 
 supported_step : (name : Labels) (ds : List Rr) (some readable : Bool)
-    → is_insecure_zone (if some then delegation.Signed ds else if readable then delegation.Insecure UnknownKeyAlgorithm else delegation.Bogus (DsRecordShouldExist name)) ≡ true
+    → is_insecure_zone (if some then delegation.Signed ds else if readable then delegation.Insecure UnknownKeyAlgorithm
+    else delegation.Bogus (DsRecordShouldExist name)) ≡ true
     → (readable && not some) ≡ true
 supported_step name ds true readable h = cc
 supported_step name ds false true h = refl
@@ -120,13 +125,15 @@ by_ds : (verifier : VerifierAnswers) (name : Labels) (mark : Proof) (records : L
     → is_insecure_zone (verdict_by_ds verifier name mark records) ≡ true
     → (is_secure mark && none_supported verifier records) ≡ true
 by_ds verifier name Secure records h =
-    supported_step name (filter (is_supported_ds verifier) records) (list_any (is_supported_ds verifier) records) (list_any is_readable_ds records) h
+    supported_step name (filter (is_supported_ds verifier) records) (list_any (is_supported_ds verifier) records)
+    (list_any is_readable_ds records) h
 by_ds verifier name Insecure records h = cc
 by_ds verifier name Bogus records h = cc
 by_ds verifier name Indeterminate records h = cc
 
 without_step : (name : Labels) (b : Bool)
-    → is_insecure_zone (if b then delegation.Insecure (DsResponseInsecure name) else delegation.Bogus (DsRecordShouldExist name)) ≡ true → b ≡ true
+    → is_insecure_zone (if b then delegation.Insecure (DsResponseInsecure name) else delegation.Bogus (DsRecordShouldExist name)) ≡ true
+    → b ≡ true
 without_step name true h = refl
 without_step name false h = cc
 
@@ -145,7 +152,8 @@ answer_shows verifier earlier class name answer (Some s) settled is h =
     let unsupported : shows_unsupported_ds verifier class name s ≡ true =
     and_from (is_ds_set_of class name s) (is_secure s.mark && none_supported verifier s.set.records) found.passes
     (by_ds verifier name s.mark s.set.records h) in
-    inl (ap (λ b. b || (not (list_any (is_ds_set_of class name) answer) && (list_any (shows_no_ds name) answer || shows_no_ds_by_hash name answer)))
+    inl (ap (λ b. b || (not (list_any (is_ds_set_of class name) answer)
+    && (list_any (shows_no_ds name) answer || shows_no_ds_by_hash name answer)))
     (found_any (is_ds_set_of class name) (shows_unsupported_ds verifier class name) answer s is unsupported))
 answer_shows verifier earlier class name answer None settled is h =
     let unsupported = list_any (shows_unsupported_ds verifier class name) answer in
@@ -180,12 +188,14 @@ shows_alike : (verifier : VerifierAnswers) (class : ℕ) (one two : Labels) (ans
     → shows_unsigned verifier class one answer ≡ shows_unsigned verifier class two answer
 shows_alike verifier class one two answer same =
     let ds = λ (s : MarkedSet).
-    ap (λ b. section_eq Answer s.section && (b && ((s.set.rtype == type_ds) && (class == s.set.class)))) (name_left one two s.set.owner same) in
+    ap (λ b. section_eq Answer s.section && (b && ((s.set.rtype == type_ds) && (class == s.set.class))))
+    (name_left one two s.set.owner same) in
     let unsupported = any_agree (shows_unsupported_ds verifier class one) (shows_unsupported_ds verifier class two)
     (λ s. ap (λ b. b && (is_secure s.mark && none_supported verifier s.set.records)) (ds s)) answer in
     let none = any_agree (is_ds_set_of class one) (is_ds_set_of class two) ds answer in
     let cut = any_agree (shows_no_ds one) (shows_no_ds two)
-    (λ s. ap (λ b. section_eq Authority s.section && (is_secure s.mark && (b && ((s.set.rtype == type_nsec) && list_any shows_unsigned_cut s.set.records))))
+    (λ s. ap (λ b. section_eq Authority s.section
+    && (is_secure s.mark && (b && ((s.set.rtype == type_nsec) && list_any shows_unsigned_cut s.set.records))))
     (name_left one two s.set.owner same)) answer in
     let hashed = delegation_alike one two (hashed_denials answer) same in
     let shown = λ (name : Labels). list_any (shows_no_ds name) answer || shows_no_ds_by_hash name answer in

@@ -106,7 +106,8 @@ entry_grounded g placed entry settled proper h =
     let one = and_parts section (owner && (rtype && by_origin)) h in
     let two = and_parts owner (rtype && by_origin) one.1 in
     let three = and_parts rtype by_origin two.1 in
-    let of_set = λ (insecure : is_insecure entry.mark ≡ true). origin_grounded g placed entry entry.origin settled proper insecure three.1 in
+    let of_set = λ (insecure : is_insecure entry.mark ≡ true). origin_grounded g placed entry entry.origin settled proper
+    insecure three.1 in
     record {
       of_set = of_set;
       of_entry = λ insecure. grounded_alike g.judge.answers g.earlier placed.set.owner entry.owner two.0 (of_set insecure);
@@ -208,7 +209,8 @@ steps_settled_later verifier earlier more steps h =
 entry_numbered : (verifier : VerifierAnswers) (earlier more : List AskedValue) (insecure : Bool) (owner : Labels)
     → (insecure ≡ true → Grounded verifier earlier owner)
     → (not insecure || has_ground verifier (earlier ++ more) (length earlier) owner) ≡ true
-entry_numbered verifier earlier more true owner h = ap (λ steps. list_any (is_ground verifier owner) steps) (take-front earlier more) ∙ h refl
+entry_numbered verifier earlier more true owner h = ap (λ steps. list_any (is_ground verifier owner) steps) (take-front earlier more)
+    ∙ h refl
 entry_numbered verifier earlier more false owner h = refl
 
 entries_numbered : (verifier : VerifierAnswers) (earlier more : List AskedValue) (entries : List JudgedSetValue)
@@ -216,12 +218,14 @@ entries_numbered : (verifier : VerifierAnswers) (earlier more : List AskedValue)
     → list_all (is_grounded verifier (earlier ++ more) (length earlier)) entries ≡ true
 entries_numbered verifier earlier more [] h = refl
 entries_numbered verifier earlier more (e ∷ es) h =
-    and_from (is_grounded verifier (earlier ++ more) (length earlier) e) (list_all (is_grounded verifier (earlier ++ more) (length earlier)) es)
+    and_from (is_grounded verifier (earlier ++ more) (length earlier) e)
+    (list_all (is_grounded verifier (earlier ++ more) (length earlier)) es)
     (entry_numbered verifier earlier more (is_insecure e.mark) e.owner h.0) (entries_numbered verifier earlier more es h.1)
 
 -- each set of the steps of a trail from a number on
 abbrev grounded_from : VerifierAnswers → List AskedValue → ℕ → List AskedValue → Bool
-grounded_from verifier trail number steps = list_all (λ step. list_all (is_grounded verifier trail step.0) step.1.sets) (enumerate_from number steps)
+grounded_from verifier trail number steps =
+    list_all (λ step. list_all (is_grounded verifier trail step.0) step.1.sets) (enumerate_from number steps)
 
 steps_grounded : (j : Judge) (limits : Limits) (earlier steps : List AskedValue)
     → StepsSettled j.answers earlier earlier
@@ -235,7 +239,8 @@ steps_grounded j limits earlier (step ∷ steps) settled h =
     let one = step_grounded j limits earlier step settled parts.0 in
     let trail = earlier ++ step ∷ steps in
     let next : StepsSettled V (earlier ++ step ∷ []) (earlier ++ step ∷ []) =
-    each_append (λ s. AreSettled V (earlier ++ step ∷ []) (judged_sets s)) earlier (step ∷ []) (steps_settled_later V earlier (step ∷ []) earlier settled)
+    each_append (λ s. AreSettled V (earlier ++ step ∷ []) (judged_sets s)) earlier (step ∷ [])
+    (steps_settled_later V earlier (step ∷ []) earlier settled)
     (settled_later V earlier (step ∷ []) (judged_sets step) one.settled, tt) in
     let rest = steps_grounded j limits (earlier ++ step ∷ []) steps next parts.1 in
     let later : grounded_from V trail (length earlier + 1) steps ≡ true =

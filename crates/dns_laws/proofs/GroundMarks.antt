@@ -61,7 +61,8 @@ proved_step : (o : Option Rr) → shows_insecure (option_map_or (λ key. marks.P
 proved_step None h = cc
 proved_step (Some key) h = cc
 
-keys_excuse : (j : Judge) (set : RrSet) (r : Rr) (mark : Proof) (keys : List Rr) → shows_insecure (by_keys j set r mark keys) ≡ true → is_insecure mark ≡ true
+keys_excuse : (j : Judge) (set : RrSet) (r : Rr) (mark : Proof) (keys : List Rr) → shows_insecure (by_keys j set r mark keys) ≡ true
+    → is_insecure mark ≡ true
 keys_excuse j set r Secure keys h = absurd (proved_step (find (is_good_by j set r) keys) h)
 keys_excuse j set r Insecure keys h = refl
 keys_excuse j set r Bogus keys h = cc
@@ -87,7 +88,8 @@ kept_fits : (fits rest : Bool) → (not fits || rest) ≡ false → fits ≡ tru
 kept_fits true rest h = refl
 kept_fits false rest h = cc
 
-signature_excuse : (g : StepContext) (set : RrSet) (r : Rr) (answer : List MarkedSet) (o : Option RrsigValue) → AreSettled g.judge.answers g.earlier answer
+signature_excuse : (g : StepContext) (set : RrSet) (r : Rr) (answer : List MarkedSet) (o : Option RrsigValue)
+    → AreSettled g.judge.answers g.earlier answer
     → is_skipped_read g.query set o ≡ false → shows_insecure (verdict_by g.judge set r answer o) ≡ true → GroundedIn g set.owner
 signature_excuse g set r answer None settled kept h = cc
 signature_excuse g set r answer (Some sig) settled kept h =
@@ -95,7 +97,8 @@ signature_excuse g set r answer (Some sig) settled kept h =
     (may_be_signed set sig) settled
     (kept_fits (signer_fits set.rtype sig.signer set.owner) (question_eq (key_question set.class sig.signer) g.query) kept) refl h
 
-verdict_excuse : (g : StepContext) (set : RrSet) (r : Rr) (ask : AskRef) (o : Option (List MarkedSet)) → EarlierSettled g → is_skipped g.query set r ≡ false
+verdict_excuse : (g : StepContext) (set : RrSet) (r : Rr) (ask : AskRef) (o : Option (List MarkedSet)) → EarlierSettled g
+    → is_skipped g.query set r ≡ false
     → finished_answer g.earlier ask ≡ o → shows_insecure (verdict_of g.judge set r o) ≡ true → GroundedIn g set.owner
 unfolding verdict_of
 verdict_excuse g set r ask None settled kept is h = cc
@@ -152,7 +155,8 @@ verdicts_excuse g set (r ∷ rs) (ask ∷ asks) vs settled is h =
     ((if_some (is_ask_for g (ask_of set r) ask) (verdicts_after v asks (verdicts_by g set rs)) vs e).1) h
     (verdict_excuse g set r ask (finished_answer g.earlier ask) settled kept refl) (λ rest. verdicts_excuse g set rs asks rest settled))
 
-place_excused : (vs : List Verdict) (proved excused : Option ℕ) → position shows_insecure vs ≡ excused → is_insecure ((mark_at proved excused).mark) ≡ true
+place_excused : (vs : List Verdict) (proved excused : Option ℕ) → position shows_insecure vs ≡ excused
+    → is_insecure ((mark_at proved excused).mark) ≡ true
     → list_any shows_insecure vs ≡ true
 place_excused vs (Some n) excused is h = cc
 place_excused vs None None is h = cc
@@ -169,20 +173,23 @@ mark_excused (v ∷ vs) h = place_excused (v ∷ vs) (position is_proved (v ∷ 
 abbrev verdict_asked : StepContext → ℕ → Labels → AskRef → ZoneVerdict
 verdict_asked g class name ask = zone_verdict g.judge.answers class name (finished_answer g.earlier ask)
 
-asked_zone : (g : StepContext) (class : ℕ) (name : Labels) (asks : List AskRef) (zone : ZoneVerdict) → EarlierSettled g → is_root name ≡ false
+asked_zone : (g : StepContext) (class : ℕ) (name : Labels) (asks : List AskRef) (zone : ZoneVerdict) → EarlierSettled g
+    → is_root name ≡ false
     → zone_asked g class name asks ≡ Some zone → is_insecure_zone zone ≡ true → GroundedIn g name
 asked_zone g class name [] zone settled below is h = cc
 asked_zone g class name (ask ∷ asks) zone settled below is h =
     let asked = is_ask g.limits.depth g.earlier (g.depth + 1) (ds_question class name) ask in
     let some = if_some (is_empty asks && asked) (Some (verdict_asked g class name ask)) zone is in
     let same : verdict_asked g class name ask ≡ zone = cc in
-    zone_grounded g.judge.answers g.limits.depth g.earlier (g.depth + 1) class name ask settled below ((and_parts (is_empty asks) asked some.0).1)
+    zone_grounded g.judge.answers g.limits.depth g.earlier (g.depth + 1) class name ask settled below
+    ((and_parts (is_empty asks) asked some.0).1)
     (ap is_insecure_zone same ∙ h)
 
 -- ---- a key set
 
 keys_step : (o : Option SignedKeys) (wholly root : Bool) (kind : ProofErrorKindValue) (x : KeysOutcome)
-    → is_insecure ((outcome_mark (option_map_or SignedByAnchored o (if wholly then WhollyAnchored else if root then Refused Bogus kind else x))).mark) ≡ true
+    → is_insecure ((outcome_mark (option_map_or SignedByAnchored o (if wholly then WhollyAnchored else if root
+    then Refused Bogus kind else x))).mark) ≡ true
     → (root ≡ false) × (is_insecure ((outcome_mark x).mark) ≡ true)
 keys_step (Some signed) wholly root kind x h = cc
 keys_step None true root kind x h = cc
@@ -190,7 +197,8 @@ keys_step None false true kind x h = cc
 keys_step None false false kind x h = (refl, h)
 
 ds_step : (o : Option SignedKeys) (ds : List Rr) (wholly : Bool) (kind : ProofErrorKindValue)
-    → is_insecure ((outcome_mark (option_map_or (SignedByMatched ds) o (if wholly then WhollyTrusted ds else Refused Bogus kind))).mark) ≡ true → ⊥
+    → is_insecure ((outcome_mark (option_map_or (SignedByMatched ds) o (if wholly then WhollyTrusted ds else Refused Bogus kind))).mark)
+    ≡ true → ⊥
 ds_step (Some signed) ds wholly kind h = cc
 ds_step None ds true kind h = cc
 ds_step None ds false kind h = cc
@@ -238,7 +246,8 @@ same_mark Indeterminate Bogus h k = k
 same_mark Indeterminate Indeterminate h k = k
 
 -- an entry has the mark of its judged set
-pub mark_of_entry : (s : MarkedSet) (entry : JudgedSetValue) → has_mark_of s entry ≡ true → is_insecure entry.mark ≡ true → is_insecure s.mark ≡ true
+pub mark_of_entry : (s : MarkedSet) (entry : JudgedSetValue) → has_mark_of s entry ≡ true → is_insecure entry.mark ≡ true
+    → is_insecure s.mark ≡ true
 mark_of_entry s entry h k = same_mark s.mark entry.mark ((and_parts (proof_eq s.mark entry.mark) (place_eq s.sig entry.sig) h).0) k
 
 keys_by : (g : StepContext) (placed : PlacedSet) (entry : JudgedSetValue) (needs : Bool) (o : Option ZoneVerdict) → EarlierSettled g
@@ -256,7 +265,8 @@ keys_by g placed entry true (Some zone) settled is insecure h =
 
 -- ---- an unsigned set
 
-probe_zone : (g : StepContext) (class : ℕ) (name : Labels) (asks : List AskRef) (probe : NsProbe) (above : Option ZoneVerdict) (zone : ZoneVerdict)
+probe_zone : (g : StepContext) (class : ℕ) (name : Labels) (asks : List AskRef) (probe : NsProbe) (above : Option ZoneVerdict)
+    (zone : ZoneVerdict)
     → EarlierSettled g → is_root name ≡ false → search_after g class name asks probe above ≡ Some zone → is_insecure_zone zone ≡ true
     → (above ≡ Some zone → GroundedIn g name) → GroundedIn g name
 probe_zone g class name asks probes.Found above zone settled below is h onward = asked_zone g class name asks zone settled below is h
@@ -267,7 +277,8 @@ probe_zone g class name asks probes.Failed above zone settled below is h onward 
     never_seen true e = let same : delegation.Bogus (Net (ns_question class name)) ≡ zone = cc in cc
     never_seen false e = cc
 
-root_zone : (b : Bool) (start : Labels) (zone : ZoneVerdict) → (if b then Some (delegation.Bogus (DsRecordShouldExist start)) else None) ≡ Some zone
+root_zone : (b : Bool) (start : Labels) (zone : ZoneVerdict)
+    → (if b then Some (delegation.Bogus (DsRecordShouldExist start)) else None) ≡ Some zone
     → is_insecure_zone zone ≡ true → ⊥
 root_zone true start zone is h = let same : delegation.Bogus (DsRecordShouldExist start) ≡ zone = cc in cc
 root_zone false start zone is h = cc
@@ -284,9 +295,11 @@ searched_zone g class start (label ∷ rest) (ask ∷ asks) zone settled is h =
     let above = search_by g class start rest asks in
     let some = if_some (is_plain_ask g.earlier g.depth (ns_question class name) ask) (search_after g class name asks probe above) zone is in
     probe_zone g class name asks probe above zone settled refl some.1 h
-    (λ e. grounded_below g.judge.answers g.earlier rest name (above_label label rest) (searched_zone g class start rest asks zone settled e h))
+    (λ e. grounded_below g.judge.answers g.earlier rest name (above_label label rest)
+    (searched_zone g class start rest asks zone settled e h))
 
-unsigned_insecure : (placed : PlacedSet) (zone : ZoneVerdict) → is_insecure ((unsigned_by placed zone).mark) ≡ true → is_insecure_zone zone ≡ true
+unsigned_insecure : (placed : PlacedSet) (zone : ZoneVerdict) → is_insecure ((unsigned_by placed zone).mark) ≡ true
+    → is_insecure_zone zone ≡ true
 unfolding unsigned_by
 unsigned_insecure placed (delegation.Signed ds) h = cc
 unsigned_insecure placed (delegation.Insecure kind) h = refl
@@ -297,7 +310,8 @@ start_above true owner = parent_above owner
 start_above false owner = above_itself owner
 
 unsigned_grounded : (g : StepContext) (placed : PlacedSet) (entry : JudgedSetValue) (o : Option ZoneVerdict) → EarlierSettled g
-    → search_from g placed.set.class (set_start placed.set) entry.asked ≡ o → is_insecure entry.mark ≡ true → is_by_search placed entry o ≡ true
+    → search_from g placed.set.class (set_start placed.set) entry.asked ≡ o → is_insecure entry.mark ≡ true
+    → is_by_search placed entry o ≡ true
     → GroundedIn g placed.set.owner
 unsigned_grounded g placed entry None settled is insecure h = cc
 unsigned_grounded g placed entry (Some zone) settled is insecure h =
@@ -317,7 +331,8 @@ signed_grounded g placed entry (Some vs) settled is insecure h =
     verdicts_excuse g placed.set (take most_signatures placed.set.signatures) entry.asked vs settled is
     (mark_excused vs (mark_of_entry (judged_by placed vs) entry h insecure))
 
-rules_step : (G : Type 0) (keys searched x y z : Bool) → (if keys then x else if searched then y else z) ≡ true → (x ≡ true → G) → (y ≡ true → G)
+rules_step : (G : Type 0) (keys searched x y z : Bool) → (if keys then x else if searched then y else z) ≡ true
+    → (x ≡ true → G) → (y ≡ true → G)
     → (z ≡ true → G) → G
 rules_step G true searched x y z h of_keys of_search of_signatures = of_keys h
 rules_step G false true x y z h of_keys of_search of_signatures = of_search h
@@ -330,6 +345,7 @@ rules_grounded g placed entry settled insecure h =
     let verdicts = verdicts_by g placed.set (take most_signatures placed.set.signatures) entry.asked in
     rules_step (GroundedIn g placed.set.owner) (placed.set.rtype == type_dnskey) (needs_zone placed.set) (keys_hold g placed entry)
     (unsigned_holds g placed entry) (is_by_verdicts placed entry verdicts) h
-    (keys_by g placed entry (needs_ds g.judge placed.set) (zone_asked g placed.set.class placed.set.owner entry.asked) settled refl insecure)
+    (keys_by g placed entry (needs_ds g.judge placed.set) (zone_asked g placed.set.class placed.set.owner entry.asked)
+    settled refl insecure)
     (unsigned_grounded g placed entry (search_from g placed.set.class (set_start placed.set) entry.asked) settled refl insecure)
     (signed_grounded g placed entry verdicts settled refl insecure)

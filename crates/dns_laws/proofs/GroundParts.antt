@@ -14,7 +14,8 @@ any_step false b true d one rest h = refl
 any_step false b false d one rest h = rest h
 
 -- what passes one test passes another
-pub any_more : {X : Type 0} (p q : X → Bool) → ((x : X) → p x ≡ true → q x ≡ true) → (xs : List X) → list_any p xs ≡ true → list_any q xs ≡ true
+pub any_more : {X : Type 0} (p q : X → Bool) → ((x : X) → p x ≡ true → q x ≡ true) → (xs : List X) → list_any p xs ≡ true
+    → list_any q xs ≡ true
 any_more p q more [] h = cc
 any_more p q more (x ∷ xs) h = any_step (p x) (list_any p xs) (q x) (list_any q xs) (more x) (any_more p q more xs) h
 

@@ -79,9 +79,11 @@ same_said : (now : ℕ) (told : Told) (sets : List MarkedSet) (s : MarkedSet) �
 same_said now told sets s known =
     let f = marked_first now sets s.section in
     let marks : AllByRecursion (λ r. (f r).proof ≡ s.mark) s.set.records =
-    each_more (λ r. f r ≡ record r { proof = s.mark; ttl = adjusted_ttl now s r }) (λ r. (f r).proof ≡ s.mark) (λ r e. ap (λ x. x.proof) e) s.set.records
+    each_more (λ r. f r ≡ record r { proof = s.mark; ttl = adjusted_ttl now s r }) (λ r. (f r).proof ≡ s.mark)
+    (λ r e. ap (λ x. x.proof) e) s.set.records
     (own_marks now told sets s known) in
-    let mark : is_secure_set (on_set f s.set) ≡ is_secure s.mark = ap is_secure (first_marked f s.mark s.set.records known.proper.listed marks) in
+    let mark : is_secure_set (on_set f s.set) ≡ is_secure s.mark =
+    ap is_secure (first_marked f s.mark s.set.records known.proper.listed marks) in
     ap (λ b. cond (section_eq Authority s.section && (b && (s.set.rtype == type_nsec3))) (said s.set) []) (sym mark)
     ∙ ap (λ said. cond (section_eq Authority s.section && is_secure_nsec3_set (on_set f s.set)) said [])
     (sym (said_kept f (marked-keeps now sets s.section []) s.set.records))
@@ -99,7 +101,8 @@ by_placed now told sets grouped =
 
 -- only those of the authority section say something
 by_authority : (now : ℕ) (told : Told) (sets : List MarkedSet)
-    → flat_map (said_marked now sets) (placed_sets told) ≡ flat_map (λ set. said_marked now sets (in_section Authority set)) (sets_of told.authorities)
+    → flat_map (said_marked now sets) (placed_sets told) ≡ flat_map (λ set. said_marked now sets (in_section Authority set))
+    (sets_of told.authorities)
 by_authority now told sets =
     let g = said_marked now sets in
     let one = map (in_section Answer) (sets_of told.answers) in

@@ -63,12 +63,14 @@ unfolding first_signed
 of_none may_sign j set = refl
 
 -- a key that may sign has signed
-pub has_signed : (may_sign : Rr → Bool) (j : Judge) (set : RrSet) → IsOneOrNone set → is_signed_by may_sign j set ≡ true → HasSigned may_sign j set
+pub has_signed : (may_sign : Rr → Bool) (j : Judge) (set : RrSet) → IsOneOrNone set → is_signed_by may_sign j set ≡ true
+    → HasSigned may_sign j set
 has_signed may_sign j set (inl one) h =
     let r = one.0 in
     let test = λ (key : Rr). may_sign key && is_good_by j set r key in
     let any = λ (s : Rr). list_any (λ key. may_sign key && is_good_by j set s key) set.records in
-    let good : any r ≡ true = ⊎_elim (λ (here : any r ≡ true). here) (λ (later : false ≡ true). cc) (or_cases (any r) false (ap (list_any any) (sym one.1) ∙ h)) in
+    let good : any r ≡ true = ⊎_elim (λ (here : any r ≡ true). here) (λ (later : false ≡ true). cc)
+    (or_cases (any r) false (ap (list_any any) (sym one.1) ∙ h)) in
     let key = any_found test set.records good in
     record {
       signed = record { place = 0; signature = r; key = key.value };
@@ -78,7 +80,8 @@ has_signed may_sign j set (inr none) h =
     cc (ap (list_any (λ s. list_any (λ key. may_sign key && is_good_by j set s key) set.records)) (sym none) ∙ h)
 
 -- and none has
-pub none_signed : (may_sign : Rr → Bool) (j : Judge) (set : RrSet) → IsOneOrNone set → is_signed_by may_sign j set ≡ false → signed_by may_sign j set ≡ None
+pub none_signed : (may_sign : Rr → Bool) (j : Judge) (set : RrSet) → IsOneOrNone set → is_signed_by may_sign j set ≡ false
+    → signed_by may_sign j set ≡ None
 none_signed may_sign j set (inl one) h =
     let r = one.0 in
     let test = λ (key : Rr). may_sign key && is_good_by j set r key in
@@ -116,7 +119,8 @@ by_keys_rule g set entry is h =
     ap (λ b.
     if b then keys_hold g placed entry
     else if needs_zone set then unsigned_holds g placed entry
-    else option_map_or (λ verdicts. has_mark_of (judged_by placed verdicts) entry) (verdicts_by g set (take most_signatures set.signatures) entry.asked) false)
+    else option_map_or (λ verdicts. has_mark_of (judged_by placed verdicts) entry)
+    (verdicts_by g set (take most_signatures set.signatures) entry.asked) false)
     (sym is) ∙ h
 
 -- a key set that needs no DS set asks nothing, and is Secure
@@ -133,7 +137,8 @@ anchored_entry g set entry one is anchored h =
     let judged = judged_keys g.judge placed None in
     let by : (is_empty entry.asked && has_mark_of judged entry) ≡ true =
     ap (λ b.
-    if b then option_map_or (λ zone. has_mark_of (judged_keys g.judge placed (Some zone)) entry) (zone_asked g set.class set.owner entry.asked) false
+    if b then option_map_or (λ zone. has_mark_of (judged_keys g.judge placed (Some zone)) entry)
+    (zone_asked g set.class set.owner entry.asked) false
     else is_empty entry.asked && has_mark_of judged entry)
     (sym outcome.settled) ∙ by_keys_rule g set entry is h in
     let parts = and_parts (is_empty entry.asked) (has_mark_of judged entry) by in
@@ -143,7 +148,8 @@ anchored_entry g set entry one is anchored h =
 -- ---- by the DS set of the owner
 
 -- neither an anchor nor the root settles it
-unsettled : (j : Judge) (set : RrSet) (zone : Option ZoneVerdict) → IsOneOrNone set → is_anchored_set j set ≡ false → is_root set.owner ≡ false
+unsettled : (j : Judge) (set : RrSet) (zone : Option ZoneVerdict) → IsOneOrNone set → is_anchored_set j set ≡ false
+    → is_root set.owner ≡ false
     → keys_outcome j set zone ≡ outcome_by_verdict j set zone
 unfolding keys_outcome
 unsettled j set zone one h root =
@@ -151,7 +157,8 @@ unsettled j set zone one h root =
     let rest = outcome_by_verdict j set zone in
     ap (λ o.
     option_map_or SignedByAnchored o
-    (if list_all (is_anchored_key j set) set.records then WhollyAnchored else if is_root set.owner then Refused Bogus (DnskeyNotFound set.owner) else rest))
+    (if list_all (is_anchored_key j set) set.records then WhollyAnchored else if is_root set.owner
+    then Refused Bogus (DnskeyNotFound set.owner) else rest))
     (none_signed (is_anchored_key j set) j set one parts.1)
     ∙ ap (λ b. if b then WhollyAnchored else if is_root set.owner then Refused Bogus (DnskeyNotFound set.owner) else rest) parts.0
     ∙ ap (λ b. if b then Refused Bogus (DnskeyNotFound set.owner) else rest) root
@@ -177,11 +184,13 @@ by_zone_asked g set entry (ask ∷ asks) zone is h marked =
       ask = ask;
       alone = is ∙ ap (λ rest. ask ∷ rest) (empty_is asks tests.0);
       asks = tests.1;
-      marked = ap (λ o. option_map_or (λ z. has_mark_of (judged_keys g.judge (in_section Answer set) (Some z)) entry) o false) parts.1 ∙ marked;
+      marked = ap (λ o. option_map_or (λ z. has_mark_of (judged_keys g.judge (in_section Answer set) (Some z)) entry) o false) parts.1
+          ∙ marked;
     }
 
 pub ds_asked : (g : StepContext) (set : RrSet) (entry : JudgedSetValue) → IsOneOrNone set → (set.rtype == type_dnskey) ≡ true
-    → is_anchored_set g.judge set ≡ false → is_root set.owner ≡ false → is_by_rules g (in_section Answer set) entry ≡ true → IsByDs g set entry
+    → is_anchored_set g.judge set ≡ false → is_root set.owner ≡ false → is_by_rules g (in_section Answer set) entry ≡ true
+    → IsByDs g set entry
 ds_asked g set entry one is anchored root h =
     let placed = in_section Answer set in
     let asked = zone_asked g set.class set.owner entry.asked in
@@ -221,12 +230,14 @@ some_supported j set records false is h =
     let none = filter_none (is_supported_ds j.answers) records (none_passes (is_supported_ds j.answers) records is) in
     cc (sym (none_signs j set) ∙ ap (λ ds. is_signed_by (is_matched_key j set ds) j set) (sym none) ∙ h)
 
-is_ds_set : (class : ℕ) (owner : Labels) (next : Question) (ds : RrSet) (judged : MarkedSet) → question_eq (ds_question class owner) next ≡ true
+is_ds_set : (class : ℕ) (owner : Labels) (next : Question) (ds : RrSet) (judged : MarkedSet)
+    → question_eq (ds_question class owner) next ≡ true
     → name_eq next.owner ds.owner ≡ true → ds.rtype ≡ next.rtype → ds.class ≡ next.class → IsSecureSet ds judged
     → is_ds_set_of class owner judged ≡ true
 is_ds_set class owner next ds judged is name rtype in_class secure =
     let same = same_parts (ds_question class owner) next is in
-    and_from (section_eq Answer judged.section) (name_eq owner judged.set.owner && ((judged.set.rtype == type_ds) && (class == judged.set.class)))
+    and_from (section_eq Answer judged.section) (name_eq owner judged.set.owner
+    && ((judged.set.rtype == type_ds) && (class == judged.set.class)))
     (ap (section_eq Answer) secure.section)
     (and_from (name_eq owner judged.set.owner) ((judged.set.rtype == type_ds) && (class == judged.set.class))
     (ap (λ s. name_eq owner s.owner) secure.is ∙ name_trans owner next.owner ds.owner same.owner name)
@@ -234,7 +245,8 @@ is_ds_set class owner next ds judged is name rtype in_class secure =
     (ap (λ s. s.rtype == type_ds) secure.is ∙ ap (λ t. t == type_ds) (rtype ∙ sym same.rtype))
     (ap (λ s. class == s.class) secure.is ∙ ap (λ c. class == c) (in_class ∙ sym same.class) ∙ number_refl class)))
 
-zone_signed : (j : Judge) (set : RrSet) (next : Question) (ds : RrSet) (judged : MarkedSet) → question_eq (ds_question set.class set.owner) next ≡ true
+zone_signed : (j : Judge) (set : RrSet) (next : Question) (ds : RrSet) (judged : MarkedSet)
+    → question_eq (ds_question set.class set.owner) next ≡ true
     → name_eq next.owner ds.owner ≡ true → ds.rtype ≡ next.rtype → ds.class ≡ next.class → IsSecureSet ds judged
     → list_any (is_supported_ds j.answers) ds.records ≡ true
     → zone_verdict j.answers set.class set.owner (Some (judged ∷ [])) ≡ Signed (filter (is_supported_ds j.answers) ds.records)
@@ -242,7 +254,8 @@ unfolding zone_verdict
 zone_signed j set next ds judged is name rtype in_class secure supported =
     let test = is_ds_set_of set.class set.owner in
     let by = λ (s : MarkedSet). verdict_by_ds j.answers set.owner s.mark s.set.records in
-    ap (λ o. option_map_or by o (verdict_without_ds set.owner (judged ∷ []))) (found_alone test judged (is_ds_set set.class set.owner next ds judged is name rtype in_class secure))
+    ap (λ o. option_map_or by o (verdict_without_ds set.owner (judged ∷ [])))
+    (found_alone test judged (is_ds_set set.class set.owner next ds judged is name rtype in_class secure))
     ∙ ap (λ m. verdict_by_ds j.answers set.owner m judged.set.records) secure.mark
     ∙ ap (λ s. verdict_by_ds j.answers set.owner Secure s.records) secure.is
     ∙ ap (λ b.
@@ -277,14 +290,18 @@ ds_mark g next set ds entry judged one by anchored proof name rtype in_class ans
     let records = filter supported ds.records in
     let matched = is_matched_key j set records in
     let any = some_supported j set ds.records (list_any supported ds.records) refl proof.signed in
-    let zone = ap (zone_verdict j.answers set.class set.owner) answer ∙ zone_signed j set next ds judged proof.next_is name rtype in_class secure any in
+    let zone = ap (zone_verdict j.answers set.class set.owner) answer
+    ∙ zone_signed j set next ds judged proof.next_is name rtype in_class secure any in
     let has = has_signed matched j set one proof.signed in
     let outcome : keys_outcome j set (Some (Signed records)) ≡ SignedByMatched records has.signed =
     unsettled j set (Some (Signed records)) one anchored proof.root ∙ ap (outcome_by_ds j set) (filter-filter supported ds.records)
     ∙ ap (λ o.
     option_map_or (SignedByMatched records) o
-    (if list_all (is_trusted_key j set records) set.records then WhollyTrusted records else Refused Bogus (DsRecordsButNoDnskey set.owner))) has.found in
+    (if list_all (is_trusted_key j set records) set.records then WhollyTrusted records
+    else Refused Bogus (DsRecordsButNoDnskey set.owner))) has.found in
     let judged_is = judged_keys j (in_section Answer set) (Some (Signed records)) in
-    let marked : has_mark_of judged_is entry ≡ true = ap (λ z. has_mark_of (judged_keys j (in_section Answer set) (Some z)) entry) (sym zone) ∙ by.marked in
-    let same = proof_same judged_is.mark entry.mark ((and_parts (proof_eq judged_is.mark entry.mark) (place_eq judged_is.sig entry.sig) marked).0) in
+    let marked : has_mark_of judged_is entry ≡ true =
+    ap (λ z. has_mark_of (judged_keys j (in_section Answer set) (Some z)) entry) (sym zone) ∙ by.marked in
+    let same = proof_same judged_is.mark entry.mark
+    ((and_parts (proof_eq judged_is.mark entry.mark) (place_eq judged_is.sig entry.sig) marked).0) in
     sym same ∙ ap (λ o. (outcome_mark o).mark) outcome

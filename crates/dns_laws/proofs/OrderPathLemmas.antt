@@ -42,7 +42,8 @@ unfolding order_step
 goes_on zero trail n step met order is h = cc
 goes_on (suc above) trail n step met order is h =
     let asks = sym (order_step_at above trail n met step is) ∙ h in
-    let meets = asks_meet Any (order_step above trail) n (asks_of step) (met ++ n ∷ []) order (step_visits Any trail (any_hands trail) above) (any_asks (asks_of step)) asks in
+    let meets = asks_meet Any (order_step above trail) n (asks_of step) (met
+    ++ n ∷ []) order (step_visits Any trail (any_hands trail) above) (any_asks (asks_of step)) asks in
     record { below = above; asks = asks; more = meets.more; grown = meets.grown }
 
 -- what is met behind others is the step and what comes after it
@@ -51,11 +52,13 @@ met_next met more rest order n whole grown =
     append_cancel_left met more (n ∷ rest) (sym whole ∙ grown ∙ append_assoc met (n ∷ []) rest)
 
 -- where nothing is asked, nothing more is met
-pub none_met : (trail : List AskedValue) (n : ℕ) (step : AskedValue) (met order : List ℕ) (on : GoesOn trail n step met order) → asks_of step ≡ []
+pub none_met : (trail : List AskedValue) (n : ℕ) (step : AskedValue) (met order : List ℕ) (on : GoesOn trail n step met order)
+    → asks_of step ≡ []
     → on.more ≡ []
 unfolding order_asks
 none_met trail n step met order on none =
-    let whole = same_Some (met ++ n ∷ []) order (sym (ap (λ asks. order_asks (order_step on.below trail) n asks (met ++ n ∷ [])) none) ∙ on.asks) in
+    let whole = same_Some (met ++ n ∷ []) order (sym (ap (λ asks. order_asks (order_step on.below trail) n asks (met ++ n ∷ [])) none)
+    ∙ on.asks) in
     append_cancel_left (met ++ n ∷ []) on.more [] (sym on.grown ∙ sym whole ∙ sym (append-nil (met ++ n ∷ [])))
 
 then_same : (o : Option (List ℕ)) (order : List ℕ) → option_and_then (λ met. Some met) o ≡ Some order → o ≡ Some order
@@ -70,7 +73,8 @@ one_met trail n m step met order on one =
     let visit = order_step on.below trail in
     let asked = sym (ap (λ asks. order_asks visit n asks (met ++ n ∷ [])) one) ∙ on.asks in
     then_same (visit m (met ++ n ∷ [])) order
-    (if_some (nat_lt m n && nat_lt (length (met ++ n ∷ [])) most_sends) (option_and_then (order_asks visit n []) (visit m (met ++ n ∷ []))) order asked).1
+    (if_some (nat_lt m n && nat_lt (length (met ++ n ∷ [])) most_sends)
+    (option_and_then (order_asks visit n []) (visit m (met ++ n ∷ []))) order asked).1
 
 -- an ask that is refused as one too many comes behind as many sends as may be
 pub many_met : (trail : List AskedValue) (n : ℕ) (step : AskedValue) (met order : List ℕ) (on : GoesOn trail n step met order)
@@ -102,7 +106,8 @@ unfolding end_step
 ends_as zero trail n k step is h = cc
 ends_as (suc over) trail n k step is h =
     let asked =
-    sym (ap (λ o. option_and_then (λ s. option_and_then (λ i. if i == n then Some (n + 1) else None) (end_asks (end_step over trail) (asks_of s) 0)) o) is) ∙ h in
+    sym (ap (λ o. option_and_then (λ s. option_and_then (λ i. if i == n then Some (n + 1)
+    else None) (end_asks (end_step over trail) (asks_of s) 0)) o) is) ∙ h in
     let parts = ended_asks (end_asks (end_step over trail) (asks_of step) 0) n k asked in
     record { below = over; asks = parts.0; next = parts.1 }
 

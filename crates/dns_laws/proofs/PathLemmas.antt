@@ -58,7 +58,8 @@ pub record Walk (R : Type 0) : Type 0 where
   pub secure : are_secure cached ≡ true
 
 -- the step with this number asks the first of these queries, after those that were met, and more follow
-pub record IsAt {R : Type 0} (w : Walk R) (q : Question) (rest : List Question) (r : R) (n : ℕ) (step : AskedValue) (met more : List ℕ) : Type 0 where
+pub record IsAt {R : Type 0} (w : Walk R) (q : Question) (rest : List Question) (r : R) (n : ℕ) (step : AskedValue)
+    (met more : List ℕ) : Type 0 where
   pub plain : needs_no_denial q.rtype ≡ true
   pub other : is_other q ≡ false
   pub found : slice_get w.trail n ≡ Some step
@@ -78,7 +79,8 @@ pub record IsAt {R : Type 0} (w : Walk R) (q : Question) (rest : List Question) 
 -- ---- the step
 
 -- what stands at it
-pub record IsHere {R : Type 0} (w : Walk R) (q : Question) (r : R) (n : ℕ) (step : AskedValue) (met more : List ℕ) (set : RrSet) : Type 0 where
+pub record IsHere {R : Type 0} (w : Walk R) (q : Question) (r : R) (n : ℕ) (step : AskedValue) (met more : List ℕ)
+    (set : RrSet) : Type 0 where
   pub told : Told
   pub heard_it : told_in step.reply ≡ Some told
   pub one : IsOneSet w.judge q told set
@@ -89,7 +91,8 @@ pub record IsHere {R : Type 0} (w : Walk R) (q : Question) (r : R) (n : ℕ) (st
   pub asks : asks_of step ≡ straight.entry.asked
   pub ends : EndsAs w.trail n (n + 1) step
 
-heard_next : {R : Type 0} (w : Walk R) (r : R) (n : ℕ) (step : AskedValue) (more rest : List ℕ) → slice_get w.trail n ≡ Some step → more ≡ n ∷ rest
+heard_next : {R : Type 0} (w : Walk R) (r : R) (n : ℕ) (step : AskedValue) (more rest : List ℕ) → slice_get w.trail n ≡ Some step
+    → more ≡ n ∷ rest
     → HeardAlong w.up r (numbered w.trail more) → HeardAlong w.up r (step ∷ numbered w.trail rest)
 heard_next w r n step more rest found is heard =
     subst (HeardAlong w.up r) (ap (numbered w.trail) is ∙ ap (λ o. cons_option o (numbered w.trail rest)) found) heard
@@ -99,16 +102,19 @@ asks_of_one step entry sets excuse =
     ap (λ es. flat_map (λ set. set.asked) es ++ step.excuse) sets ∙ ap (λ es. (entry.asked ++ []) ++ es) excuse
     ∙ append-nil (entry.asked ++ []) ∙ append-nil entry.asked
 
-pub here : {R : Type 0} (w : Walk R) (q : Question) (rest : List Question) (r : R) (n : ℕ) (step : AskedValue) (met more : List ℕ) (set : RrSet)
+pub here : {R : Type 0} (w : Walk R) (q : Question) (rest : List Question) (r : R) (n : ℕ) (step : AskedValue)
+    (met more : List ℕ) (set : RrSet)
     → IsAt w q rest r n step met more → straight_set w.judge w.tells q ≡ Some set → IsHere w q r n step met more set
 here w q rest r n step met more set at is =
     let on = goes_on at.above w.trail n step met w.order at.found at.ordered in
     let next = met_next met more on.more w.order n at.whole on.grown in
     let heard = heard_next w r n step more on.more at.found next at.heard in
     let reply = answered w.judge w.tells q set at.other is in
-    let told : told_in step.reply ≡ Some reply.told = heard.0 ∙ sym (w.up.alike r q step.query at.same) ∙ at.agree q (omega arith) ∙ reply.heard in
+    let told : told_in step.reply ≡ Some reply.told = heard.0 ∙ sym (w.up.alike r q step.query at.same)
+    ∙ at.agree q (omega arith) ∙ reply.heard in
     let straight =
-    straight_step w.judge w.limits w.cached (take n w.trail) step q reply.told set (steps_hold_at w.judge w.limits w.cached [] w.trail n step w.hold at.found) at.judged told at.same reply.is
+    straight_step w.judge w.limits w.cached (take n w.trail) step q reply.told set
+    (steps_hold_at w.judge w.limits w.cached [] w.trail n step w.hold at.found) at.judged told at.same reply.is
     (ap (is_judged_at step.depth) reply.is.rtype ∙ at.kept) (ap needs_no_denial reply.is.rtype ∙ at.plain) in
     record {
       told = reply.told;
@@ -160,7 +166,8 @@ served_entry : (g : StepContext) (placed : PlacedSet) (entry : JudgedSetValue) �
 served_entry g placed entry secure is =
     let test = is_served_by g.judge g.query placed entry in
     let parts = and_parts (is_empty entry.asked) (list_any test g.cached) is in
-    let each = each_all (λ e. is_secure (mark_of e.found)) (λ (e : EntryValue). is_secure (mark_of e.found) ≡ true) (λ e h. h) g.cached secure in
+    let each = each_all (λ e. is_secure (mark_of e.found)) (λ (e : EntryValue). is_secure (mark_of e.found) ≡ true)
+    (λ e h. h) g.cached secure in
     let p = picked_known test (λ e. is_secure (mark_of e.found) ≡ true) g.cached each parts.1 in
     let marked = (and_parts (may_serve g.judge g.query placed p.it) (has_mark_of (judged_as placed p.it.found) entry) p.passes).1 in
     let same = proof_same (mark_of p.it.found) entry.mark
@@ -206,7 +213,8 @@ one_more w next rest n m before first = record {
 }
 
 -- the set of the query is Secure, the step ends with an answer, and it and the steps after it are the first of the list
-pub record IsShown {R : Type 0} (w : Walk R) (q : Question) (rest : List Question) (n : ℕ) (step : AskedValue) (more : List ℕ) : Type 0 where
+pub record IsShown {R : Type 0} (w : Walk R) (q : Question) (rest : List Question) (n : ℕ) (step : AskedValue)
+    (more : List ℕ) : Type 0 where
   pub set : RrSet
   pub straight : straight_set w.judge w.tells q ≡ Some set
   pub told : Told
@@ -245,7 +253,8 @@ pub shown_by : {R : Type 0} (w : Walk R) (q : Question) (rest : List Question) (
 shown_by w q rest s mark first asked =
     let placed = in_section Answer s.set in
     let entry = entry_at w q rest s in
-    let alone = one_judged w.judge q s.here.told s.set s.step.depth s.here.one (ap (is_judged_at s.step.depth) s.here.one.rtype ∙ s.at.kept) in
+    let alone = one_judged w.judge q s.here.told s.set s.step.depth s.here.one (ap (is_judged_at s.step.depth) s.here.one.rtype
+    ∙ s.at.kept) in
     record {
       set = s.set;
       straight = s.straight;
@@ -259,13 +268,15 @@ shown_by w q rest s mark first asked =
       ending = s.here.straight.ending;
       first = first;
       asked = subst (AreAsked (q ∷ first.front))
-          (sym (ap (numbered w.trail) s.here.next ∙ ap (λ o. cons_option o (numbered w.trail s.here.on.more)) s.at.found)) (s.at.same, asked);
+          (sym (ap (numbered w.trail) s.here.next ∙ ap (λ o. cons_option o (numbered w.trail s.here.on.more)) s.at.found))
+          (s.at.same, asked);
     }
 
 -- ---- the step that is asked
 
 -- the ask of a step stands for the step before it, at which the walk then stands
-pub record IsAsked {R : Type 0} (w : Walk R) (next : Question) (rest : List Question) (r : R) (n : ℕ) (step : AskedValue) (met more : List ℕ) (ask : AskRef) : Type 0 where
+pub record IsAsked {R : Type 0} (w : Walk R) (next : Question) (rest : List Question) (r : R) (n : ℕ) (step : AskedValue)
+    (met more : List ℕ) (ask : AskRef) : Type 0 where
   pub m : ℕ
   pub asked : AskedValue
   pub answer : finished_answer (take n w.trail) ask ≡ answer_of (Some asked)
@@ -288,9 +299,11 @@ agree_next : {R : Type 0} (w : Walk R) (q next : Question) (rest : List Question
     → w.up.tells (w.up.left r step.query) later ≡ w.tells later
 agree_next w q next rest r n step met more at lower later low =
     let as_high = same_rank q step.query at.same in
-    w.up.stays r step.query later (other_query step.query later (question_eq step.query later) refl (omega arith)) ∙ at.agree later (omega arith)
+    w.up.stays r step.query later (other_query step.query later (question_eq step.query later) refl (omega arith))
+    ∙ at.agree later (omega arith)
 
-judged_step : {R : Type 0} (w : Walk R) (q question next : Question) (rest : List Question) (r : R) (n m : ℕ) (step : AskedValue) (met more : List ℕ) (set : RrSet)
+judged_step : {R : Type 0} (w : Walk R) (q question next : Question) (rest : List Question) (r : R) (n m : ℕ)
+    (step : AskedValue) (met more : List ℕ) (set : RrSet)
     (o : Option AskedValue) (at : IsAt w q (next ∷ rest) r n step met more) (h : IsHere w q r n step met more set)
     → h.straight.entry.asked ≡ Step m ∷ [] → slice_get (take n w.trail) m ≡ o → is_judged_ask (step.depth + 1) question o ≡ true
     → question_eq question next ≡ true → IsLower q next → IsAsked w next rest r n step met h.on.more (Step m)
@@ -332,12 +345,14 @@ judged_step w q question next rest r n m step met more set (Some asked) at h alo
       };
     }
 
-pub asked_next : {R : Type 0} (w : Walk R) (q question next : Question) (rest : List Question) (r : R) (n : ℕ) (step : AskedValue) (met more : List ℕ) (set : RrSet)
+pub asked_next : {R : Type 0} (w : Walk R) (q question next : Question) (rest : List Question) (r : R) (n : ℕ)
+    (step : AskedValue) (met more : List ℕ) (set : RrSet)
     (ask : AskRef) (at : IsAt w q (next ∷ rest) r n step met more) (h : IsHere w q r n step met more set)
     → h.straight.entry.asked ≡ ask ∷ [] → is_ask w.limits.depth (take n w.trail) (step.depth + 1) question ask ≡ true
     → question_eq question next ≡ true → IsLower q next → IsAsked w next rest r n step met h.on.more ask
 asked_next w q question next rest r n step met more set (Step m) at h alone asks same lower =
-    let parts = and_parts (nat_le (step.depth + 1) w.limits.depth) (is_judged_ask (step.depth + 1) question (slice_get (take n w.trail) m)) asks in
+    let parts = and_parts (nat_le (step.depth + 1) w.limits.depth)
+    (is_judged_ask (step.depth + 1) question (slice_get (take n w.trail) m)) asks in
     judged_step w q question next rest r n m step met more set (slice_get (take n w.trail) m) at h alone refl parts.1 same lower
 asked_next w q question next rest r n step met more set TooDeep at h alone asks same lower =
     let deep = at.deep in

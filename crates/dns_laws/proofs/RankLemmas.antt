@@ -41,7 +41,8 @@ strictly_shorter above name h other =
     by_cases false is short = grind (arith, nat_tests)
 
 -- the keys of a signer stand lower than what they sign
-pub keys_lower : (rtype class : ℕ) (owner signer : Labels) (q : Question) → signer_fits rtype signer owner ≡ true → (rtype == type_dnskey) ≡ false
+pub keys_lower : (rtype class : ℕ) (owner signer : Labels) (q : Question) → signer_fits rtype signer owner ≡ true
+    → (rtype == type_dnskey) ≡ false
     → q.rtype ≡ rtype → length q.owner ≡ length owner → rank (key_question class signer) < rank q
 keys_lower rtype class owner signer q fits other is as_long = by_cases (rtype == type_ds) refl fits
   where
@@ -56,12 +57,14 @@ keys_lower rtype class owner signer q fits other is as_long = by_cases (rtype ==
         omega arith
     by_cases false ds h =
         let short = above_is_shorter signer owner h in
-        let two : kind rtype ≡ 2 = ap (λ b. if b then 0 else if rtype == type_dnskey then 1 else 2) ds ∙ ap (λ b. if b then 1 else 2) other in
+        let two : kind rtype ≡ 2 = ap (λ b. if b then 0 else if rtype == type_dnskey then 1 else 2) ds
+        ∙ ap (λ b. if b then 1 else 2) other in
         omega (arith, kind_is, two)
 
 -- and the DS set of an owner lower than its keys
 pub ds_lower : (class : ℕ) (owner : Labels) (q : Question) → (q.rtype == type_dnskey) ≡ true → (q.rtype == type_ds) ≡ false
     → length q.owner ≡ length owner → rank (ds_question class owner) < rank q
 ds_lower class owner q keys ds as_long =
-    let one : kind q.rtype ≡ 1 = ap (λ b. if b then 0 else if q.rtype == type_dnskey then 1 else 2) ds ∙ ap (λ b. if b then 1 else 2) keys in
+    let one : kind q.rtype ≡ 1 = ap (λ b. if b then 0 else if q.rtype == type_dnskey then 1 else 2) ds
+    ∙ ap (λ b. if b then 1 else 2) keys in
     omega (arith, one)

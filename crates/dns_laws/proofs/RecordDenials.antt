@@ -40,7 +40,8 @@ of_marked : (rtype : ℕ) (P Q : Rr → Type 0) (f : List Rr → Rr → Rr)
 unfolding map_after
 of_marked rtype P Q f keeps before [] h = tt
 of_marked rtype P Q f keeps before (r ∷ rs) h =
-    let parts = kept_parts P (is_secure_as rtype (f before r)) (f before r) (filter (is_secure_as rtype) (map_after f (before ++ r ∷ []) rs)) h in
+    let parts = kept_parts P (is_secure_as rtype (f before r)) (f before r)
+    (filter (is_secure_as rtype) (map_after f (before ++ r ∷ []) rs)) h in
     (λ secure. keeps before r (parts.0 (secure before)), of_marked rtype P Q f keeps (before ++ r ∷ []) rs parts.1)
 
 -- ---- the sets of the authority section
@@ -50,7 +51,8 @@ each_member : (P : Rr → Type 0) (section : List Rr) → AllByRecursion P secti
 unfolding sets_of
 each_member P section h =
     each_map (λ set. AllByRecursion P set.records) (set_of section) (leaders (unsigned_part section))
-    (each_of (λ r. AllByRecursion P (set_of section r).records) (λ r. each_filter P (same_set r) section h) (leaders (unsigned_part section)))
+    (each_of (λ r. AllByRecursion P (set_of section r).records) (λ r. each_filter P (same_set r) section h)
+    (leaders (unsigned_part section)))
 
 abbrev IfAuthority : (Rr → Type 0) → PlacedSet → Type 0
 IfAuthority P p = section_eq Authority p.section ≡ true → AllByRecursion P p.set.records
@@ -67,7 +69,8 @@ each_authority P told h =
     each_append (IfAuthority P) (one ++ two) three
     (each_append (IfAuthority P) one two (other Answer (sets_of told.answers) refl)
     (each_map (IfAuthority P) (in_section Authority) (sets_of told.authorities)
-    (each_more (λ set. AllByRecursion P set.records) (λ set. IfAuthority P (in_section Authority set)) (λ set each here. each) (sets_of told.authorities)
+    (each_more (λ set. AllByRecursion P set.records) (λ set. IfAuthority P (in_section Authority set)) (λ set each here. each)
+    (sets_of told.authorities)
     (each_member P told.authorities h))))
     (other Additional (sets_of told.additionals) refl)
 
@@ -170,7 +173,8 @@ each_denial P now told sets grouped h =
     let If = λ (s : MarkedSet). IsKnown told sets s × (Denies s → AllByRecursion (Says P) s.set.records) in
     let known =
     of_denying type_nsec (Says P) (Says P) now told sets grouped
-    (λ before r said. subst (λ o. IfSome o P) (owned_kept (marked now sets Authority before) (marked-keeps now sets Authority before) r) said)
+    (λ before r said. subst (λ o. IfSome o P) (owned_kept (marked now sets Authority before) (marked-keeps now sets Authority before) r)
+    said)
     (each_given P owned_nsec (filter (is_secure_as type_nsec) (marked_section now sets Authority told.authorities)) h) in
     each_flat P says (denying sets)
     (each_more (λ s. Denies s × If s) (λ s. AllByRecursion P (says s)) (λ s k. says_each P s.set.records (k.1.1 k.0)) (denying sets)
@@ -192,6 +196,8 @@ some_denial rtype now told sets grouped some =
     let records = marked_section now sets Authority told.authorities in
     let Never = λ (r : Rr). ⊥ in
     true_from_ne_false (list_any (is_secure_as rtype) records) (λ none.
-    let known = of_denying rtype Never Never now told sets grouped (λ before r never. never) (kept_none (is_secure_as rtype) records none) in
-    let one = picked_known (is_denying_as rtype) (λ s. IsKnown told sets s × (is_denying_as rtype s ≡ true → AllByRecursion Never s.set.records)) sets known some in
+    let known = of_denying rtype Never Never now told sets grouped (λ before r never. never)
+    (kept_none (is_secure_as rtype) records none) in
+    let one = picked_known (is_denying_as rtype) (λ s. IsKnown told sets s × (is_denying_as rtype s ≡ true
+    → AllByRecursion Never s.set.records)) sets known some in
     no_record one.it.set.records one.known.0.proper.listed (one.known.1 one.passes))

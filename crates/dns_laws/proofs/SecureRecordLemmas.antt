@@ -29,7 +29,8 @@ pub any_after : (test : Rr → Bool) (f : List Rr → Rr → Rr) → ((b : List 
 unfolding map_after
 any_after test f same before [] = refl
 any_after test f same before (r ∷ rs) =
-    ap (λ b. b || list_any test (map_after f (before ++ r ∷ []) rs)) (same before r) ∙ ap (λ b. test r || b) (any_after test f same (before ++ r ∷ []) rs)
+    ap (λ b. b || list_any test (map_after f (before ++ r ∷ []) rs)) (same before r)
+    ∙ ap (λ b. test r || b) (any_after test f same (before ++ r ∷ []) rs)
 
 all_after : (P : Rr → Type 0) (test : Rr → Bool) (f : List Rr → Rr → Rr) → ((b : List Rr) (r : Rr) → P r → test (f b r) ≡ true)
     → (before rs : List Rr) → AllByRecursion P rs → list_all test (map_after f before rs) ≡ true
@@ -46,13 +47,15 @@ if_same : (q : Question) (b : Bool) (r s t : Rr) → is_queried q s ≡ is_queri
 if_same q true r s t one two = one
 if_same q false r s t one two = two
 
-or_same : (q : Question) (f : MarkedSet → Rr) (o : Option MarkedSet) (r s : Rr) → ((judged : MarkedSet) → is_queried q (f judged) ≡ is_queried q r)
+or_same : (q : Question) (f : MarkedSet → Rr) (o : Option MarkedSet) (r s : Rr)
+    → ((judged : MarkedSet) → is_queried q (f judged) ≡ is_queried q r)
     → is_queried q s ≡ is_queried q r → is_queried q (option_map_or f o s) ≡ is_queried q r
 or_same q f None r s some none = none
 or_same q f (Some judged) r s some none = some judged
 
 -- a mark changes nothing of what was queried
-marked_queried : (q : Question) (now : ℕ) (sets : List MarkedSet) (before : List Rr) (r : Rr) → is_queried q (marked now sets Answer before r) ≡ is_queried q r
+marked_queried : (q : Question) (now : ℕ) (sets : List MarkedSet) (before : List Rr) (r : Rr)
+    → is_queried q (marked now sets Answer before r) ≡ is_queried q r
 unfolding marked
 marked_queried q now sets before r =
     or_same q
@@ -65,7 +68,8 @@ marked_queried q now sets before r =
     (record r { proof = judged.mark; ttl = adjusted_ttl now judged r }) refl refl)
     refl
 
-about_queried : (j : Judge) (q : Question) (told : Told) (set : RrSet) (judged : MarkedSet) (r : Rr) → IsOneSet j q told set → IsSecureSet set judged → IsQueried q r
+about_queried : (j : Judge) (q : Question) (told : Told) (set : RrSet) (judged : MarkedSet) (r : Rr) → IsOneSet j q told set
+    → IsSecureSet set judged → IsQueried q r
     → is_about Answer r judged ≡ true
 about_queried j q told set judged r one secure of =
     let kind : set_rtype r ≡ r.rtype = ap (λ b. if b then covered_rtype (rrsig_in r.rdata) r.rtype else r.rtype) of.plain in
@@ -75,14 +79,17 @@ about_queried j q told set judged r one secure of =
     (ap (λ s. name_eq s.owner r.owner) secure.is ∙ name_trans set.owner q.owner r.owner (name_back q.owner set.owner one.owner) of.owner)
     (ap (λ s. s.rtype == set_rtype r) secure.is ∙ ap (λ k. set.rtype == k) (kind ∙ of.rtype ∙ sym one.rtype) ∙ number_refl set.rtype))
 
-queried_secure : (j : Judge) (q : Question) (told : Told) (set : RrSet) (judged : MarkedSet) (now : ℕ) (before : List Rr) (r : Rr) → IsOneSet j q told set
+queried_secure : (j : Judge) (q : Question) (told : Told) (set : RrSet) (judged : MarkedSet) (now : ℕ) (before : List Rr) (r : Rr)
+    → IsOneSet j q told set
     → IsSecureSet set judged → IsQueried q r → is_secure (marked now (judged ∷ []) Answer before r).proof ≡ true
 unfolding marked
 queried_secure j q told set judged now before r one secure of =
     let other = λ (s : MarkedSet). is_signature r && not (option_map_or (λ n. n == signature_place before r) s.sig false) in
     let by = λ (s : MarkedSet). if other s then cleared r else record r { proof = s.mark; ttl = adjusted_ttl now s r } in
-    let found : find (is_about Answer r) (judged ∷ []) ≡ Some judged = ap (λ b. cond b (Some judged) None) (about_queried j q told set judged r one secure of) in
-    let plain : other judged ≡ false = and_left (is_signature r) (not (option_map_or (λ n. n == signature_place before r) judged.sig false)) of.plain in
+    let found : find (is_about Answer r) (judged ∷ []) ≡ Some judged =
+    ap (λ b. cond b (Some judged) None) (about_queried j q told set judged r one secure of) in
+    let plain : other judged ≡ false =
+    and_left (is_signature r) (not (option_map_or (λ n. n == signature_place before r) judged.sig false)) of.plain in
     ap (λ o. is_secure (option_map_or by o (cleared r)).proof) found
     ∙ ap (λ b. is_secure (if b then cleared r else record r { proof = judged.mark; ttl = adjusted_ttl now judged r }).proof) plain
     ∙ ap is_secure secure.mark
@@ -93,7 +100,8 @@ signature_unqueried q r other plain =
     (and_left (r.rtype == q.rtype) (r.class == q.class)
     (ap (λ t. t == q.rtype) (number_same r.rtype type_rrsig plain.signature) ∙ number_back type_rrsig q.rtype ∙ other))
 
-record_secure : (j : Judge) (q : Question) (told : Told) (set : RrSet) (judged : MarkedSet) (now : ℕ) (before : List Rr) (r : Rr) → is_other q ≡ false
+record_secure : (j : Judge) (q : Question) (told : Told) (set : RrSet) (judged : MarkedSet) (now : ℕ) (before : List Rr) (r : Rr)
+    → is_other q ≡ false
     → IsOneSet j q told set → IsSecureSet set judged → OfReply q r
     → (not (is_queried q (marked now (judged ∷ []) Answer before r)) || is_secure (marked now (judged ∷ []) Answer before r).proof) ≡ true
 record_secure j q told set judged now before r other one secure (inl of) =
@@ -105,7 +113,8 @@ record_secure j q told set judged now before r other one secure (inr plain) =
 
 -- ---- the section
 
-pub secure_records : (j : Judge) (q : Question) (told : Told) (set : RrSet) (judged : MarkedSet) (now : ℕ) → is_other q ≡ false → IsOneSet j q told set
+pub secure_records : (j : Judge) (q : Question) (told : Told) (set : RrSet) (judged : MarkedSet) (now : ℕ) → is_other q ≡ false
+    → IsOneSet j q told set
     → IsSecureSet set judged → shows_secure q (marked_section now (judged ∷ []) Answer told.answers) ≡ true
 secure_records j q told set judged now other one secure =
     let mark = marked now (judged ∷ []) Answer in
@@ -113,4 +122,5 @@ secure_records j q told set judged now other one secure =
     let test = λ (r : Rr). not (is_queried q r) || is_secure r.proof in
     and_from (list_any (is_queried q) answers) (list_all test answers)
     (any_after (is_queried q) mark (marked_queried q now (judged ∷ [])) [] told.answers ∙ one.any)
-    (all_after (OfReply q) test mark (λ before r of. record_secure j q told set judged now before r other one secure of) [] told.answers one.each)
+    (all_after (OfReply q) test mark (λ before r of. record_secure j q told set judged now before r other one secure of) []
+    told.answers one.each)

@@ -66,7 +66,8 @@ answers_kept f k q r = rw (k.owner r, k.rtype r) refl
 same_answer : (now : ℕ) (q : Question) (told : Told) (sets : List MarkedSet)
     → has_answer q (marked_told now sets told) ≡ has_answer q told
 same_answer now q told sets =
-    any_after (answers_query q) (marked now sets Answer) (λ before r. answers_kept (marked now sets Answer before) (marked-keeps now sets Answer before) q r)
+    any_after (answers_query q) (marked now sets Answer)
+    (λ before r. answers_kept (marked now sets Answer before) (marked-keeps now sets Answer before) q r)
     [] told.answers
 
 -- ---- the set that a Secure signature decided
@@ -112,7 +113,8 @@ made_step rtype now told sets apex before rest r grouped made split signs =
     let d = decided now told sets Authority before rest r grouped split one.0 two.0 in
     let same : (d.set.set.rtype == rtype) ≡ true = ap (λ t. t == rtype) (d.about.rtype ∙ sym (rtype_kept f k r)) ∙ two.1 in
     let denies : is_denying_as rtype d.set ≡ true =
-    and_from (section_eq Authority d.set.section) (is_secure d.set.mark && (d.set.set.rtype == rtype)) (ap (section_eq Authority) d.about.section_is)
+    and_from (section_eq Authority d.set.section) (is_secure d.set.mark && (d.set.set.rtype == rtype))
+    (ap (section_eq Authority) d.about.section_is)
     (and_from (is_secure d.set.mark) (d.set.set.rtype == rtype) d.secure same) in
     let known = find_known (is_about Authority r) (λ s. is_denying_as rtype s ≡ true → is_made_by apex s ≡ true) sets d.set made d.found in
     ap (λ o. option_map_or (λ sig. name_eq apex sig.signer) o false) (read_kept f k r)
@@ -124,7 +126,8 @@ made_by_zone : (rtype now : ℕ) (told : Told) (sets : List MarkedSet) (apex : L
     → list_all (λ r. not (signs_as rtype r) || has_signer apex r) (marked_section now sets Authority told.authorities) ≡ true
 made_by_zone rtype now told sets apex grouped made =
     let test = λ (r : Rr). not (signs_as rtype r) || has_signer apex r in
-    let each = each_kept (λ s. is_made_by apex s ≡ true) (is_denying_as rtype) sets (each_all (is_made_by apex) (λ s. is_made_by apex s ≡ true) (λ s is. is) (denying_as rtype sets) made) in
+    let each = each_kept (λ s. is_made_by apex s ≡ true) (is_denying_as rtype) sets
+    (each_all (is_made_by apex) (λ s. is_made_by apex s ≡ true) (λ s is. is) (denying_as rtype sets) made) in
     all_from test (marked_section now sets Authority told.authorities)
     (each_after (λ r. test r ≡ true) (marked now sets Authority) told.authorities [] told.authorities refl
     (λ before rest r split.
@@ -159,14 +162,17 @@ expanded_by now q told sets before rest r grouped split h =
     let owner : name_eq q.owner r.owner ≡ true = ap (name_eq q.owner) (sym (k.owner r)) ∙ three.0 in
     let same : ((d.set.set.rtype == q.rtype) || (d.set.set.rtype == type_cname)) ≡ true =
     ap (λ t. (t == q.rtype) || (t == type_cname)) (d.about.rtype ∙ sym (rtype_kept f k r)) ∙ four.0 in
-    let by : option_map_or is_wildcard_signature (decider d.set) false ≡ true = ap (λ o. option_map_or is_wildcard_signature o false) d.decides ∙ is_wild in
+    let by : option_map_or is_wildcard_signature (decider d.set) false ≡ true =
+    ap (λ o. option_map_or is_wildcard_signature o false) d.decides ∙ is_wild in
     let answer : is_expanded_answer d.set ≡ true =
     and_from (section_eq Answer d.set.section) (is_secure d.set.mark && option_map_or is_wildcard_signature (decider d.set) false)
-    (ap (section_eq Answer) d.about.section_is) (and_from (is_secure d.set.mark) (option_map_or is_wildcard_signature (decider d.set) false) d.secure by) in
+    (ap (section_eq Answer) d.about.section_is)
+    (and_from (is_secure d.set.mark) (option_map_or is_wildcard_signature (decider d.set) false) d.secure by) in
     record {
       set = d.set;
       found = d.found;
-      expanded = and_from (is_expanded_answer d.set) (name_eq q.owner d.set.set.owner && ((d.set.set.rtype == q.rtype) || (d.set.set.rtype == type_cname)))
+      expanded = and_from (is_expanded_answer d.set) (name_eq q.owner d.set.set.owner
+          && ((d.set.set.rtype == q.rtype) || (d.set.set.rtype == type_cname)))
           answer (and_from (name_eq q.owner d.set.set.owner) ((d.set.set.rtype == q.rtype) || (d.set.set.rtype == type_cname))
           (name_trans q.owner r.owner d.set.set.owner owner (name_back d.set.set.owner r.owner d.about.owner)) same);
       decides = d.decides;
@@ -250,7 +256,8 @@ fewest_step now q told sets labels before rest r grouped each split h =
     let e = expanded_by now q told sets before rest r grouped split h in
     let Has = λ (s : MarkedSet). is_expanded_for q s ≡ true → IfSome (decider_labels s) (λ m. nat_le labels m ≡ true) in
     let known = find_known (is_about Answer r) Has sets e.set each e.found in
-    let from = subst (λ o. IfSome (option_map (λ sig. sig.labels) (option_and_then rrsig_of o)) (λ m. nat_le labels m ≡ true)) e.decides (known.known e.expanded) in
+    let from = subst (λ o. IfSome (option_map (λ sig. sig.labels) (option_and_then rrsig_of o)) (λ m. nat_le labels m ≡ true))
+    e.decides (known.known e.expanded) in
     ap (λ o. option_map_or (λ sig. nat_le labels sig.labels) o false) (read_kept f k r) ∙ labels_step labels _ (rrsig_of r) e.wild from
 
 fewest_labels : (now : ℕ) (q : Question) (told : Told) (sets : List MarkedSet) (labels : ℕ)

@@ -57,12 +57,15 @@ keys_ask j set next keys r h =
     let read = passing test (rrsig_of r) h in
     let sig = read.value in
     let one = and_parts (signer_fits set.rtype sig.signer set.owner)
-    (question_eq (key_question set.class sig.signer) next && list_any (is_good_by j set r) (counted_keys sig.signer keys.records)) read.passes in
-    let two = and_parts (question_eq (key_question set.class sig.signer) next) (list_any (is_good_by j set r) (counted_keys sig.signer keys.records)) one.1 in
+    (question_eq (key_question set.class sig.signer) next && list_any (is_good_by j set r) (counted_keys sig.signer keys.records))
+    read.passes in
+    let two = and_parts (question_eq (key_question set.class sig.signer) next)
+    (list_any (is_good_by j set r) (counted_keys sig.signer keys.records)) one.1 in
     record { sig = sig; read = read.found; fits = one.0; next_is = two.0; good = two.1 }
 
 -- no ask of a set that isn't DNSKEY is for its own query
-not_itself : (class : ℕ) (signer : Labels) (asked : Question) → (type_dnskey == asked.rtype) ≡ false → question_eq (key_question class signer) asked ≡ false
+not_itself : (class : ℕ) (signer : Labels) (asked : Question) → (type_dnskey == asked.rtype) ≡ false
+    → question_eq (key_question class signer) asked ≡ false
 not_itself class signer asked other =
     and_right (name_eq signer asked.owner) ((type_dnskey == asked.rtype) && (class == asked.class))
     (and_left (type_dnskey == asked.rtype) (class == asked.class) other)
@@ -71,7 +74,8 @@ not_skipped : (j : Judge) (set : RrSet) (next asked : Question) (keys : RrSet) (
     → (type_dnskey == asked.rtype) ≡ false → is_skipped asked set r ≡ false
 not_skipped j set next asked keys r ask other =
     let signer = ask.sig.signer in
-    ap (λ o. option_map_or (λ sig. not (signer_fits set.rtype sig.signer set.owner) || question_eq (key_question set.class sig.signer) asked) o true) ask.read
+    ap (λ o. option_map_or (λ sig. not (signer_fits set.rtype sig.signer set.owner)
+    || question_eq (key_question set.class sig.signer) asked) o true) ask.read
     ∙ or_from (not (signer_fits set.rtype signer set.owner)) (question_eq (key_question set.class signer) asked)
     (not_from_true (signer_fits set.rtype signer set.owner) ask.fits) (not_itself set.class signer asked other)
 
@@ -107,11 +111,13 @@ first_ask : (g : StepContext) (set : RrSet) (r : Rr) (q : Question) (asks : List
     → is_skipped g.query set r ≡ false → verdicts_by g set (r ∷ []) asks ≡ Some vs → IsFirstAsk g set r q asks vs
 unfolding verdicts_by
 first_ask g set r q [] vs is kept h =
-    cc (ap (λ b. if b then option_map (λ ws. marks.Failed ∷ ws) (verdicts_by g set [] []) else verdicts_asked g set r [] (verdicts_by g set [])) (sym kept) ∙ h)
+    cc (ap (λ b. if b then option_map (λ ws. marks.Failed ∷ ws) (verdicts_by g set [] [])
+    else verdicts_asked g set r [] (verdicts_by g set [])) (sym kept) ∙ h)
 first_ask g set r q (ask ∷ asks) vs is kept h =
     let v = verdict_of g.judge set r (finished_answer g.earlier ask) in
     let asked : verdicts_asked g set r (ask ∷ asks) (verdicts_by g set []) ≡ Some vs =
-    ap (λ b. if b then option_map (λ ws. marks.Failed ∷ ws) (verdicts_by g set [] (ask ∷ asks)) else verdicts_asked g set r (ask ∷ asks) (verdicts_by g set [])) (sym kept) ∙ h in
+    ap (λ b. if b then option_map (λ ws. marks.Failed ∷ ws) (verdicts_by g set [] (ask ∷ asks))
+    else verdicts_asked g set r (ask ∷ asks) (verdicts_by g set [])) (sym kept) ∙ h in
     let parts = if_some (is_ask_for g (Some q) ask) (verdicts_after v asks (verdicts_by g set [])) vs
     (ap (λ o. if is_ask_for g o ask then verdicts_after v asks (verdicts_by g set []) else None) (sym is) ∙ asked) in
     let last = last_ask (is_proved v) v asks vs parts.1 in
@@ -129,11 +135,13 @@ one_ask g q next set keys entry signed ask other asked h =
     let searched : needs_zone set ≡ false = ap (λ rs. is_empty rs && not (set.rtype == type_ds)) signed.alone in
     let by : is_by_verdicts placed entry verdicts ≡ true =
     ap (λ b. if b then unsigned_holds g placed entry else is_by_verdicts placed entry verdicts) (sym searched)
-    ∙ ap (λ b. if b then keys_hold g placed entry else if needs_zone set then unsigned_holds g placed entry else is_by_verdicts placed entry verdicts) (sym other)
+    ∙ ap (λ b. if b then keys_hold g placed entry else if needs_zone set then unsigned_holds g placed entry
+    else is_by_verdicts placed entry verdicts) (sym other)
     ∙ h in
     let some = passing (λ vs. has_mark_of (judged_by placed vs) entry) verdicts by in
     let first = first_ask g set r question entry.asked some.value (ap (option_map (λ sig. key_question set.class sig.signer)) ask.read)
-    (not_skipped g.judge set next g.query keys r ask asked) (ap (λ rs. verdicts_by g set (take most_signatures rs) entry.asked) (sym signed.alone) ∙ some.found) in
+    (not_skipped g.judge set next g.query keys r ask asked)
+    (ap (λ rs. verdicts_by g set (take most_signatures rs) entry.asked) (sym signed.alone) ∙ some.found) in
     record {
       ask = first.ask;
       alone = first.alone;
@@ -149,7 +157,8 @@ is_key_set : (j : Judge) (set : RrSet) (next : Question) (keys : RrSet) (r : Rr)
 is_key_set j set next keys r judged ask owner rtype class secure =
     let signer = ask.sig.signer in
     let same = same_parts (key_question set.class signer) next ask.next_is in
-    and_from (section_eq Answer judged.section) (name_eq signer judged.set.owner && ((judged.set.rtype == type_dnskey) && (set.class == judged.set.class)))
+    and_from (section_eq Answer judged.section) (name_eq signer judged.set.owner
+    && ((judged.set.rtype == type_dnskey) && (set.class == judged.set.class)))
     (ap (section_eq Answer) secure.section)
     (and_from (name_eq signer judged.set.owner) ((judged.set.rtype == type_dnskey) && (set.class == judged.set.class))
     (ap (λ s. name_eq signer s.owner) secure.is ∙ name_trans signer next.owner keys.owner same.owner owner)
@@ -180,17 +189,20 @@ proved_verdict j set next keys r judged ask owner rtype class plain secure =
     option_map_or
     (λ (s : RrsigValue).
     if never_expanded set.rtype s.labels set.owner && right_below_signer set.rtype s.signer set.owner
-    then option_map_or (λ keys. by_keys j set r keys.mark (counted_keys s.signer keys.set.records)) (find (is_key_set_of set.class s.signer) (judged ∷ [])) marks.Failed
+    then option_map_or (λ keys. by_keys j set r keys.mark (counted_keys s.signer keys.set.records))
+    (find (is_key_set_of set.class s.signer) (judged ∷ [])) marks.Failed
     else marks.Failed)
     o marks.Failed) ask.read
-    ∙ ap (λ b. if b then option_map_or by (find test (judged ∷ [])) marks.Failed else marks.Failed) (never_fails set.rtype sig.labels sig.signer set.owner plain)
+    ∙ ap (λ b. if b then option_map_or by (find test (judged ∷ [])) marks.Failed
+    else marks.Failed) (never_fails set.rtype sig.labels sig.signer set.owner plain)
     ∙ ap (λ o. option_map_or by o marks.Failed) (found_alone test judged (is_key_set j set next keys r judged ask owner rtype class secure))
     ∙ ap (λ m. by_keys j set r m (counted_keys sig.signer judged.set.records)) secure.mark
     ∙ ap (λ s. by_keys j set r Secure (counted_keys sig.signer s.records)) secure.is
     ∙ ap (λ o. option_map_or (λ key. Proved) o marks.Failed) found.found
 
 -- the entry whose ask found these keys is Secure
-pub signed_mark : (g : StepContext) (next : Question) (set keys : RrSet) (r : Rr) (question : Question) (entry : JudgedSetValue) (judged : MarkedSet)
+pub signed_mark : (g : StepContext) (next : Question) (set keys : RrSet) (r : Rr) (question : Question) (entry : JudgedSetValue)
+    (judged : MarkedSet)
     → (by : IsByOneAsk g (in_section Answer set) r question entry) → IsKeysAsk g.judge set next keys r
     → name_eq next.owner keys.owner ≡ true → keys.rtype ≡ next.rtype → keys.class ≡ next.class → needs_no_denial set.rtype ≡ true
     → finished_answer g.earlier by.ask ≡ Some (judged ∷ []) → IsSecureSet keys judged → entry.mark ≡ Secure

@@ -45,7 +45,8 @@ signer_same apex (Some sig) = refl
 
 pub signed_by : (apex : Labels) (s : MarkedSet) (r : Rr) → decider s ≡ Some r → is_made_by apex s ≡ has_signer apex r
 signed_by apex s r decides =
-    ap (λ o. option_map_or (name_eq apex) (option_map (λ sig. sig.signer) (option_and_then rrsig_of o)) false) decides ∙ signer_same apex (rrsig_of r)
+    ap (λ o. option_map_or (name_eq apex) (option_map (λ sig. sig.signer) (option_and_then rrsig_of o)) false) decides
+    ∙ signer_same apex (rrsig_of r)
 
 -- the signature that decided a set that a zone made
 record IsSigned (apex : Labels) (s : MarkedSet) : Type 0 where
@@ -82,8 +83,10 @@ pub signed_by_zone : (rtype now : ℕ) (told : Told) (sets : List MarkedSet) (ap
 signed_by_zone rtype now told sets apex grouped some made =
     let Known = IsKnown told sets in
     let Made = λ (s : MarkedSet). is_denying_as rtype s ≡ true → is_made_by apex s ≡ true in
-    let each = each_kept (λ s. is_made_by apex s ≡ true) (is_denying_as rtype) sets (each_all (is_made_by apex) (λ s. is_made_by apex s ≡ true) (λ s is. is) (denying_as rtype sets) made) in
-    let one = picked_known (is_denying_as rtype) (λ s. Known s × Made s) sets (each_both Known Made sets (each_known told sets grouped) each) some in
+    let each = each_kept (λ s. is_made_by apex s ≡ true) (is_denying_as rtype) sets
+    (each_all (is_made_by apex) (λ s. is_made_by apex s ≡ true) (λ s is. is) (denying_as rtype sets) made) in
+    let one = picked_known (is_denying_as rtype) (λ s. Known s × Made s) sets
+    (each_both Known Made sets (each_known told sets grouped) each) some in
     signed_set rtype now told sets apex one.it one.known.0 one.passes (one.known.1 one.passes)
 
 -- ---- the labels of an expansion

@@ -90,10 +90,12 @@ same_queried q a b one two =
 
 -- the set of a queried record has the signatures that stand beside it
 covers_of : (q : Question) (r s : Rr) → IsQueried q r → OfReply q s → covers r s ≡ is_signature s
-covers_of q r s queried (inl of) = ap (λ b. b && (name_eq r.owner s.owner && covers_rtype r.rtype (rrsig_in s.rdata))) of.plain ∙ sym of.plain
+covers_of q r s queried (inl of) = ap (λ b. b && (name_eq r.owner s.owner && covers_rtype r.rtype (rrsig_in s.rdata))) of.plain
+    ∙ sym of.plain
 covers_of q r s queried (inr of) =
     let owner = name_trans r.owner q.owner s.owner (name_back q.owner r.owner queried.owner) of.owner in
-    let covered : (of.sig.covered == r.rtype) ≡ true = ap (λ t. of.sig.covered == t) (queried.rtype ∙ sym of.covered) ∙ number_refl of.sig.covered in
+    let covered : (of.sig.covered == r.rtype) ≡ true = ap (λ t. of.sig.covered == t) (queried.rtype ∙ sym of.covered)
+    ∙ number_refl of.sig.covered in
     let kind : covers_rtype r.rtype (rrsig_in s.rdata) ≡ true = ap (covers_rtype r.rtype) (rrsig_read s of.sig of.read) ∙ covered in
     and_from (is_signature s) (name_eq r.owner s.owner && covers_rtype r.rtype (rrsig_in s.rdata)) of.signature
     (and_from (name_eq r.owner s.owner) (covers_rtype r.rtype (rrsig_in s.rdata)) owner kind)
@@ -109,7 +111,8 @@ each_plain q records each = unsigned_each q records each
     kept q true r rs here later = (here refl, later)
     kept q false r rs here later = later
 
-    unsigned_each : (q : Question) (records : List Rr) → AllByRecursion (OfReply q) records → AllByRecursion (IsQueried q) (unsigned_part records)
+    unsigned_each : (q : Question) (records : List Rr) → AllByRecursion (OfReply q) records
+        → AllByRecursion (IsQueried q) (unsigned_part records)
     unsigned_each q [] each = tt
     unsigned_each q (r ∷ rs) each =
         kept q (not (is_signature r)) r (unsigned_part rs) (λ plain. queried_of q r each.0 plain) (unsigned_each q rs each.1)
@@ -146,7 +149,8 @@ straight_parts j q told other h =
     let each = list_all (λ r. is_queried q r || is_plain_signature q r) told.answers in
     let distinct = are_distinct (rdatas_of (filter (is_queried q) told.answers)) in
     let once = is_signed_once j told.answers in
-    let one = and_parts (told.code == 0) (is_empty told.authorities && (is_empty told.additionals && (any && (each && (distinct && once))))) h in
+    let one = and_parts (told.code == 0) (is_empty told.authorities
+    && (is_empty told.additionals && (any && (each && (distinct && once))))) h in
     let two = and_parts (is_empty told.authorities) (is_empty told.additionals && (any && (each && (distinct && once)))) one.1 in
     let three = and_parts (is_empty told.additionals) (any && (each && (distinct && once))) two.1 in
     let four = and_parts any (each && (distinct && once)) three.1 in
@@ -159,12 +163,14 @@ straight_parts j q told other h =
     record {
       set = set_of told.answers begins.first;
       is = record {
-        sets = ap (λ rs. map (set_of told.answers) (leaders rs)) begins.is ∙ ap (map (set_of told.answers)) (one_leader q begins.first begins.rest queried);
+        sets = ap (λ rs. map (set_of told.answers) (leaders rs)) begins.is
+            ∙ ap (map (set_of told.answers)) (one_leader q begins.first begins.rest queried);
         owner = queried.0.owner;
         rtype = queried.0.rtype;
         class = queried.0.class;
         signatures = kept_alike (covers begins.first) is_signature told.answers
-            (each_more (OfReply q) (λ s. covers begins.first s ≡ is_signature s) (λ s of. covers_of q begins.first s queried.0 of) told.answers all);
+            (each_more (OfReply q) (λ s. covers begins.first s ≡ is_signature s) (λ s of. covers_of q begins.first s queried.0 of)
+            told.answers all);
         authorities = empty_is told.authorities two.0;
         additionals = empty_is told.additionals three.0;
         each = all;
@@ -179,8 +185,10 @@ pub record IsAnswered (j : Judge) (tells : Question → Option Told) (q : Questi
   pub heard : tells q ≡ Some told
   pub is : IsOneSet j q told set
 
-answered_by : (j : Judge) (tells : Question → Option Told) (q : Question) (set : RrSet) (o : Option Told) (other : is_other q ≡ false) → tells q ≡ o
-    → option_and_then (λ told. if is_straight j q told then slice_get (sets_of told.answers) 0 else None) o ≡ Some set → IsAnswered j tells q set
+answered_by : (j : Judge) (tells : Question → Option Told) (q : Question) (set : RrSet) (o : Option Told) (other : is_other q ≡ false)
+    → tells q ≡ o
+    → option_and_then (λ told. if is_straight j q told then slice_get (sets_of told.answers) 0 else None) o ≡ Some set
+    → IsAnswered j tells q set
 answered_by j tells q set None other is h = cc
 answered_by j tells q set (Some told) other is h =
     let parts = if_some (is_straight j q told) (slice_get (sets_of told.answers) 0) set h in
@@ -188,7 +196,8 @@ answered_by j tells q set (Some told) other is h =
     let same = only_first (sets_of told.answers) one.set set one.is.sets parts.1 in
     record { told = told; heard = is; is = subst (IsOneSet j q told) same one.is }
 
-pub answered : (j : Judge) (tells : Question → Option Told) (q : Question) (set : RrSet) → is_other q ≡ false → straight_set j tells q ≡ Some set
+pub answered : (j : Judge) (tells : Question → Option Told) (q : Question) (set : RrSet) → is_other q ≡ false
+    → straight_set j tells q ≡ Some set
     → IsAnswered j tells q set
 answered j tells q set other h = answered_by j tells q set (tells q) other refl h
 
@@ -204,7 +213,8 @@ signature_of : (q : Question) (r : Rr) → OfReply q r → is_signature r ≡ tr
 signature_of q r (inl of) is = cc (is, of.plain)
 signature_of q r (inr of) is = of
 
-pub each_signature : (q : Question) (records : List Rr) → AllByRecursion (OfReply q) records → AllByRecursion (IsPlain q) (filter is_signature records)
+pub each_signature : (q : Question) (records : List Rr) → AllByRecursion (OfReply q) records
+    → AllByRecursion (IsPlain q) (filter is_signature records)
 each_signature q [] each = tt
 each_signature q (r ∷ rs) each = kept (is_signature r) (signature_of q r each.0) (each_signature q rs each.1)
   where
@@ -233,6 +243,7 @@ signed_or_anchored j q told set one =
     let parts = and_parts (is_empty signatures) (list_all (is_wholly_anchored j) (sets_of told.answers)) without in
     inr (record {
       none = one.signatures ∙ empty_is signatures parts.0;
-      anchored = (and_parts (is_wholly_anchored j set) true (subst (λ sets. list_all (is_wholly_anchored j) sets ≡ true) one.sets parts.1)).0;
+      anchored = (and_parts (is_wholly_anchored j set) true
+          (subst (λ sets. list_all (is_wholly_anchored j) sets ≡ true) one.sets parts.1)).0;
     }))
     (or_cases (length signatures == 1) (is_empty signatures && list_all (is_wholly_anchored j) (sets_of told.answers)) one.signed)

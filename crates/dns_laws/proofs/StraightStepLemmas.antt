@@ -40,8 +40,10 @@ one_placed : (j : Judge) (q : Question) (told : Told) (set : RrSet) → IsOneSet
     → placed_sets told ≡ in_section Answer set ∷ []
 unfolding sets_of leaders
 one_placed j q told set one =
-    ap (λ sets. map (in_section Answer) sets ++ map (in_section Authority) (sets_of told.authorities) ++ map (in_section Additional) (sets_of told.additionals)) one.sets
-    ∙ ap (λ rs. (in_section Answer set ∷ []) ++ map (in_section Authority) (sets_of rs) ++ map (in_section Additional) (sets_of told.additionals)) one.authorities
+    ap (λ sets. map (in_section Answer) sets ++ map (in_section Authority) (sets_of told.authorities)
+    ++ map (in_section Additional) (sets_of told.additionals)) one.sets
+    ∙ ap (λ rs. (in_section Answer set ∷ []) ++ map (in_section Authority) (sets_of rs)
+    ++ map (in_section Additional) (sets_of told.additionals)) one.authorities
     ∙ ap (λ rs. (in_section Answer set ∷ []) ++ map (in_section Additional) (sets_of rs)) one.additionals
 
 pub one_judged : (j : Judge) (q : Question) (told : Told) (set : RrSet) (depth : ℕ) → IsOneSet j q told set
@@ -67,12 +69,14 @@ pub none_foreign : (j : Judge) (q asked : Question) (told : Told) (set : RrSet) 
 none_foreign j q asked told set one same =
     let test = λ (r : Rr). not (r.class == asked.class) in
     let P = λ (r : Rr). test r ≡ false in
-    let native = λ (r : Rr) (of : OfReply q r). ap (λ c. not (c == asked.class)) (class_of q r of ∙ class_same q asked same) ∙ ap not (number_refl asked.class) in
+    let native = λ (r : Rr) (of : OfReply q r). ap (λ c. not (c == asked.class)) (class_of q r of ∙ class_same q asked same)
+    ∙ ap not (number_refl asked.class) in
     let answers : AllByRecursion P told.answers = each_more (OfReply q) P native told.answers one.each in
     let authorities : AllByRecursion P told.authorities = subst (AllByRecursion P) (sym one.authorities) tt in
     let additionals : AllByRecursion P told.additionals = subst (AllByRecursion P) (sym one.additionals) tt in
     none_found test (told.answers ++ told.authorities ++ told.additionals)
-    (each_append P (told.answers ++ told.authorities) told.additionals (each_append P told.answers told.authorities answers authorities) additionals)
+    (each_append P (told.answers ++ told.authorities) told.additionals
+    (each_append P told.answers told.authorities answers authorities) additionals)
 
 -- ---- what it comes to
 
@@ -103,7 +107,8 @@ plain_is_no_wildcard q r plain =
     ∙ ap (λ n. nat_lt n (num_labels r.owner)) plain.labels ∙ not_less (num_labels r.owner)
 
 queried_is_no_wildcard : (q : Question) (r : Rr) → IsQueried q r → is_wildcard_signature r ≡ false
-queried_is_no_wildcard q r of = ap (λ b. option_map_or (λ sig. nat_lt sig.labels (num_labels r.owner)) (if b then rrsig_in r.rdata else None) false) of.plain
+queried_is_no_wildcard q r of =
+    ap (λ b. option_map_or (λ sig. nat_lt sig.labels (num_labels r.owner)) (if b then rrsig_in r.rdata else None) false) of.plain
 
 no_wildcard : (q : Question) (r : Rr) → OfReply q r → is_wildcard_signature r ≡ false
 no_wildcard q r of = ⊎_elim (queried_is_no_wildcard q r) (plain_is_no_wildcard q r) of
@@ -134,7 +139,8 @@ plain_set : (q : Question) (set : RrSet) (judged : MarkedSet) → AllByRecursion
     → judged.section ≡ Answer → judged.set ≡ set
     → needs_no_denial set.rtype ≡ true → IsPlainSet judged
 plain_set q set judged each section same plain =
-    let types = or_parts (set.rtype == type_nsec) (set.rtype == type_nsec3) (not-true ((set.rtype == type_nsec) || (set.rtype == type_nsec3)) plain) in
+    let types = or_parts (set.rtype == type_nsec) (set.rtype == type_nsec3)
+    (not-true ((set.rtype == type_nsec) || (set.rtype == type_nsec3)) plain) in
     let plainly = each_more (IsPlain q) (λ r. is_wildcard_signature r ≡ false) (plain_is_no_wildcard q) set.signatures each in
     record {
       section = section;
@@ -171,15 +177,18 @@ is_accepted : (j : Judge) (limits : Limits) (q asked : Question) (told : Told) (
 unfolding outcome_of
 is_accepted j limits q asked told set judged one same section is plain =
     let sets : List MarkedSet = judged ∷ [] in
-    let each : AllByRecursion (IsPlain q) set.signatures = subst (AllByRecursion (IsPlain q)) (sym one.signatures) (each_signature q told.answers one.each) in
+    let each : AllByRecursion (IsPlain q) set.signatures =
+    subst (AllByRecursion (IsPlain q)) (sym one.signatures) (each_signature q told.answers one.each) in
     let i = plain_set q set judged each section is plain in
     decided (is_insecure_authority asked told sets) (has_wildcard_signature told) (list_any is_denying sets) (list_any is_hash_denying sets)
     (list_any is_expanded_answer sets) (has_answer asked told) (insecure_answer asked told)
     (outcome_by_hashed_denials limits asked told.code (answered asked told sets) (hashed_denials sets) (one_signer (hash_denying sets)))
     (outcome_by_denials asked told.code (answered asked told sets) (denials sets) (one_signer (denying sets)))
     (subst (λ rs. is_insecure_authority asked (record told { authorities = rs }) sets ≡ false) (sym one.authorities) refl)
-    (none_any is_wildcard_signature told.answers (each_more (OfReply q) (λ r. is_wildcard_signature r ≡ false) (no_wildcard q) told.answers one.each))
-    (none_any is_denying sets (denies_nothing type_nsec judged i, tt)) (none_any is_hash_denying sets (denies_nothing type_nsec3 judged i, tt))
+    (none_any is_wildcard_signature told.answers
+    (each_more (OfReply q) (λ r. is_wildcard_signature r ≡ false) (no_wildcard q) told.answers one.each))
+    (none_any is_denying sets (denies_nothing type_nsec judged i, tt))
+    (none_any is_hash_denying sets (denies_nothing type_nsec3 judged i, tt))
     (none_any is_expanded_answer sets (not_expanded judged i, tt))
     (any_more (is_queried q) (answers_query asked) told.answers (λ r h. queried_answers q asked r same h) one.any)
 
@@ -251,15 +260,19 @@ pub straight_step : (j : Judge) (limits : Limits) (cached : List EntryValue) (ea
 straight_step j limits cached earlier step q told set h judged heard same one kept plain =
     let g = step_context_of j limits cached earlier step in
     let placed = judged_part step.depth told in
-    let parts = and_parts (entries_hold g placed step.sets) (ending_holds g step told (outcome_of limits step.query told (with_entries placed step.sets)))
-    (ap (judged_holds g step told) (sym (none_foreign j q step.query told set one same)) ∙ judged_step j limits cached earlier step told h judged heard) in
+    let parts = and_parts (entries_hold g placed step.sets)
+    (ending_holds g step told (outcome_of limits step.query told (with_entries placed step.sets)))
+    (ap (judged_holds g step told) (sym (none_foreign j q step.query told set one same))
+    ∙ judged_step j limits cached earlier step told h judged heard) in
     let alone = one_judged j q told set step.depth one kept in
     let entry = one_entry g (in_section Answer set) step.sets (ap (λ ps. entries_hold g ps step.sets) (sym alone) ∙ parts.0) in
     let sets : with_entries placed step.sets ≡ with_entry (in_section Answer set, entry.entry) ∷ [] =
     ap (λ ps. with_entries ps step.sets) alone ∙ ap (with_entries (in_section Answer set ∷ [])) entry.is in
     let outcome_is : outcome_of limits step.query told (with_entries placed step.sets) ≡ outcome.Given denial.None =
-    ap (outcome_of limits step.query told) sets ∙ is_accepted j limits q step.query told set (with_entry (in_section Answer set, entry.entry)) one same refl refl plain in
-    let ends = and_parts (ending_eq (Answered denial.None) step.ending) (is_empty step.excuse) (ap (ending_holds g step told) (sym outcome_is) ∙ parts.1) in
+    ap (outcome_of limits step.query told) sets
+    ∙ is_accepted j limits q step.query told set (with_entry (in_section Answer set, entry.entry)) one same refl refl plain in
+    let ends = and_parts (ending_eq (Answered denial.None) step.ending) (is_empty step.excuse)
+    (ap (ending_holds g step told) (sym outcome_is) ∙ parts.1) in
     record {
       entry = entry.entry;
       sets = entry.is;

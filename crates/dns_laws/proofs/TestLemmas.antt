@@ -40,12 +40,14 @@ pub record Begins {X : Type 0} (xs : List X) : Type 0 where
   pub rest : List X
   pub is : xs ≡ first ∷ rest
 
-kept_begins : {X : Type 0} (p : X → Bool) (b : Bool) (x : X) (xs : List X) → (b ≡ false → Begins (filter p xs)) → Begins (cond b (x ∷ filter p xs) (filter p xs))
+kept_begins : {X : Type 0} (p : X → Bool) (b : Bool) (x : X) (xs : List X) → (b ≡ false → Begins (filter p xs))
+    → Begins (cond b (x ∷ filter p xs) (filter p xs))
 kept_begins p true x xs later = record { first = x; rest = filter p xs; is = refl }
 kept_begins p false x xs later = later refl
 
 -- where an element passes the first test, and those that pass it pass the second, the second keeps one
-pub some_kept : {X : Type 0} (p q : X → Bool) (xs : List X) → ((x : X) → q x ≡ true → p x ≡ true) → list_any q xs ≡ true → Begins (filter p xs)
+pub some_kept : {X : Type 0} (p q : X → Bool) (xs : List X) → ((x : X) → q x ≡ true → p x ≡ true) → list_any q xs ≡ true
+    → Begins (filter p xs)
 some_kept p q [] passes h = cc
 some_kept p q (x ∷ xs) passes h =
     kept_begins p (p x) x xs

@@ -37,7 +37,8 @@ each_told told =
     let B = λ (p : PlacedSet). BeginsIn (section_of told p.section) p.set in
     let S = λ (p : PlacedSet). IsSignedIn (section_of told p.section) p.set in
     each_more (λ p. P p × (B p × S p)) (IsTold told) (λ p h. record { proper = h.0; begins = h.1.0; signed = h.1.1 }) (placed_sets told)
-    (each_both P (λ p. B p × S p) (placed_sets told) (proper_placed told) (each_both B S (placed_sets told) (begins_placed told) (signed_placed told)))
+    (each_both P (λ p. B p × S p) (placed_sets told) (proper_placed told)
+    (each_both B S (placed_sets told) (begins_placed told) (signed_placed told)))
 
 each_judged : (P : PlacedSet → Type 0) (ps : List PlacedSet) (es : List JudgedSetValue) → AllByRecursion P ps
     → AllByRecursion (λ s. P (placed_of s)) (with_entries ps es)
@@ -87,7 +88,8 @@ of_set_answers : (q : Question) (set : RrSet) (r : Rr) → name_eq q.owner set.o
     → ((set.rtype == q.rtype) || (set.rtype == type_cname)) ≡ true → is_of set r ≡ true → answers_query q r ≡ true
 of_set_answers q set r owner rtype of =
     let parts = and_parts (name_eq set.owner r.owner) (set.rtype == r.rtype) of in
-    and_from (name_eq q.owner r.owner) ((r.rtype == q.rtype) || (r.rtype == type_cname)) (name_trans q.owner set.owner r.owner owner parts.0)
+    and_from (name_eq q.owner r.owner) ((r.rtype == q.rtype) || (r.rtype == type_cname))
+    (name_trans q.owner set.owner r.owner owner parts.0)
     (ap (λ k. (k == q.rtype) || (k == type_cname)) (sym (number_same set.rtype r.rtype parts.1)) ∙ rtype)
 
 set_answers : (q : Question) (section : List Rr) (set : RrSet) → IsProper set → BeginsIn section set → name_eq q.owner set.owner ≡ true
@@ -112,11 +114,13 @@ any_kept test may [] h = h
 any_kept test may (r ∷ rs) h =
     kept_step (may r) (test r) (list_any test (filter may rs)) (list_any test rs) (by (may r) (filter may rs) h) (any_kept test may rs)
   where
-    by : (b : Bool) (kept : List Rr) → list_any test (cond b (r ∷ kept) kept) ≡ true → cond b (test r || list_any test kept) (list_any test kept) ≡ true
+    by : (b : Bool) (kept : List Rr) → list_any test (cond b (r ∷ kept) kept) ≡ true
+        → cond b (test r || list_any test kept) (list_any test kept) ≡ true
     by true kept k = k
     by false kept k = k
 
-any_placed : (test : Rr → Bool) (rs : List Rr) (o : Option ℕ) (r : Rr) → option_and_then (slice_get rs) o ≡ Some r → test r ≡ true → list_any test rs ≡ true
+any_placed : (test : Rr → Bool) (rs : List Rr) (o : Option ℕ) (r : Rr) → option_and_then (slice_get rs) o ≡ Some r
+    → test r ≡ true → list_any test rs ≡ true
 any_placed test rs None r is h = cc
 any_placed test rs (Some n) r is h = any_at test rs n r is h
 
@@ -133,11 +137,13 @@ pub record IsAnswered (q : Question) (told : Told) : Type 0 where
   pub answer : has_answer q told ≡ true
   pub wild : has_wildcard_signature told ≡ true
 
-pub expanded_answers : (q : Question) (told : Told) (s : MarkedSet) → IsTold told (placed_of s) → is_expanded_for q s ≡ true → IsAnswered q told
+pub expanded_answers : (q : Question) (told : Told) (s : MarkedSet) → IsTold told (placed_of s) → is_expanded_for q s ≡ true
+    → IsAnswered q told
 expanded_answers q told s of h =
     let i = expanded_parts q s h in
     let here : section_of told s.section ≡ told.answers = ap (section_of told) (sym i.section) in
     record {
-      answer = ap (list_any (answers_query q)) (sym here) ∙ set_answers q (section_of told s.section) s.set of.proper of.begins i.owner i.rtype;
+      answer = ap (list_any (answers_query q)) (sym here)
+          ∙ set_answers q (section_of told s.section) s.set of.proper of.begins i.owner i.rtype;
       wild = ap (list_any is_wildcard_signature) (sym here) ∙ set_shows (section_of told s.section) s of.signed i.wild;
     }

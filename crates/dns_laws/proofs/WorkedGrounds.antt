@@ -32,11 +32,13 @@ use Rattle.dns_laws.specs.Ground.{is_ground, insecure_has_ground}
 -- ---- what the examples compute with
 
 unfoldable pub ground_computed : Labels → AskedValue → Bool
-unfolding sets_of leaders shows_insecure_delegation rrsig_in ds_in nsec_in nsec3_in name_in labels_in label_in is_bitmap bitmap_has windows_in window_in
+unfolding sets_of leaders shows_insecure_delegation rrsig_in ds_in nsec_in nsec3_in name_in labels_in label_in is_bitmap
+    bitmap_has windows_in window_in
 ground_computed name step = is_ground trusting name step
 
 unfoldable pub grounds_computed : List AskedValue → Bool
-unfolding sets_of leaders shows_insecure_delegation rrsig_in ds_in nsec_in nsec3_in name_in labels_in label_in is_bitmap bitmap_has windows_in window_in
+unfolding sets_of leaders shows_insecure_delegation rrsig_in ds_in nsec_in nsec3_in name_in labels_in label_in is_bitmap
+    bitmap_has windows_in window_in
 grounds_computed trail = insecure_has_ground trusting trail
 
 -- ---- a DS set of which no record is supported
@@ -111,7 +113,8 @@ nsec_record bitmap = record_of zone 47 (1 ∷ 97 ∷ 0 ∷ bitmap)
 abbrev pub by_nsec : List ℕ → Proof → AskedValue
 by_nsec bitmap mark =
     step_of 1 (ds_question 1 zone)
-    (Records (record { code = 0; answers = []; authorities = nsec_record bitmap ∷ []; additionals = [] }) false) (nsec_entry Authority mark ∷ [])
+    (Records (record { code = 0; answers = []; authorities = nsec_record bitmap ∷ []; additionals = [] }) false)
+    (nsec_entry Authority mark ∷ [])
     (Answered denial.None)
 
 pub of_an_unsigned_delegation : ground_computed host (by_nsec with_ns Secure) ≡ true
@@ -146,7 +149,8 @@ not_by_another_owner = refl
 pub not_by_an_nsec_in_the_answer :
     ground_computed host
     (step_of 1 (ds_question 1 zone)
-    (Records (record { code = 0; answers = nsec_record with_ns ∷ []; authorities = []; additionals = [] }) false) (nsec_entry Answer Secure ∷ [])
+    (Records (record { code = 0; answers = nsec_record with_ns ∷ []; authorities = []; additionals = [] }) false)
+    (nsec_entry Answer Secure ∷ [])
     (Answered denial.None)) ≡ false
 unfolding ground_computed
 not_by_an_nsec_in_the_answer = refl
@@ -155,7 +159,12 @@ not_by_an_nsec_in_the_answer = refl
 pub not_beside_a_ds :
     ground_computed host
     (step_of 1 (ds_question 1 zone)
-    (Records (record { code = 0; answers = record_of zone 43 ds_of_key ∷ []; authorities = nsec_record with_ns ∷ []; additionals = [] }) false)
+    (Records (record {
+      code = 0;
+      answers = record_of zone 43 ds_of_key ∷ [];
+      authorities = nsec_record with_ns ∷ [];
+      additionals = [];
+    }) false)
     (zone_entry 43 Bogus None [] ∷ nsec_entry Authority Secure ∷ []) (Answered denial.None)) ≡ false
 unfolding ground_computed
 not_beside_a_ds = refl
@@ -216,7 +225,10 @@ none_without_a_search = refl
 -- the zone is searched, and it is signed: a table by which an unsigned set is Insecure whatever its zone is would make this trail a
 -- derivation, and nothing in it is a ground
 abbrev pub signed_zone : Proof → List AskedValue
-signed_zone mark = host_seen ∷ zone_seen ∷ root_keys ∷ record ds_found { sets = zone_entry 43 Secure (Some 0) (Step 2 ∷ []) ∷ [] } ∷ unsigned_step mark whole_search ∷ []
+signed_zone mark = host_seen ∷ zone_seen ∷ root_keys ∷ record ds_found {
+  sets =
+      zone_entry 43 Secure (Some 0) (Step 2 ∷ []) ∷ [];
+} ∷ unsigned_step mark whole_search ∷ []
 
 pub bogus_in_a_signed_zone : derivation by_root (within 26) [] (signed_zone Bogus) ≡ true
 unfolding computed

@@ -57,7 +57,8 @@ pub name_is_denied :
 unfolding sets_of leaders rrsig_in name_in labels_in label_in
 name_is_denied =
     let each = denials_hold by_root (within 26) [] (by_both_covered (Answered (denial.Absent Secure))) no_such_name in
-    (denies_by_records 1000 (query_of missing 1) both_covered (judged_sets (name_error (Answered (denial.Absent Secure)))) (denial.Absent Secure) refl
+    (denies_by_records 1000 (query_of missing 1) both_covered (judged_sets (name_error (Answered (denial.Absent Secure))))
+    (denial.Absent Secure) refl
     (each.1.1.0 both_covered (denial.Absent Secure) refl refl refl)).absent refl
 
 pub nothing_is_denied_without_a_signature : DeniesAnswer (query_of missing 1) (told_of 3 [] (unsigned_part of_the_root)) → ⊥
@@ -80,11 +81,13 @@ unfolding sets_of leaders rrsig_in name_in labels_in label_in
 closer_names_are_denied =
     let told = told_of 0 expanded nsec_of_a in
     let each = denials_hold by_root (within 26) [] (by_expansion (Answered (denial.Expanded Secure))) nothing_closer in
-    (denies_by_records 1000 (query_of missing 1) told (judged_sets (expansion (Answered (denial.Expanded Secure)))) (denial.Expanded Secure) refl
+    (denies_by_records 1000 (query_of missing 1) told (judged_sets (expansion (Answered (denial.Expanded Secure))))
+    (denial.Expanded Secure) refl
     (each.1.1.0 told (denial.Expanded Secure) refl refl refl)).expanded refl
 
 -- the wildcard is the one below the root, as the signature says
-pub labels_are_those_of_the_signature : (denies : DeniesCloser (query_of missing 1) (told_of 0 (secure expanded) of_the_root)) → denies.labels ≡ 0
+pub labels_are_those_of_the_signature : (denies : DeniesCloser (query_of missing 1) (told_of 0 (secure expanded) of_the_root))
+    → denies.labels ≡ 0
 unfolding rrsig_in name_in labels_in label_in
 labels_are_those_of_the_signature denies = number_same denies.labels 0 (sym (or_false (denies.labels == 0)) ∙ denies.some)
 

@@ -96,7 +96,8 @@ unfolding leads_computed
 at_its_end = refl
 
 pub another_rdata :
-    leads_to_anchor root_judge (tells (record_of [] 2 (1 ∷ 98 ∷ 0 ∷ []) ∷ record_of [] 46 signature ∷ []) keys) ns_question (keys_question ∷ []) ≡ false
+    leads_to_anchor root_judge (tells (record_of [] 2 (1 ∷ 98 ∷ 0 ∷ []) ∷ record_of [] 46 signature ∷ []) keys) ns_question
+    (keys_question ∷ []) ≡ false
 unfolding leads_computed
 another_rdata = refl
 
@@ -112,7 +113,11 @@ third_key = 1 ∷ 1 ∷ 3 ∷ 13 ∷ 170 ∷ 185 ∷ 0 ∷ 2 ∷ []
 abbrev all_anchored : Judge
 all_anchored =
     judge verifier
-    (record { owner = []; algorithm = 13; key = 170 ∷ 186 ∷ 0 ∷ 1 ∷ [] } ∷ record { owner = []; algorithm = 13; key = 170 ∷ 185 ∷ 0 ∷ 2 ∷ [] } ∷ anchors) 1000
+    (record { owner = []; algorithm = 13; key = 170 ∷ 186 ∷ 0 ∷ 1 ∷ [] } ∷ record {
+      owner = [];
+      algorithm = 13;
+      key = 170 ∷ 185 ∷ 0 ∷ 2 ∷ [];
+    } ∷ anchors) 1000
 
 -- the second key of a tag counts
 pub by_the_second_key :
@@ -122,7 +127,8 @@ by_the_second_key = refl
 
 -- a third doesn't
 pub not_by_the_third_key :
-    leads_to_anchor all_anchored (tells ns_records (record_of [] 48 second_key ∷ record_of [] 48 third_key ∷ keys)) ns_question (keys_question ∷ [])
+    leads_to_anchor all_anchored (tells ns_records (record_of [] 48 second_key ∷ record_of [] 48 third_key ∷ keys))
+    ns_question (keys_question ∷ [])
     ≡ false
 unfolding leads_computed
 not_by_the_third_key = refl

@@ -75,18 +75,21 @@ from_the_ds_set = refl
 -- ---- which DS counts
 
 -- the second supported one of the key's algorithm and tag
-pub by_the_second : leads_to_anchor by_root (tells self_signed (ds_set (other_digest ∷ ds_of_key ∷ []))) (key_question 1 zone) to_the_root ≡ true
+pub by_the_second : leads_to_anchor by_root (tells self_signed (ds_set (other_digest ∷ ds_of_key ∷ []))) (key_question 1 zone)
+    to_the_root ≡ true
 unfolding leads_computed
 by_the_second = rw digest_of_key refl
 
 -- no third
 pub not_by_the_third :
-    leads_to_anchor by_root (tells self_signed (ds_set (other_digest ∷ third_digest ∷ ds_of_key ∷ []))) (key_question 1 zone) to_the_root ≡ false
+    leads_to_anchor by_root (tells self_signed (ds_set (other_digest ∷ third_digest ∷ ds_of_key ∷ []))) (key_question 1 zone)
+    to_the_root ≡ false
 unfolding leads_computed
 not_by_the_third = rw digest_of_key refl
 
 -- but those that aren't supported aren't counted
 pub behind_unsupported :
-    leads_to_anchor by_root (tells self_signed (ds_set (unsupported 1 ∷ unsupported 2 ∷ other_digest ∷ ds_of_key ∷ []))) (key_question 1 zone) to_the_root ≡ true
+    leads_to_anchor by_root (tells self_signed (ds_set (unsupported 1 ∷ unsupported 2 ∷ other_digest ∷ ds_of_key ∷ [])))
+    (key_question 1 zone) to_the_root ≡ true
 unfolding leads_computed
 behind_unsupported = rw digest_of_key refl

@@ -1,3 +1,4 @@
+-- Definitions of the laws over marks, denials and chains.
 pub mod Ground
 pub mod Denials
 pub mod OwnDenials

@@ -1,4 +1,6 @@
 pub mod Counts
+pub mod Calls
+pub mod Logs
 pub mod Moved
 pub mod Plans
 pub mod Pairs

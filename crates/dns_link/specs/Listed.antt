@@ -3,6 +3,7 @@ use Rattle.std.specs.Prelude.{ℕ, ◌≡◌, List, [], ◌∷◌, ◌++◌, len
 use Rattle.std.specs.declared.net.socket_addr.SocketAddr.{SocketAddr}
 use Rattle.dns_handle.specs.declared.io_kind.IoKind.{IoKind}
 use Rattle.dns_handle.specs.declared.io_kind.IoKind.TheVariants.{AddrNotAvailable}
+use Rattle.dns_link.specs.Calls.{NetCalls, Tells, no_calls}
 use Rattle.dns_link.specs.Counts.{CountsValue, no_counts}
 use Rattle.dns_link.specs.Moved.{DatagramValue, IsNew}
 use Rattle.dns_link.specs.Plans.{PlanValue, planned}
@@ -15,6 +16,8 @@ pub record ListDatagramsValue : Type 0 where
   -- the calls that fail
   pub plan : PlanValue
   pub counts : CountsValue
+  -- what was sent where, and the kind of the last fault; none once memory lacked for one
+  pub calls : Option NetCalls
 
 abbrev pub new_datagrams : List DatagramValue → List ℕ → ListDatagramsValue
 new_datagrams incoming fails = record {
@@ -22,19 +25,23 @@ new_datagrams incoming fails = record {
   incoming = incoming;
   plan = planned fails;
   counts = no_counts;
+  calls = Some no_calls;
 }
 
 pub record ListDialerValue : Type 0 where
   pub links : List (Result PairLinkValue IoKind)
   pub sockets : List (Result ListDatagramsValue IoKind)
   pub counts : CountsValue
+  -- what was asked of it, with what was sent by the sockets that it has back, and the kind of the last fault; none once memory lacked
+  -- for one
+  pub calls : Option NetCalls
 
 abbrev pub IsNewLink : Result PairLinkValue IoKind → Type 0
-IsNewLink (Ok link) = IsNew link.counts (Some link.pieces.given)
+IsNewLink (Ok link) = IsNew link.counts (Some link.pieces.given) × Tells link.calls no_calls
 IsNewLink (Err kind) = ⊤
 
 abbrev pub IsNewSocket : Result ListDatagramsValue IoKind → Type 0
-IsNewSocket (Ok socket) = IsNew socket.counts (Some socket.given)
+IsNewSocket (Ok socket) = IsNew socket.counts (Some socket.given) × Tells socket.calls no_calls
 IsNewSocket (Err kind) = ⊤
 
 -- the first of a list, or that no address is there for more

@@ -1,6 +1,7 @@
 -- A link in memory: what it gives comes in pieces, and what it takes has so much room.
-use Rattle.std.specs.Prelude.{ℕ, ◌-◌, ◌==◌, List, [], ◌∷◌, ◌++◌, drop, length, map, take, if◌then◌else◌}
+use Rattle.std.specs.Prelude.{ℕ, ◌-◌, ◌==◌, List, [], ◌∷◌, ◌++◌, drop, length, map, take, if◌then◌else◌, Option, Some}
 use Rattle.std.specs.List.{concat}
+use Rattle.dns_link.specs.Calls.{NetCalls, no_calls}
 use Rattle.dns_link.specs.Counts.{CountsValue, no_counts}
 use Rattle.dns_link.specs.Plans.{PlanValue, planned}
 
@@ -46,6 +47,8 @@ pub record PairLinkValue : Type 0 where
   -- the calls that fail
   pub plan : PlanValue
   pub counts : CountsValue
+  -- the kind of the last fault
+  pub calls : Option NetCalls
 
 abbrev pub new_pair : List (List ℕ) → ℕ → List ℕ → PairLinkValue
 new_pair pieces room fails = record {
@@ -54,6 +57,7 @@ new_pair pieces room fails = record {
   room = room;
   plan = planned fails;
   counts = no_counts;
+  calls = Some no_calls;
 }
 
 -- how many bytes can still be written

@@ -1,3 +1,4 @@
+//! Which calls of an object in memory fail.
 ghost use Rattle.std.specs.Prelude.{◌≡◌};
 ghost use Rattle.dns_link.specs.Plans.{next_fails, planned, with_call};
 

@@ -1,3 +1,4 @@
+//! The moment, from the system or fixed.
 ghost use Rattle.std.specs.Prelude.{◌≡◌};
 
 use std::time;

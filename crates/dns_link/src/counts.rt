@@ -1,3 +1,4 @@
+//! What links, sockets and dialers met, as counts.
 ghost use Rattle.std.specs.Prelude.{◌≡◌};
 ghost use Rattle.dns_link.specs.Counts.{no_counts, sum_counted, after_dial, after_read, after_receive, after_send, after_write, with_counts, with_end, with_fault, with_got, with_quiet};
 

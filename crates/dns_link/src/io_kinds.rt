@@ -1,3 +1,4 @@
+//! Kinds of std's errors.
 ghost use Rattle.std.specs.Prelude.{◌≡◌};
 ghost use Rattle.std.specs.IoError.{error_kind};
 ghost use Rattle.dns_link.specs.Sockets.{io_kind_of};

@@ -9,15 +9,18 @@
 //! [`SystemClock`] stand over std, a few lines each: the edge that is trusted.
 #![tactic(auto)]
 
+mod call_log;
 mod call_plan;
 mod clock;
 mod counts;
 mod datagrams;
+mod deadline;
 mod dialer;
 mod io_kinds;
 mod link;
 mod list_datagrams;
 mod list_dialer;
+mod net_call;
 mod pair_link;
 mod pieces;
 mod socket_datagrams;
@@ -32,7 +35,8 @@ pub use io_kinds::kind_of;
 pub use link::Link;
 pub use list_datagrams::ListDatagrams;
 pub use list_dialer::ListDialer;
+pub use net_call::NetCall;
 pub use pair_link::PairLink;
 pub use socket_datagrams::SocketDatagrams;
 pub use socket_dialer::SocketDialer;
-pub use socket_link::SocketLink;
+pub use socket_link::{SocketLink, TimedLink};

@@ -1,16 +1,21 @@
+//! A datagram socket in memory.
 ghost use Rattle.std.specs.Prelude.{◌≡◌, ◌↔◌, ◌≤◌, ◌++◌, [], None, Some, Ok, IsErr, IfErr, IfOk, IfSome, IsTrue, length, drop, take};
 ghost use Rattle.std.specs.VecDeque.{deque_len, deque_capacity};
 ghost use Rattle.std.specs.Io.{WritesAtMost};
+ghost use Rattle.std.specs.Option.{option_map};
+ghost use Rattle.dns_link.specs.Calls.{IsToldWith, answered, only_fault};
 ghost use Rattle.dns_link.specs.Counts.{after_receive, after_send};
 ghost use Rattle.dns_link.specs.Moved.{and_then, received_by};
 ghost use Rattle.dns_link.specs.Listed.{IsNext, IsReceived, new_datagrams};
 ghost use Rattle.dns_link.specs.Plans.{next_fails, with_call};
 
+use crate::call_log::CallLog;
 use crate::call_plan::CallPlan;
 use crate::counts::Counts;
 use crate::datagrams::Datagrams;
+use crate::net_call::NetCall;
 use dns_handle::IoKind;
-use dns_name::Octets;
+use dns_record::Octets;
 use std::collections::VecDeque;
 use std::marker::Model;
 use std::net::SocketAddr;
@@ -24,6 +29,7 @@ pub struct ListDatagrams {
     left: usize,
     plan: CallPlan,
     counts: Counts,
+    calls: CallLog,
 }
 
 impl Model for ListDatagrams {
@@ -38,6 +44,7 @@ impl Model for ListDatagrams {
       incoming = take d.left d.datagrams.items;
       plan = d.plan;
       counts = d.counts;
+      calls = d.calls;
     } };
 
     ghost invariant = { λ d. (d.left ≤ deque_len d.datagrams) × (deque_len d.datagrams ≤ deque_capacity d.datagrams) };
@@ -76,19 +83,28 @@ impl ListDatagrams {
         ensures { result ≡ new_datagrams incoming.items fails.items }
     {
         let left = incoming.len();
+        let calls = CallLog::new(*incoming.allocator());
         ListDatagrams {
             datagrams: VecDeque::from_vec(incoming),
             left,
             plan: CallPlan::new(fails),
             counts: Counts::new(),
+            calls,
         }
     }
 
-    /// What it met.
-    pub(crate) fn counts(&self) -> &Counts
-        ensures { result.now ≡ self.now.counts }
+    /// What was sent where, in order: each is a [`NetCall::Send`]. None once memory ran out for one.
+    pub fn calls(&self) -> Option<&[NetCall]>
+        ensures { option_map (λ calls. calls.now) result ≡ option_map (λ told. told.made) self.now.calls }
     {
-        &self.counts
+        self.calls.calls()
+    }
+
+    /// What it met, and what was sent.
+    pub(crate) fn into_met(self) -> (Counts, CallLog)
+        ensures { result ≡ (self.counts, self.calls) }
+    {
+        (self.counts, self.calls)
     }
 
     /// Takes what is to come next, unless none is, or the call is one that fails.
@@ -133,10 +149,13 @@ impl Datagrams for ListDatagrams {
 
     ghost given = { λ d. Some d.given };
 
-    fn send_to(&mut self, bytes: &[u8], _to: SocketAddr) -> Result<usize, IoKind>
+    ghost calls = { λ d. d.calls };
+
+    fn send_to(&mut self, bytes: &[u8], to: SocketAddr) -> Result<usize, IoKind>
         ensures bound { WritesAtMost result bytes.now }
         ensures counts { self.new.counts ≡ after_send (length bytes.now) result self.old.counts }
         ensures given { Some self.new.given ≡ Some self.old.given }
+        ensures calls { IsToldWith self.old.calls (answered (NetCall.Send bytes.now to) result) self.new.calls }
 
         // All is taken, unless the call is to fail.
         ensures fails { IsErr result ↔ IsTrue (next_fails self.old.plan) }
@@ -147,6 +166,7 @@ impl Datagrams for ListDatagrams {
     {
         let result = self.try_send(bytes);
         self.counts.count_send(bytes.len(), &result);
+        self.calls.add_send(bytes, to, &result);
         result
     }
 
@@ -154,6 +174,7 @@ impl Datagrams for ListDatagrams {
         ensures bound { IfOk result (λ came. IfSome came (λ d. d.0 ≤ length buf.new)) }
         ensures counts { self.new.counts ≡ after_receive result self.old.counts }
         ensures given { Some self.new.given ≡ and_then (Some self.old.given) (received_by result buf.new) }
+        ensures calls { IsToldWith self.old.calls (only_fault result) self.new.calls }
 
         // The next datagram comes as far as it fits, unless none is to come or the call is to fail.
         ensures fails { IsErr result ↔ IsTrue (next_fails self.old.plan) }
@@ -165,6 +186,7 @@ impl Datagrams for ListDatagrams {
     {
         let result = self.try_receive(buf);
         self.counts.count_receive(&result);
+        self.calls.add_fault(&result);
         result
     }
 }

@@ -1,17 +1,20 @@
+//! A connection in memory.
 ghost use Rattle.std.specs.Prelude.{◌≡◌, ◌≢◌, ◌↔◌, ◌++◌, [], All, Some, Ok, ◌<◌, IsErr, IfErr, IfOk, OnOk, OnErr, IsTrue, length, map, min, take, sum};
 ghost use Rattle.std.specs.Io.{ReadsAtMost, WritesAtMost};
 ghost use Rattle.std.specs.Io.KnownBytes.{prepend_known};
+ghost use Rattle.dns_link.specs.Calls.{IsToldWith, only_fault};
 ghost use Rattle.dns_link.specs.Counts.{after_read, after_write};
 ghost use Rattle.dns_link.specs.Moved.{EndsAt, and_then, moved_by};
 ghost use Rattle.dns_link.specs.Pairs.{free_room, new_pair, read_of_piece};
 ghost use Rattle.dns_link.specs.Plans.{next_fails, with_call};
 
+use crate::call_log::CallLog;
 use crate::call_plan::CallPlan;
 use crate::counts::Counts;
 use crate::link::Link;
 use crate::pieces::Pieces;
 use dns_handle::IoKind;
-use dns_name::{NoMemory, Octets};
+use dns_record::{NoMemory, Octets};
 use std::alloc::Global;
 use std::marker::Model;
 
@@ -23,6 +26,7 @@ pub struct PairLink {
     room: usize,
     plan: CallPlan,
     counts: Counts,
+    calls: CallLog,
 }
 
 impl Model for PairLink {
@@ -37,6 +41,7 @@ impl Model for PairLink {
       room = l.room;
       plan = l.plan;
       counts = l.counts;
+      calls = l.calls;
     } };
 
     ghost invariant = { λ l. (vec_len l.taken ≤ l.room) × (l.room ≤ vec_capacity l.taken) };
@@ -62,6 +67,7 @@ impl PairLink {
             room,
             plan: CallPlan::new(fails),
             counts: Counts::new(),
+            calls: CallLog::new(alloc),
         })
     }
 
@@ -72,11 +78,11 @@ impl PairLink {
         &self.taken
     }
 
-    /// What it met.
-    pub(crate) fn counts(&self) -> &Counts
-        ensures { result.now ≡ self.now.counts }
+    /// What it met and the kind of its last fault.
+    pub(crate) fn into_met(self) -> (Counts, CallLog)
+        ensures { result ≡ (self.counts, self.calls) }
     {
-        &self.counts
+        (self.counts, self.calls)
     }
 
     /// Reads, unless the call is one that fails.
@@ -126,6 +132,8 @@ impl Link for PairLink {
 
     ghost taken = { λ l. Some l.taken };
 
+    ghost calls = { λ l. l.calls };
+
     fn read(&mut self, buf: &mut [u8]) -> Result<usize, IoKind>
         ensures bound { ReadsAtMost result buf.new }
         ensures counts { self.new.counts ≡ after_read (length buf.new) result self.old.counts }
@@ -133,6 +141,7 @@ impl Link for PairLink {
         ensures left { Some self.old.pieces.left ≡ prepend_known (moved_by result buf.new) (Some self.new.pieces.left) }
         ensures end { EndsAt result buf.new (Some self.new.pieces.left) }
         ensures taken { Some self.new.taken ≡ Some self.old.taken }
+        ensures calls { IsToldWith self.old.calls (only_fault result) self.new.calls }
 
         // A read gives at most the rest of a piece, and fails where it is told to.
         ensures fails { IsErr result ↔ IsTrue (next_fails self.old.plan) }
@@ -144,6 +153,7 @@ impl Link for PairLink {
     {
         let result = self.try_read(buf);
         self.counts.count_read(buf.len(), &result);
+        self.calls.add_fault(&result);
         result
     }
 
@@ -153,6 +163,7 @@ impl Link for PairLink {
         ensures taken { Some self.new.taken ≡ and_then (Some self.old.taken) (moved_by result bytes.now) }
         ensures given { Some self.new.pieces.given ≡ Some self.old.pieces.given }
         ensures left { Some self.new.pieces.left ≡ Some self.old.pieces.left }
+        ensures calls { IsToldWith self.old.calls (only_fault result) self.new.calls }
 
         // A write takes what there is room for, and fails where it is told to.
         ensures fails { IsErr result ↔ IsTrue (next_fails self.old.plan) }
@@ -164,6 +175,7 @@ impl Link for PairLink {
     {
         let result = self.try_write(bytes);
         self.counts.count_write(bytes.len(), &result);
+        self.calls.add_fault(&result);
         result
     }
 }

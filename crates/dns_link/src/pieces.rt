@@ -1,8 +1,9 @@
+//! Bytes that are read piece by piece.
 ghost use Rattle.std.specs.Prelude.{◌≡◌, ◌≢◌, ◌+◌, ◌<◌, [], All, IfOk, drop, length, map, min, sum, take};
 ghost use Rattle.std.specs.List.{concat};
 ghost use Rattle.dns_link.specs.Pairs.{first_or_none, new_pieces, read_of_piece};
 
-use dns_name::{NoMemory, Octets};
+use dns_record::{NoMemory, Octets};
 use std::alloc::Global;
 use std::collections::VecDeque;
 use std::marker::Model;

@@ -2,9 +2,10 @@
 use Rattle.std.proofs.Common.{ℕ, ◌≡◌, ◌≢◌, Bool, true, false, ◌&&◌, nat_lt, cond, List, [], ◌∷◌, ◌++◌, slice_get, Option, None, Some, if◌then◌else◌, refl, sym, ap, subst, ◌∙◌, inl, inr, ◌⊎◌, true≢false}
 use Rattle.std.specs.List.{find, list_any, IsDistinct}
 use Rattle.std.specs.Option.{option_map, IfSome}
-use Rattle.std.proofs.lemmas.Bool.{and_parts, or_cases}
+use Rattle.std.proofs.lemmas.Bool.{and_from, and_parts, or_cases}
 use Rattle.dns_model.specs.declared.trail.MarkOrigin.TheVariants.{Cache}
 use Rattle.dns_model.specs.Chains.{Judge}
+use Rattle.dns_model.specs.Records.{Question}
 use Rattle.dns_model.specs.SoundAnswers.{PlacedSet, placed_sets, told_by}
 use Rattle.dns_model.specs.Trails.{AskedValue}
 use Rattle.dns_rules.specs.CacheEntries.{EntryValue, is_live, live}
@@ -99,14 +100,17 @@ holds_known Kept j placed e not_other holds = holds
 holds_known Unknown j placed e not_other holds = holds
 holds_known Other j placed e not_other holds = absurd (not_other refl)
 
-served_given : (j : Judge) (placed : PlacedSet) (given : Option (EntryValue × Acceptance)) (e : EntryValue)
+served_given : (j : Judge) (q : Question) (placed : PlacedSet) (given : Option (EntryValue × Acceptance)) (e : EntryValue)
     → option_map (λ p. p.0) given ≡ Some e
-    → IfSome given (λ p. p.1 ≢ Other) → still_holds j placed e ≡ true → serving j placed given ≡ Some e
-served_given j placed None e is known holds = cc
-served_given j placed (Some p) e is known holds =
+    → IfSome given (λ p. p.1 ≢ Other) → key_eq (key_of q placed.set) e.key ≡ true → still_holds j placed e ≡ true
+    → serving j q placed given ≡ Some e
+served_given j q placed None e is known fits holds = cc
+served_given j q placed (Some p) e is known fits holds =
     let same : p.0 ≡ e = entry_same p.0 e is in
     ap (λ b. if b then Some p.0 else None)
-    (holds_known p.1 j placed p.0 known (subst (λ x. still_holds j placed x ≡ true) (sym same) holds))
+    (and_from (key_eq (key_of q placed.set) p.0.key) (holds_given p.1 j placed p.0)
+    (subst (λ x. key_eq (key_of q placed.set) x.key ≡ true) (sym same) fits)
+    (holds_known p.1 j placed p.0 known (subst (λ x. still_holds j placed x ≡ true) (sym same) holds)))
     ∙ ap (λ x. Some x) same
   where
     entry_same : (a b : EntryValue) → Some a ≡ Some b → a ≡ b
@@ -122,7 +126,7 @@ pub record GivenFirst (key : CacheKeyValue) (now : ℕ) (told : Option CacheList
 -- the set is served by what was kept before, where it may be
 record IsServed (t : Terms) (placed : PlacedSet) (given : Option (EntryValue × Acceptance)) : Type 0 where
   it : EntryValue
-  is : serving t.judge placed given ≡ Some it
+  is : serving t.judge t.query placed given ≡ Some it
 
 first_is_served : (t : Terms) (before : Option CacheList) (placed : PlacedSet) (key : CacheKeyValue)
     (given : Option (EntryValue × Acceptance)) → key ≡ key_of t.query placed.set
@@ -137,8 +141,8 @@ first_is_served t (Some list) placed key given same g may =
     ∙ here.1 in
     record {
       it = p.it;
-      is = served_given t.judge placed given p.it
-          (g.is ∙ hit_in key t.now list.entries p.it g.listed.distinct here.0 hits) g.known parts.1;
+      is = served_given t.judge t.query placed given p.it
+          (g.is ∙ hit_in key t.now list.entries p.it g.listed.distinct here.0 hits) g.known parts.0 parts.1;
     }
 
 none_made : (made : List MadeValue) (e : EntryValue) → made ≡ [] → origin_of made e ≡ Cache
@@ -179,16 +183,16 @@ at_first : (t : Terms) (before now after : Option CacheList) (s : StateValue) (k
     → k.so_far.query ≡ t.query → k.so_far.entries ≡ []
     → slice_get (placed_sets (told_by k.so_far.message)) 0 ≡ Some k.placed → IsUntouched s before now
     → GivenFirst (key_of k.so_far.query k.placed.set) t.now now given
-    → FirstServed t before (found_by_entry t k (serving t.judge k.placed given) (record s { seeking = None })) after
+    → FirstServed t before (found_by_entry t k (serving t.judge k.so_far.query k.placed given) (record s { seeking = None })) after
 at_first t before now after s k given no_steps query entries placed untouched g =
     let here = subst (λ o. GivenFirst (key_of k.so_far.query k.placed.set) t.now o given) untouched.told g in
-    entry_first t before after k (serving t.judge k.placed given)
+    entry_first t before after k (serving t.judge k.so_far.query k.placed given)
     (record s { seeking = None }) no_steps refl untouched.made entries placed
     (λ may none.
     let served =
     first_is_served t before k.placed (key_of k.so_far.query k.placed.set) given
     (ap (λ q. key_of q k.placed.set) query) here may in
-    no_entry served.it (sym none ∙ served.is))
+    no_entry served.it (sym none ∙ ap (λ q. serving t.judge q k.placed given) query ∙ served.is))
   where
     no_entry : (e : EntryValue) → None ≡ Some e → ⊥
     no_entry e h = cc
@@ -250,16 +254,16 @@ found_on t before now after s k given None at is g first = cc
 found_on t before now after s k given (Some it) at is g (NotYet no_steps no_set asks untouched) =
     absurd (no_seek s.seeking it no_set at)
 found_on t before now after s k given (Some it) at is g (Over reply ended facts) =
-    Over reply (over_found t it (serving t.judge it.placed given) (record s { seeking = None }) ∙ ended) facts
+    Over reply (over_found t it (serving t.judge it.so_far.query it.placed given) (record s { seeking = None }) ∙ ended) facts
 found_on t before now after s k given (Some it) at is g (Behind so_far bottom_is h) =
-    entry_later t before after it (serving t.judge it.placed given)
+    entry_later t before after it (serving t.judge it.so_far.query it.placed given)
     (record s { seeking = None }) s.steps so_far refl refl (sym (ap (bottom s.steps) at) ∙ bottom_is) h
 found_on t before now after s k given (Some it) at is g
     (AtFirst first_set no_steps seeks query entries placed untouched) =
     let same = seek_same first_set it (sym seeks ∙ at) in
     let here = seek_same it k is in
     subst (λ x. FirstServed t before
-    (found_by_entry t x (serving t.judge x.placed given) (record s { seeking = None })) after) same
+    (found_by_entry t x (serving t.judge x.so_far.query x.placed given) (record s { seeking = None })) after) same
     (at_first t before now after s first_set given no_steps query entries placed untouched
     (subst (λ x. GivenFirst (key_of x.so_far.query x.placed.set) t.now now given) (sym (same ∙ here)) g))
 

@@ -29,7 +29,7 @@ use Rattle.dns_validation.specs.Received.{ReceivedValue, Message, Failed, receiv
 use Rattle.dns_validation.specs.Steps.{Findings, judged_step, plain_step, foreign_ending, answer_by, top_of}
 use Rattle.dns_validation.specs.Machine.{Terms, SoFar, OpenValue, SeekingValue, StateValue, begin, limit_of, findings, first_left, next_in, with_set, step_of, step_ended, give, with_step, refusal, asked_by, turned, turn_in, depth_below, heard_own, heard_nested, heard_by, no_more_waiting, heard_in, heard, serving, served_set, served_entry, origin_of, found_by_entry, found_in, found, begun}
 use Rattle.dns_validation.specs.Runs.{Turns, Here, Onward, HasHeard, HasTaken}
-use Rattle.dns_lookup.specs.Caching.{is_from_cache, served_sets}
+use Rattle.dns_lookup.specs.Caching.{served_sets, was_kept}
 use Rattle.dns_lookup.specs.Driving.{kept_all, from_cache, open_served, sought_served, reply_served, ended_served, served_in}
 use Rattle.dns_lookup.proofs.ComesLemmas.{silent}
 use Rattle.dns_lookup.proofs.WorkLemmas.{unsought}
@@ -57,7 +57,7 @@ sum_append f (x ∷ xs) ys =
     omega (arith, here, there, rest)
 
 abbrev of_cache : JudgedSetValue → ℕ
-of_cache set = cond (is_from_cache set.origin) 1 0
+of_cache set = cond (was_kept set.origin) 1 0
 
 sum_one : {X : Type 0} (f : X → ℕ) (x : X) → sum_by f (x ∷ []) ≡ f x
 sum_one f x = let here = sum_by-cons f x [] in omega (arith, here)
@@ -255,7 +255,7 @@ pub given_one : Option (EntryValue × Acceptance) → ℕ
 given_one None = 0
 given_one (Some p) = 1
 
-served_once : (o : MarkOrigin) → cond (is_from_cache o) 1 0 ≤ 1
+served_once : (o : MarkOrigin) → cond (was_kept o) 1 0 ≤ 1
 served_once Table = omega arith
 served_once (Repeat n) = omega arith
 served_once Cache = omega arith
@@ -284,7 +284,7 @@ entry_served t k (Some e) s none n least one =
     omega (arith, here, push, once, some)
 
 serving_one : (t : Terms) (k : SeekingValue) (given : Option (EntryValue × Acceptance)) (e : EntryValue)
-    → serving t.judge k.placed given ≡ Some e → 1 ≤ given_one given
+    → serving t.judge k.so_far.query k.placed given ≡ Some e → 1 ≤ given_one given
 unfolding given_one
 serving_one t k None e is = cc
 serving_one t k (Some p) e is = omega arith
@@ -300,7 +300,7 @@ found_served : (t : Terms) (given : Option (EntryValue × Acceptance)) (o : Opti
 found_served t given None s is = omega arith
 found_served t given (Some k) s is =
     let here =
-    entry_served t k (serving t.judge k.placed given) (record s { seeking = None }) refl (given_one given)
+    entry_served t k (serving t.judge k.so_far.query k.placed given) (record s { seeking = None }) refl (given_one given)
     (λ none. omega arith)
     (λ e some. serving_one t k given e some) in
     let there = sought_is s k is in

@@ -24,3 +24,6 @@ pub mod AnsweredLemmas
 pub mod DenyingLemmas
 pub mod SendingLemmas
 pub mod CompletingLemmas
+pub mod AskedLemmas
+pub mod GivenLemmas
+pub mod PromisedLemmas

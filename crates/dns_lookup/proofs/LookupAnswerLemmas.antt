@@ -18,11 +18,10 @@ use Rattle.dns_handle.specs.declared.error.NetError.{NetError}
 use Rattle.dns_handle.specs.declared.handle.DnsHandle as handle
 use Rattle.dns_validation.specs.Received.{received_message, no_records_message}
 use Rattle.dns_validation.specs.Steps.{Findings, trail_of, answer_by}
-use Rattle.dns_lookup.specs.Calls.{Call}
+use Rattle.dns_lookup.specs.Calls.{Call, terms_of_call}
 use Rattle.dns_lookup.specs.LookupAnswers.{UnlessNoMemory, OfAnswer, IsSoundAnswer, IsTrail, HasMarksOfTrail, DeniesQuery}
 use Rattle.dns_lookup.specs.Answering.{Found, AnswersLookup, Passes, Names, Judges}
 use Rattle.dns_validation.specs.Comes.{top_context}
-use Rattle.dns_lookup.specs.Fronts.{terms_of_call}
 use Rattle.dns_lookup.proofs.ConclusionLemmas.{never_searched}
 use Rattle.dns_lookup.proofs.TopLemmas.{found_trail, found_marks, found_sound}
 

@@ -25,16 +25,18 @@ use Rattle.dns_validation.specs.Validations.{asking_at}
 use Rattle.dns_validation.specs.declared.validation.Asking.{Asking}
 use Rattle.dns_validation.proofs.RunLemmas.{goes_on}
 use Rattle.dns_lookup.specs.Answering.{call_by, AnswersLookup}
-use Rattle.dns_lookup.specs.Caching.{ServeFrom, UsesCache, KeepsLast}
+use Rattle.dns_lookup.specs.Caching.{ServeFrom, UsesCache, KeepsLast, PutsAll}
 use Rattle.dns_lookup.specs.Calls.{Sending}
-use Rattle.dns_lookup.specs.Driving.{CacheState, served_in, reply_served, TopServed, FirstServed, NotYet, use_between, AreMade, AllComeFrom, IsOn, IsLost, Stops, ServedTo, ServesOn}
+use Rattle.dns_lookup.specs.Driving.{CacheState, asked_in, reply_asked, served_in, reply_served, TopServed, FirstServed, NotYet, use_between, AreMade, AllComeFrom, IsOn, IsLost, Stops, ServedTo, ServesOn}
 use Rattle.dns_lookup.specs.Fronts.{MakesSend, MakesSends, LosesSend, IsFront, SendsOfTerms}
 use Rattle.dns_lookup.specs.LookupAnswers.{OfAnswer, UnlessNoMemory}
 use Rattle.dns_lookup.proofs.AddLemmas.{kept_none, kept_more}
+use Rattle.dns_lookup.proofs.AskedLemmas.{begun_asked, end_asked, few_still, heard_asked}
 use Rattle.dns_lookup.proofs.ComesLemmas.{comes_answers, comes_some}
 use Rattle.dns_lookup.proofs.FirstLemmas.{heard_first_set, waiting_still}
 use Rattle.dns_lookup.proofs.FoundFirstLemmas.{end_first}
 use Rattle.dns_lookup.proofs.KeptFirstLemmas.{begun_kept, heard_kept, keeps_last}
+use Rattle.dns_lookup.proofs.GivenLemmas.{begun_gave, end_puts, heard_gave, puts_begun}
 use Rattle.dns_lookup.proofs.HitLemmas.{rose_none, rose_fewer, begun_served, heard_served, end_served}
 use Rattle.dns_lookup.proofs.FrontLemmas.{AreSends, IsNext, run_next, made_more, sends_of, sends_of_some, or_unsent, live_before, serves_before}
 use Rattle.dns_lookup.proofs.OriginLemmas.{come_none}
@@ -89,9 +91,13 @@ module _ {H : Type 0} (meanings : handle.Ghosts H) (t : Terms) (old : H) (before
         made = subst (λ (x : StateValue). AreMade x.made x.kept) (sym is) tt;
         hits = subst (λ n. RoseBy n before.hits before.hits) (sym (ap served_in is ∙ begun_served t.query))
             (rose_none before.hits);
+        few = subst (λ n. before.hits ≤ before.hits + n) (sym (ap asked_in is ∙ begun_asked t.query)) (omega arith);
         first = subst (λ x. FirstServed t before.told x before.told) (sym is)
             (NotYet refl refl refl (record { made = refl; kept = refl; told = refl }));
         last = begun_kept t s before.told is;
+        out = [];
+        gave = begun_gave t s is;
+        puts = puts_begun t.now before.told;
       };
       made = refl;
       are = tt;
@@ -226,9 +232,15 @@ module _ {H : Type 0} (meanings : handle.Ghosts H) (t : Terms) (old : H) (before
             made = known.made;
             hits = rose_fewer (served_in m) (served_in n) before.hits now.hits
                 (heard_served t m n reply still.0 still.1 heard) on.hits;
+            few = few_still (asked_in m) (asked_in n) before.hits now.hits
+                (heard_asked t on.cached sends (sends ++ one ∷ []) m n reply still.0 still.1 on.run heard_run heard)
+                on.few;
             first = heard_first_set t on.cached sends before.told now.told m n a.ask reply on.run heard_run a.waits
                 heard on.first;
             last = heard_kept t on.cached sends m n now.told a.ask reply on.run heard_run a.waits heard;
+            out = on.out;
+            gave = heard_gave t on.cached (sends ++ one ∷ []) m n reply on.out still.1 heard_run heard on.gave;
+            puts = on.puts;
           };
           made = made_more meanings t.now old middle new sends one a.at.made made;
           are = a.next.more reply a.at.are;
@@ -493,22 +505,32 @@ out_answered meanings t old new before m now answer ran is =
 
 -- how it used the cache
 uses_by : {H : Type 0} (t : Terms) (before now : CacheState) (old new : H) (reply : Reply)
-    → RoseBy (reply_served reply) before.hits now.hits
+    → RoseBy (reply_served reply) before.hits now.hits → now.hits ≤ before.hits + reply_asked reply
     → OfAnswer reply (λ a ending. TopServed t before.told a.trail)
+    → OfAnswer reply (λ a ending. PutsAll (call_by t (use_between before now) old new) a.trail)
     → OfAnswer reply (λ a ending. KeepsLast (call_by t (use_between before now) old new) a.trail)
     → OfAnswer reply (λ a ending. UsesCache (call_by t (use_between before now) old new) a.trail)
-unfolding reply_served
-uses_by t before now old new (Ok a) rose top keeps = record {
+unfolding reply_served reply_asked
+uses_by t before now old new (Ok a) rose few top puts keeps = record {
   hits = rose;
+  few = few;
   serves = λ step told placed last heard first may. top step told last heard placed first may;
+  puts = puts;
   keeps = keeps;
 }
-uses_by t before now old new (Err (Dns (Nsec asked a proof))) rose top keeps = record {
+uses_by t before now old new (Err (Dns (Nsec asked a proof))) rose few top puts keeps = record {
   hits = rose;
+  few = few;
   serves = λ step told placed last heard first may. top step told last heard placed first may;
+  puts = puts;
   keeps = keeps;
 }
-uses_by t before now old new (Err error) rose top keeps = tt
+uses_by t before now old new (Err error) rose few top puts keeps = tt
+
+end_few : (t : Terms) (before : CacheState) (m : StateValue) (now : CacheState) (reply : Reply) (sends : List Sent)
+    → IsOn t before sends m now → m.ended ≡ Some reply → now.hits ≤ before.hits + reply_asked reply
+end_few t before m now reply sends on ended =
+    subst (λ n. now.hits ≤ before.hits + n) (end_asked m reply ended) on.few
 
 end_uses : {H : Type 0} (t : Terms) (before : CacheState) (m : StateValue) (now : CacheState) (reply : Reply)
     (sends : List Sent) → IsOn t before sends m now → m.kept ≡ [] → (old new : H)
@@ -516,7 +538,9 @@ end_uses : {H : Type 0} (t : Terms) (before : CacheState) (m : StateValue) (now 
 end_uses t before m now reply sends on rests old new ended =
     uses_by t before now old new reply
     (rose_fewer (served_in m) (reply_served reply) before.hits now.hits (end_served m reply ended) on.hits)
+    (end_few t before m now reply sends on ended)
     (end_first t on.cached sends before.told now.told m reply on.run ended on.first)
+    (end_puts t before now old new m reply on.out rests ended on.gave on.puts)
     (keeps_last t before now old new m reply rests ended on.last)
 
 module _ {H : Type 0} (meanings : handle.Ghosts H) (t : Terms) (old new : H) (before : CacheState) (m : StateValue)

@@ -20,11 +20,11 @@ use Rattle.dns_lookup.specs.Answering.{AnswersLookup}
 use Rattle.dns_cache.specs.CacheLists.{CacheList}
 use Rattle.dns_cache.specs.Expiry.{TtlRangesValue}
 use Rattle.dns_lookup.specs.Caching.{UsesCache}
-use Rattle.dns_lookup.specs.Calls.{Call, CacheUse, Sending, ask_of_call, first_ask_of_call}
+use Rattle.dns_lookup.specs.Calls.{Call, CacheUse, Sending, ask_of_call, first_ask_of_call, terms_of_call}
 use Rattle.dns_lookup.specs.LookupAnswers.{UnlessNoMemory, OfAnswer}
 use Rattle.dns_lookup.specs.Sending.{call_for, IsUnused, IsLookedUp, AnswersRequest, Goes, Refused, LookedUp, Unsent}
 use Rattle.dns_lookup.specs.Sends.{SendsBy}
-use Rattle.dns_lookup.specs.Fronts.{terms_of_call, IsFront, SendsOfTerms}
+use Rattle.dns_lookup.specs.Fronts.{IsFront, SendsOfTerms}
 use Rattle.dns_lookup.proofs.FrontLemmas.{unsent_front}
 use Rattle.dns_lookup.proofs.CompletingLemmas.{lookup_completes}
 use Rattle.dns_lookup.proofs.CauseLemmas.{no_both, lookup_passes}

@@ -1,5 +1,5 @@
 -- A validation is served from a cache: it goes along its run by what was kept, and what it gives out is kept.
-use Rattle.std.proofs.Common.{ℕ, ◌≡◌, ◌≢◌, ◌⊎◌, Bool, true, false, nat_lt, cond, List, [], ◌∷◌, ◌++◌, drop, Option, None, Some, Result, Ok, Err, if◌then◌else◌, refl, sym, ap, subst, ◌∙◌, inl, inr, true≢false}
+use Rattle.std.proofs.Common.{ℕ, ◌≡◌, ◌≤◌, ◌+◌, ◌≢◌, ◌⊎◌, ◌&&◌, Bool, true, false, nat_lt, cond, List, [], ◌∷◌, ◌++◌, drop, Option, None, Some, Result, Ok, Err, if◌then◌else◌, refl, sym, ap, subst, ◌∙◌, inl, inr, true≢false}
 use Rattle.std.specs.List.{AllByRecursion}
 use Rattle.std.specs.Option.{option_map, IfSome, IsSome}
 use Rattle.std.proofs.lemmas.Bool.{and_parts}
@@ -20,11 +20,13 @@ use Rattle.dns_validation.specs.declared.validation.Wanted.{Wanted}
 use Rattle.dns_validation.specs.declared.validation.Wanted.TheVariants.{Reply, Entry}
 use Rattle.dns_validation.proofs.RunLemmas.{takes_on, run_more}
 use Rattle.dns_lookup.specs.Caching.{ServeFrom, MayAdd, EachKept}
-use Rattle.dns_lookup.specs.Driving.{CacheState, served_in, LeftByFront, after_inserts, kept_all, is_repeat, AreMade, ComesFrom, AllComeFrom, IsOn, IsLost, IsStopped, Stops, IsBehind, Wants, ServedTo, LostTo}
+use Rattle.dns_lookup.specs.Driving.{CacheState, Got, asked_in, served_in, LeftByFront, after_inserts, kept_all, is_repeat, AreMade, ComesFrom, AllComeFrom, IsOn, IsLost, IsStopped, Stops, IsBehind, Wants, ServedTo, LostTo}
+use Rattle.dns_lookup.proofs.AskedLemmas.{few_given, kept_asked, taken_asked}
 use Rattle.dns_lookup.proofs.AddLemmas.{run_adds, kept_wider, kept_left, kept_inserted, kept_front}
 use Rattle.dns_lookup.proofs.FirstLemmas.{seeking_still}
 use Rattle.dns_lookup.proofs.FoundFirstLemmas.{GivenFirst, kept_first, taken_first}
 use Rattle.dns_lookup.proofs.KeptFirstLemmas.{all_kept, taken_kept}
+use Rattle.dns_lookup.proofs.GivenLemmas.{kept_gave, puts_got, puts_kept, taken_gave}
 use Rattle.dns_lookup.proofs.HitLemmas.{kept_served, rose_given, taken_served}
 use Rattle.dns_lookup.proofs.ListedLemmas.{hit_each, each_got}
 use Rattle.dns_lookup.proofs.OriginLemmas.{come_inserted}
@@ -65,8 +67,13 @@ on_kept t before sends s now after on left still = record {
   made = tt;
   hits = subst (λ n. RoseBy (served_in (kept_all s)) before.hits n) (sym still)
       (subst (λ n. RoseBy n before.hits now.hits) (sym (kept_served s)) on.hits);
+  few = subst (λ n. n ≤ before.hits + asked_in (kept_all s)) (sym still)
+      (subst (λ n. now.hits ≤ before.hits + n) (sym (kept_asked s)) on.few);
   first = kept_first t before.told now.told after.told s on.first left;
   last = all_kept t s now.told after.told on.last left;
+  out = on.out ++ s.kept;
+  gave = kept_gave t s on.out on.gave;
+  puts = puts_kept t.now before.told now.told after.told on.out s.kept left on.puts;
 }
 
 none_kept : (o : Option CacheList) → option_map (after_inserts []) o ≡ o
@@ -261,7 +268,9 @@ among_by : (t : Terms) (cached : List EntryValue) (s : StateValue) (k : SeekingV
     → IfSome given (λ p. IsGiven (key_of k.so_far.query k.placed.set) now s.made cached p.0)
     → IsAmong t cached s k given
 among_by t cached s k now None h = tt
-among_by t cached s k now (Some p) h = serving_by t k s.made cached now p.0 p.1 (holds_given p.1 t.judge k.placed p.0) h
+among_by t cached s k now (Some p) h =
+    serving_by t k s.made cached now p.0 p.1
+    (key_eq (key_of k.so_far.query k.placed.set) p.0.key && holds_given p.1 t.judge k.placed p.0) h
 
 live_step : (now : ℕ) (e x : EntryValue) (b : Bool) (rest : List EntryValue) → is_live now x ≡ b → is_live now e ≡ true
     → (e ≡ x) ⊎ IsIn e rest
@@ -305,17 +314,6 @@ list_given key now made before cached list (Some p) are come hits is =
     (hit_each (ComesFrom made [] before) key now list p.0 come (sym is))
 
 -- ---- a told cache
-
--- what the call of a cache gave and left
-pub record Got (key : CacheKeyValue) (now : ℕ) (old new : CacheState)
-    (given : Option (EntryValue × Acceptance)) : Type 0 where
-  pub hits : IfSome (option_map (λ p. p.0) given) (λ e. is_hit key now e ≡ true)
-  pub told : IfSome old.told (λ list. option_map (λ p. p.0) given ≡ hit key now list)
-  pub left : new.told ≡ option_map (after_get key now) old.told
-  pub count : new.hits ≡ hits_after old.hits
-      (let r : Result (Option EntryValue) ℕ = Ok (option_map (λ p. p.0) given) in r)
-  pub known : IfSome old.told (λ list. IfSome given (λ p. p.1 ≢ Other))
-  pub listed : IfSome old.told IsCacheList
 
 -- from which entries the run goes on
 record Serves (t : Terms) (before : CacheState) (base : List EntryValue) (sends : List Sent) (s : StateValue)
@@ -428,10 +426,16 @@ module _ (t : Terms) (before : CacheState) (sends : List Sent) where
         made = known.made;
         hits = rose_given (served_in s) (served_in u) before.hits now.hits after.hits given
             (taken_served t s u given taken) on.hits got.count;
+        few = few_given (asked_in s) (asked_in u) before.hits now.hits after.hits given
+            (taken_asked t by.cached sends s u given k w.seeks (seeking_still t by.cached sends s k by.run w.seeks)
+            found_run taken) on.few got.count;
         first = taken_first t by.cached sends before.told now.told after.told s u k given found_run w.seeks first taken
             on.first;
         last = taken_kept t by.cached sends s u after.told given found_run
             (seeking_still t by.cached sends s k by.run w.seeks) taken;
+        out = on.out;
+        gave = taken_gave t by.cached sends s u given on.out found_run taken on.gave;
+        puts = puts_got t.now before.told now.told after.told on.out key got.left on.puts;
       }
 
 pub some_is : {X : Type 0} (o : Option X) (x : X) → o ≡ Some x → IsSome o

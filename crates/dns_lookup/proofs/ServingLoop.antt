@@ -3,7 +3,7 @@ use Rattle.std.proofs.Common.{ℕ, ◌≡◌, ◌⊎◌, ◌<◌, List, [], Opti
 use Rattle.std.specs.Option.{option_map, IsSome}
 use Rattle.dns_rules.specs.CacheKeys.{CacheKeyValue}
 use Rattle.dns_rules.specs.CacheEntries.{EntryValue}
-use Rattle.dns_cache.specs.Caches.{LeftByGet, hits_after}
+use Rattle.dns_cache.specs.Caches.{GivenWith, LeftByGet, hits_after}
 use Rattle.dns_cache.specs.declared.acceptance.Acceptance.{Acceptance}
 use Rattle.dns_validation.specs.Machine.{Terms, StateValue, none_open}
 use Rattle.dns_validation.specs.Runs.{Sent, IsOut, HasTaken}
@@ -11,9 +11,9 @@ use Rattle.dns_validation.specs.Validations.{asking_at, wanted_by, wanted_in}
 use Rattle.dns_validation.specs.declared.validation.Asking.{Asking}
 use Rattle.dns_validation.specs.declared.validation.Wanted.{Wanted}
 use Rattle.dns_validation.specs.declared.validation.Wanted.TheVariants.{Reply, Entry}
-use Rattle.dns_lookup.specs.Driving.{CacheState, LeftByFront, after_inserts, kept_all, IsOn, IsLost, IsBehind, ServesOn}
+use Rattle.dns_lookup.specs.Driving.{CacheState, Got, Handed, NotHanded, LeftByFront, after_inserts, kept_all, IsOn, IsLost, IsBehind, ServesOn}
 use Rattle.dns_lookup.proofs.AddLemmas.{kept_left}
-use Rattle.dns_lookup.proofs.ServeLemmas.{Got, WantsEntry, behind_kept, behind_taken, stopped_of, failed_kept, failed_got, rests_failed, wants_none, wants_reply, wants_entry, rests_kept, rests_none, rests_never, some_is}
+use Rattle.dns_lookup.proofs.ServeLemmas.{WantsEntry, behind_kept, behind_taken, stopped_of, failed_kept, failed_got, rests_failed, wants_none, wants_reply, wants_entry, rests_kept, rests_none, rests_never, some_is}
 use Rattle.dns_lookup.proofs.WorkLemmas.{sets_left, taken_left, out_left}
 
 -- so far
@@ -179,3 +179,27 @@ module _ (t u v : Terms) (first s m n : StateValue) where
       by : WantsEntry s m key → IsOut n ⊎ HasTaken v m given n → sets_left n < sets_left m
       by wants (inl out) = out_left m n wants.seeks.it out wants.seeks.seeks
       by wants (inr h) = taken_left v m n given wants.seeks.it wants.seeks.seeks h
+
+-- ---- what the cache gives is handed on
+
+module _ (t u v w : Terms) (first s m n : StateValue) where
+  pub serving_handed : (may_give : GivenWith → Type 0) (old now after : CacheState) (key : CacheKeyValue) (moment : ℕ)
+      → t.now ≡ moment → Serving t u first s old now → s.kept ≡ [] → Wishes u s m (Some (Entry key)) → v ≡ u → w ≡ v
+      → Handed may_give v key moment now after m n → Serving t w first n old after
+  serving_handed may_give old now after key moment is at rests wishes next found h =
+      serving_told t u v w first s m n old now after key h.given at rests wishes next found
+      (got_at key t.now moment now after h.given is h.got) h.taken
+
+module _ (t u v : Terms) (first s m n : StateValue) where
+  pub handed_fewer : (may_give : GivenWith → Type 0) (old now after : CacheState) (key : CacheKeyValue) (moment : ℕ)
+      → Serving t u first s old now → Wishes u s m (Some (Entry key)) → Handed may_give v key moment now after m n
+      → sets_left n < sets_left s
+  handed_fewer may_give old now after key moment at wishes h =
+      serving_fewer t u v first s m n old now key h.given at wishes h.taken
+
+-- memory ran out before
+pub failed_handing : {E : Type 0} (t u : Terms) (first s m n : StateValue) (old now after : CacheState)
+    (key : CacheKeyValue) (moment : ℕ) (e : E) → Serving t u first s old now → NotHanded key moment now after m n
+    → ServesOn t first old (Err e) n after
+failed_handing t u first s m n old now after key moment e at h =
+    failed_getting t u first s n old now after key moment e at h.left

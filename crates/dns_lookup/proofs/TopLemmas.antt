@@ -21,11 +21,10 @@ use Rattle.dns_validation.specs.Received.{received_message, says_none}
 use Rattle.dns_validation.specs.Steps.{top_of, Findings, trail_of}
 use Rattle.dns_validation.specs.Comes.{top_context}
 use Rattle.dns_validation.proofs.StepLines.{judged_step_holds}
-use Rattle.dns_lookup.specs.Calls.{Call, limits_of_call, ask_of_call, first_ask_of_call}
+use Rattle.dns_lookup.specs.Calls.{Call, limits_of_call, ask_of_call, first_ask_of_call, terms_of_call}
 use Rattle.dns_lookup.specs.Sends.{SendOf, SendsAlong, SendsFrom}
 use Rattle.dns_lookup.specs.LookupAnswers.{IsSoundAnswer, IsTrail, HasMarksOfTrail}
 use Rattle.dns_lookup.specs.Answering.{Found}
-use Rattle.dns_lookup.specs.Fronts.{terms_of_call}
 use Rattle.dns_lookup.specs.LookupParts.{told_of, heard_told}
 use Rattle.dns_lookup.proofs.AlongLemmas.{first_from, first_rose}
 

@@ -138,8 +138,8 @@ found_leaves : (t : Terms) (given : Option (EntryValue × Acceptance)) (o : Opti
     → Leaves s (found_in t given o s)
 found_leaves t given None s = Same refl refl
 found_leaves t given (Some k) s =
-    sought_leaves s (found_by_entry t k (serving t.judge k.placed given) (record s { seeking = None }))
-    (entry_leaves t k (serving t.judge k.placed given) (record s { seeking = None }))
+    sought_leaves s (found_by_entry t k (serving t.judge k.so_far.query k.placed given) (record s { seeking = None }))
+    (entry_leaves t k (serving t.judge k.so_far.query k.placed given) (record s { seeking = None }))
 
 pub known_taken : (before now : Option CacheList) (t : Terms) (s u : StateValue)
     (given : Option (EntryValue × Acceptance)) → HasTaken t s given u → Known before now s
@@ -227,7 +227,7 @@ entry_sends t k (Some e) s =
 found_sends : (t : Terms) (given : Option (EntryValue × Acceptance)) (o : Option SeekingValue) (s : StateValue)
     → (found_in t given o s).sends ≡ s.sends
 found_sends t given None s = refl
-found_sends t given (Some k) s = entry_sends t k (serving t.judge k.placed given) (record s { seeking = None })
+found_sends t given (Some k) s = entry_sends t k (serving t.judge k.so_far.query k.placed given) (record s { seeking = None })
 
 one_longer : {X : Type 0} (xs : List X) (x : X) → length (xs ++ x ∷ []) ≡ length xs + 1
 one_longer [] x = refl

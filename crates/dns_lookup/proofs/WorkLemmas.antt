@@ -143,7 +143,7 @@ found_left : (t : Terms) (given : Option (EntryValue × Acceptance)) (k : Seekin
     → sets_left (found_in t given o s) < sets_left s
 found_left t given k s None is at = cc
 found_left t given k s (Some it) is at =
-    let here = entry_left t it (serving t.judge it.placed given) (record s { seeking = None }) refl in
+    let here = entry_left t it (serving t.judge it.so_far.query it.placed given) (record s { seeking = None }) refl in
     let there = of_sought s it at in
     omega (arith, here, there)
 

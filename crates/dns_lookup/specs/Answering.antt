@@ -19,9 +19,8 @@ use Rattle.dns_validation.specs.Steps.{Findings, judged_answer}
 use Rattle.dns_validation.specs.Machine.{Terms}
 use Rattle.dns_validation.specs.Comes.{IsJudgement, top_context}
 use Rattle.dns_lookup.specs.Caching.{ServeFrom}
-use Rattle.dns_lookup.specs.Calls.{Call, CacheUse, limits_of_call, ask_of_call, first_ask_of_call}
+use Rattle.dns_lookup.specs.Calls.{Call, CacheUse, limits_of_call, ask_of_call, first_ask_of_call, terms_of_call}
 use Rattle.dns_lookup.specs.Sends.{SendsAlong}
-use Rattle.dns_lookup.specs.Fronts.{terms_of_call}
 
 -- the lookup that a validation with these terms makes
 abbrev pub call_by : {H : Type 0} → Terms → CacheUse → H → H → Call H

@@ -1,26 +1,27 @@
 -- What a lookup takes of a cache and leaves in it (RFC 4035, 4.5, 4.7 and 5.3.3).
-use Rattle.std.specs.Prelude.{ℕ, ◌≡◌, ◌≢◌, ◌⊎◌, Bool, true, false, List, [], ◌++◌, Option, None, Some, slice_get}
+use Rattle.std.specs.Prelude.{ℕ, ◌≡◌, ◌≢◌, ◌≤◌, ◌+◌, ◌⊎◌, length, Bool, true, false, List, [], ◌++◌, Option, None, Some, slice_get, ◌∷◌}
 use Rattle.std.specs.List.{AllByRecursion, list_any, count_by, sum_by}
 use Rattle.std.specs.Option.{option_map_or}
 use Rattle.dns_model.specs.declared.trail.MarkOrigin.{MarkOrigin}
-use Rattle.dns_model.specs.declared.trail.MarkOrigin.TheVariants.{Cache}
+use Rattle.dns_model.specs.declared.trail.MarkOrigin.TheVariants.{Table, Repeat, Cache}
 use Rattle.dns_model.specs.Counts.{RoseBy}
 use Rattle.dns_model.specs.Records.{MessageValue}
 use Rattle.dns_model.specs.SoundAnswers.{PlacedSet, Told, placed_sets, told_by}
 use Rattle.dns_model.specs.Trails.{AskedValue, JudgedSetValue}
 use Rattle.dns_rules.specs.Asking.{judged_part}
 use Rattle.dns_rules.specs.CacheEntries.{EntryValue, mark_of, sig_of, is_live, live}
-use Rattle.dns_rules.specs.CacheKeys.{key_of}
+use Rattle.dns_rules.specs.CacheKeys.{CacheKeyValue, key_of}
 use Rattle.dns_rules.specs.Derivation.{top_step, told_in}
 use Rattle.dns_rules.specs.Serving.{may_serve, still_holds}
-use Rattle.dns_cache.specs.CacheLists.{CacheList}
+use Rattle.dns_cache.specs.CacheLists.{CacheList, after_get, after_insert}
 use Rattle.dns_cache.specs.Expiry.{expires_at}
 use Rattle.dns_laws.specs.Complete.{are_secure}
+use Rattle.dns_validation.specs.KeptSets.{AreOfSets, FoundSet, found_sets}
 use Rattle.dns_validation.specs.LastKept.{last_found}
 use Rattle.dns_validation.specs.Received.{Message, received_value}
 use Rattle.dns_validation.specs.Machine.{Terms, StateValue, is_kept}
 use Rattle.dns_validation.specs.Runs.{IsIn, Sent, Run}
-use Rattle.dns_lookup.specs.Calls.{Call}
+use Rattle.dns_lookup.specs.Calls.{Call, terms_of_call}
 
 -- ---- what was kept before a lookup
 
@@ -45,9 +46,19 @@ abbrev pub is_from_cache : MarkOrigin → Bool
 is_from_cache Cache = true
 is_from_cache _ = false
 
--- how many sets of the steps are served from the cache
+-- or by an earlier step of the lookup: its entry was given too
+abbrev pub was_kept : MarkOrigin → Bool
+was_kept Table = false
+was_kept (Repeat n) = true
+was_kept Cache = true
+
+-- how many sets of the steps are served by an entry that the cache gave
 abbrev pub served_sets : List AskedValue → ℕ
-served_sets steps = sum_by (λ step. count_by (λ set. is_from_cache set.origin) step.sets) steps
+served_sets steps = sum_by (λ step. count_by (λ set. was_kept set.origin) step.sets) steps
+
+-- how many sets the steps have: for each of them the cache is asked once
+abbrev pub all_sets : List AskedValue → ℕ
+all_sets steps = sum_by (λ step. length step.sets) steps
 
 -- a cache that tells its entries has one before the call that may serve the set
 abbrev pub is_served : {H : Type 0} → Call H → PlacedSet → Bool
@@ -111,13 +122,39 @@ KeepsLast call trail =
     → top_step trail ≡ Some top → told_in top.reply ≡ Some told → last_found trail (placed_sets told) top.sets ≡ Some (placed, set)
     → IsKeptFirst call placed set list
 
+-- ---- what is put in
+
+-- a cache goes from one list to another by gets, and by the insertion of these entries, in this order
+pub data PutIn (now : ℕ) (from : CacheList) : List EntryValue → CacheList → Type 0 where
+  Rests : (to : CacheList) → to ≡ from → PutIn now from [] to
+  Gets : (entries : List EntryValue) (list to : CacheList) (key : CacheKeyValue) → PutIn now from entries list
+      → to ≡ after_get key now list → PutIn now from entries to
+  Puts : (entries all : List EntryValue) (list to : CacheList) (e : EntryValue) → PutIn now from entries list
+      → all ≡ entries ++ e ∷ [] → to ≡ after_insert e list → PutIn now from all to
+
+-- what was put in was found of these sets, one entry each, in order; what there was no room for then fell out again
+pub record PutsEach (t : Terms) (found : List FoundSet) (from to : CacheList) : Type 0 where
+  pub entries : List EntryValue
+  pub through : PutIn t.now from entries to
+  pub are : AreOfSets t found entries
+
+-- so it is with each set of any step that the rules judged, and not by an ask that failed, in the order of the trail
+abbrev pub PutsAll : {H : Type 0} → Call H → List AskedValue → Type 0
+PutsAll call trail =
+    (from to : CacheList) → call.cache.before ≡ Some from → call.cache.after ≡ Some to
+    → PutsEach (terms_of_call call) (found_sets trail trail) from to
+
 -- ---- all of these
 
 -- how a lookup used the cache, by the trail of its answer
 pub record UsesCache {H : Type 0} (call : Call H) (trail : List AskedValue) : Type 0 where
-  -- at most as many sets are served from it as it was hit
+  -- it was hit at least once for each set that is served, by what was kept before or by what this lookup found, and at most once for each
+  -- set of the trail
   pub hits : RoseBy (served_sets trail) call.cache.hits_before call.cache.hits_after
+  pub few : call.cache.hits_after ≤ call.cache.hits_before + all_sets trail
   -- the first set of the last step is served from it, where an entry may serve
   pub serves : ServesFirst call trail
+  -- each set that the rules judged in any step, and not by an ask that failed, was put in, in the order of the trail
+  pub puts : PutsAll call trail
   -- the last set of the last step of which the rules found anything stands first in it afterwards
   pub keeps : KeepsLast call trail

@@ -18,6 +18,7 @@ use Rattle.dns_cache.specs.declared.validation_cache.ValidationCache as cache
 use Rattle.dns_evidence.specs.declared.limits.IterationLimits.{IterationLimits}
 use Rattle.dns_evidence.specs.declared.verifier.Verifier as verifier
 use Rattle.dns_flow.specs.declared.asks.Ask.{Ask}
+use Rattle.dns_validation.specs.Machine.{Terms}
 use Rattle.dns_validation.specs.Requests.{asking_request, request_for}
 use Rattle.dns_lookup.specs.declared.handle.DnssecDnsHandle.{DnssecDnsHandle}
 
@@ -80,6 +81,18 @@ limits_of_call call = record {
   depth = call.options.max_request_depth;
   soft = call.iterations.soft;
   hard = call.iterations.hard;
+}
+
+-- by what the validation of a call judges and asks
+abbrev pub terms_of_call : {H : Type 0} → Call H → Terms
+terms_of_call call = record {
+  judge = call.judge;
+  query = call.query;
+  request = call.request;
+  options = call.options;
+  iterations = call.iterations;
+  ranges = call.ranges;
+  now = call.now;
 }
 
 -- a call of a validator: it sends its query's own request

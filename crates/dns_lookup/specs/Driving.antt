@@ -1,5 +1,5 @@
 -- For private functions of this crate only: how far a lookup has come along its validation and its cache.
-use Rattle.std.specs.Prelude.{ℕ, ◌+◌, ◌≡◌, ◌⊎◌, slice_get, Bool, true, false, List, [], ◌∷◌, ◌++◌, Option, None, Some, Result, Ok, Err}
+use Rattle.std.specs.Prelude.{ℕ, ◌+◌, ◌≡◌, ◌≢◌, ◌⊎◌, IfSome, IsSome, slice_get, Bool, true, false, List, [], ◌∷◌, ◌++◌, Option, None, Some, Result, Ok, Err, ◌≤◌, length, if◌then◌else◌}
 use Rattle.std.specs.List.{AllByRecursion, count_by, list_any}
 use Rattle.std.specs.Option.{option_map, option_map_or}
 use Rattle.dns_model.specs.Counts.{RoseBy}
@@ -11,16 +11,21 @@ use Rattle.dns_rules.specs.CacheKeys.{CacheKeyValue}
 use Rattle.dns_rules.specs.CacheEntries.{EntryValue, live}
 use Rattle.dns_rules.specs.Derivation.{top_step, told_in}
 use Rattle.dns_rules.specs.Serving.{may_serve}
-use Rattle.dns_cache.specs.CacheLists.{CacheList, has_key, after_insert}
+use Rattle.dns_cache.specs.CacheLists.{CacheList, IsCacheList, has_key, hit, is_hit, after_get, after_insert}
+use Rattle.dns_cache.specs.Caches.{GivenWith, hits_after}
+use Rattle.dns_cache.specs.declared.acceptance.Acceptance.TheVariants.{Other}
 use Rattle.dns_cache.specs.declared.validation_cache.ValidationCache as cache
 use Rattle.dns_handle.specs.Errors.{Reply, Dns, Nsec}
-use Rattle.dns_flow.specs.Phases.{judged_ask}
+use Rattle.dns_flow.specs.Phases.{PhaseValue, Marked, NeedsDs, Trying, AtName, AtZone, Concluded, judged_ask}
+use Rattle.dns_flow.specs.declared.phases.Seeker.{Seeker}
+use Rattle.dns_flow.specs.declared.phases.Seeker.TheVariants.{Set, Ending}
+use Rattle.dns_validation.specs.KeptSets.{AreOfSets, found_sets}
 use Rattle.dns_validation.specs.LastKept.{last_found, IsOfSet}
 use Rattle.dns_validation.specs.Machine.{Terms, SoFar, MadeValue, OpenValue, SeekingValue, StateValue, origin_of}
-use Rattle.dns_validation.specs.Runs.{IsIn, Sent, Run, IsOut, moves}
+use Rattle.dns_validation.specs.Runs.{IsIn, Sent, Run, IsOut, HasTaken, moves}
 use Rattle.dns_validation.specs.Validations.{asking_in}
 use Rattle.dns_validation.specs.declared.validation.Asking.{Asking}
-use Rattle.dns_lookup.specs.Caching.{ServeFrom, EachKept, is_from_cache, served_sets}
+use Rattle.dns_lookup.specs.Caching.{ServeFrom, EachKept, PutIn, all_sets, is_from_cache, served_sets, was_kept}
 use Rattle.dns_lookup.specs.Calls.{CacheUse}
 use Rattle.dns_lookup.specs.LookupAnswers.{OfAnswer}
 
@@ -53,6 +58,34 @@ pub record LeftByFront (kept : List EntryValue) (before after : Option CacheList
 abbrev pub LeftByKeeping : {X E : Type 0} → List EntryValue → Option CacheList → Option CacheList → Result X E → Type 0
 LeftByKeeping kept before after (Ok done) = after ≡ option_map (after_inserts kept) before
 LeftByKeeping kept before after (Err e) = LeftByFront kept before after
+
+-- what the call of a cache gave and left
+pub record Got (key : CacheKeyValue) (now : ℕ) (old new : CacheState) (given : GivenWith) : Type 0 where
+  pub hits : IfSome (option_map (λ p. p.0) given) (λ e. is_hit key now e ≡ true)
+  pub told : IfSome old.told (λ list. option_map (λ p. p.0) given ≡ hit key now list)
+  pub left : new.told ≡ option_map (after_get key now) old.told
+  pub count : new.hits ≡ hits_after old.hits (let r : Result (Option EntryValue) ℕ = Ok (option_map (λ p. p.0) given) in r)
+  pub known : IfSome old.told (λ list. IfSome given (λ p. p.1 ≢ Other))
+  pub listed : IfSome old.told IsCacheList
+
+-- a validation took what the cache gave, with whose acceptance its chain has, and nothing else
+pub record Handed (may_give : GivenWith → Type 0) (t : Terms) (key : CacheKeyValue) (now : ℕ) (old new : CacheState) (s u : StateValue)
+    : Type 0 where
+  pub given : GivenWith
+  pub gives : may_give given
+  pub got : Got key now old new given
+  pub taken : IsSome s.seeking → IsOut u ⊎ HasTaken t s given u
+  pub idle : s.seeking ≡ None → u ≡ s
+
+-- or memory ran out before
+pub record NotHanded (key : CacheKeyValue) (now : ℕ) (old new : CacheState) (s u : StateValue) : Type 0 where
+  pub left : (new.told ≡ old.told) ⊎ (new.told ≡ option_map (after_get key now) old.told)
+  pub same : u ≡ s
+
+abbrev pub HandsOn : {X E : Type 0} → (GivenWith → Type 0) → Terms → CacheKeyValue → ℕ → CacheState → CacheState → StateValue → StateValue
+    → Result X E → Type 0
+HandsOn may_give t key now old new s u (Ok done) = Handed may_give t key now old new s u
+HandsOn may_give t key now old new s u (Err e) = NotHanded key now old new s u
 
 -- nothing is left to be kept
 abbrev pub kept_all : StateValue → StateValue
@@ -89,7 +122,7 @@ AllComeFrom made kept _ _ = Unit {0}
 -- ---- how many sets were served from the cache so far
 
 abbrev pub from_cache : List JudgedSetValue → ℕ
-from_cache sets = count_by (λ set. is_from_cache set.origin) sets
+from_cache sets = count_by (λ set. was_kept set.origin) sets
 
 -- of the open steps, of the step whose set waits, and of an answer
 unfoldable pub open_served : List OpenValue → ℕ
@@ -111,6 +144,43 @@ ended_served (Some reply) = reply_served reply
 
 unfoldable pub served_in : StateValue → ℕ
 served_in s = served_sets s.closed + (sought_served s.seeking + open_served s.steps) + ended_served s.ended
+
+-- ---- for how many sets the cache was asked so far
+
+-- a set that was asked for is at work, and no ending
+unfoldable pub is_set : Seeker → Bool
+is_set (Set placed) = true
+is_set Ending = false
+
+unfoldable pub works : PhaseValue → ℕ
+works (Marked c) = 1
+works (NeedsDs placed) = 1
+works (Trying placed vs) = 1
+works (AtName seeker class name) = if is_set seeker then 1 else 0
+works (AtZone seeker class zone) = if is_set seeker then 1 else 0
+works (Concluded o) = 0
+
+-- those of the open steps, of the step whose set waits, and of an answer
+unfoldable pub open_asked : List OpenValue → ℕ
+open_asked [] = 0
+open_asked (f ∷ outer) = length f.so_far.entries + works f.phase + open_asked outer
+
+unfoldable pub sought_asked : Option SeekingValue → ℕ
+sought_asked None = 0
+sought_asked (Some k) = length k.so_far.entries
+
+unfoldable pub reply_asked : Reply → ℕ
+reply_asked (Ok a) = all_sets a.trail
+reply_asked (Err (Dns (Nsec asked a proof))) = all_sets a.trail
+reply_asked (Err error) = 0
+
+-- those of the answer, or where there is none yet so many
+unfoldable pub asked_by : Option Reply → ℕ → ℕ
+asked_by None n = n
+asked_by (Some reply) n = reply_asked reply
+
+unfoldable pub asked_in : StateValue → ℕ
+asked_in s = asked_by s.ended (all_sets s.closed + (sought_asked s.seeking + open_asked s.steps))
 
 -- ---- the first set
 
@@ -178,6 +248,22 @@ FirstKept t reply kept None = Unit {0}
 FirstKept t reply kept (Some list) =
     (list.capacity ≡ 0 → ⊥) → OfAnswer reply (λ a ending. TopKept t a.trail (front_entry kept list.entries))
 
+-- ---- what is put in
+
+-- what was given out so far, with what is still to be, was found of the sets of the steps that have ended, whatever steps come behind; at the end
+-- of those of the answer's trail
+abbrev pub GaveOf : Terms → Option Reply → List AskedValue → List EntryValue → Type 0
+GaveOf t None closed given = (more : List AskedValue) → AreOfSets t (found_sets (closed ++ more) closed) given
+GaveOf t (Some reply) closed given = OfAnswer reply (λ a ending. AreOfSets t (found_sets a.trail a.trail) given)
+
+abbrev pub HasGiven : Terms → StateValue → List EntryValue → Type 0
+HasGiven t s out = GaveOf t s.ended s.closed (out ++ s.kept)
+
+-- a told cache was given these
+abbrev pub PutsTold : ℕ → Option CacheList → List EntryValue → Option CacheList → Type 0
+PutsTold now (Some from) entries (Some to) = PutIn now from entries to
+PutsTold now _ entries _ = Unit {0}
+
 -- at the end
 abbrev pub LastKept : Terms → StateValue → Option CacheList → Type 0
 LastKept t s now = (reply : Reply) → s.ended ≡ Some reply → FirstKept t reply s.kept now
@@ -194,8 +280,12 @@ pub record IsOn (t : Terms) (before : CacheState) (sends : List Sent) (s : State
   pub come : AllComeFrom s.made s.kept before.told now.told
   pub made : AreMade s.made s.kept
   pub hits : RoseBy (served_in s) before.hits now.hits
+  pub few : now.hits ≤ before.hits + asked_in s
   pub first : FirstServed t before.told s now.told
   pub last : LastKept t s now.told
+  pub out : List EntryValue
+  pub gave : HasGiven t s out
+  pub puts : PutsTold t.now before.told out now.told
 
 -- or memory ran out, behind a run from these entries
 pub record IsLost (t : Terms) (before : CacheState) (cached : List EntryValue) (sends : List Sent) (s : StateValue) (now : CacheState) : Type 0 where

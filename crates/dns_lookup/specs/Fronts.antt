@@ -11,18 +11,6 @@ use Rattle.dns_lookup.specs.Caching.{ServeFrom, EachKept}
 use Rattle.dns_lookup.specs.Calls.{Call, CacheUse, Sending, Asking, Requesting}
 use Rattle.dns_lookup.specs.Sends.{SendsBy}
 
--- by what the validation of a call judges and asks
-abbrev pub terms_of_call : {H : Type 0} → Call H → Terms
-terms_of_call call = record {
-  judge = call.judge;
-  query = call.query;
-  request = call.request;
-  options = call.options;
-  iterations = call.iterations;
-  ranges = call.ranges;
-  now = call.now;
-}
-
 -- a handle made one send of a run, at this moment
 abbrev pub MakesSend : {H : Type 0} → handle.Ghosts H → ℕ → H → Sent → H → Type 0
 MakesSend meanings now from sent to = Sending meanings sent.request (Some sent.ask.query) now from to sent.reply

@@ -1,3 +1,4 @@
+-- What a lookup promises: its call, its sends, its answer, its causes and its cache.
 pub mod Answering
 pub mod Calls
 pub mod Caching

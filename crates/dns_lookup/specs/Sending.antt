@@ -15,13 +15,13 @@ use Rattle.dns_cache.specs.declared.validation_cache.ValidationCache as cache
 use Rattle.dns_evidence.specs.declared.limits.IterationLimits.{IterationLimits}
 use Rattle.dns_evidence.specs.declared.verifier.Verifier as verifier
 use Rattle.dns_validation.specs.Requests.{checked_request}
-use Rattle.dns_lookup.specs.Calls.{Call, CacheUse, use_of, Sending, inner_of, anchors_of, verifier_of, iterations_of, cache_of, ranges_of, ask_of_call, first_ask_of_call}
+use Rattle.dns_lookup.specs.Calls.{Call, CacheUse, use_of, Sending, inner_of, anchors_of, verifier_of, iterations_of, cache_of, ranges_of, ask_of_call, first_ask_of_call, terms_of_call}
 use Rattle.dns_lookup.specs.Caching.{UsesCache}
 use Rattle.dns_lookup.specs.Causes.{HasItsCause, PassesOn, ForeignNamed, AnswersTold}
 use Rattle.dns_lookup.specs.Completing.{Completes}
 use Rattle.dns_lookup.specs.LookupAnswers.{OfAnswer, IsSoundAnswer, IsTrail, IsExplained, ShowsItsDenial, DeniesQuery}
 use Rattle.dns_lookup.specs.Sends.{SendsBy}
-use Rattle.dns_lookup.specs.Fronts.{terms_of_call, IsFront}
+use Rattle.dns_lookup.specs.Fronts.{IsFront}
 use Rattle.dns_lookup.specs.declared.handle.DnssecDnsHandle.{DnssecDnsHandle}
 
 -- ---- a query

@@ -1,15 +1,17 @@
+//! A validator over a handle: how it is made and set, its lookup, and that it is itself a handle.
+
 ghost use Rattle.std.specs.Prelude.{◌≡◌, ◌≤◌, [], IsOk, IfOk, true};
 ghost use Rattle.std.specs.Range.{range_inclusive_start, range_inclusive_end};
 ghost use Rattle.dns_handle.specs.Replies.{reply_of};
 ghost use Rattle.dns_handle.specs.Handles.{OrUnsent};
 ghost use Rattle.dns_lookup.specs.Caching.{UsesCache};
-ghost use Rattle.dns_lookup.specs.Calls.{Asking, use_of};
+ghost use Rattle.dns_lookup.specs.Calls.{Asking, use_of, terms_of_call};
 ghost use Rattle.dns_lookup.specs.Causes.{HasItsCause, PassesOn, ForeignNamed, AnswersTold};
 ghost use Rattle.dns_lookup.specs.Completing.{Completes};
 ghost use Rattle.dns_lookup.specs.Limiting.{default_entries, range_by};
 ghost use Rattle.dns_lookup.specs.LookupAnswers.{UnlessNoMemory, WhereTold, OfAnswer, IsSoundAnswer, IsTrail};
 ghost use Rattle.dns_lookup.specs.LookupAnswers.{IsExplained, ShowsItsDenial, DeniesQuery};
-ghost use Rattle.dns_lookup.specs.Fronts.{terms_of_call, IsFront};
+ghost use Rattle.dns_lookup.specs.Fronts.{IsFront};
 ghost use Rattle.dns_lookup.specs.Sends.{SendsFor};
 
 use crate::lookup::{Bounds, look_up};
@@ -17,11 +19,9 @@ use crate::sending::answer_request;
 use dns_cache::{AcceptedBy, DefaultCache, LruValidationCache, TtlRange, TtlRanges};
 use dns_evidence::{IterationLimits, Verifier};
 use dns_handle::{DnsHandle, DnsRequest, DnsRequestOptions, DnsResponse, NetError, faults_after};
-use dns_name::NoMemory;
-use dns_record::Query;
+use dns_record::{NoMemory, Query};
 use dns_trust::{Judge, TrustAnchors};
 use std::alloc::Global;
-use std::mem;
 use std::ops::RangeInclusive;
 
 /// A validator over a handle (RFC 4035, 5): its answers have marks, and chains for what is Secure.
@@ -68,12 +68,7 @@ impl<H: DnsHandle + Drop, V: Verifier + Drop> DnssecDnsHandle<H, V, DefaultCache
         ensures iterations { IfOk result (λ h. iterations_of h ≡ default_iterations) }
         ensures faults { IfOk result (λ h. faults_of h ≡ 0) }
     {
-        let Ok(cache) = default_cache(alloc) else {
-            drop(handle);
-            drop(anchors);
-            drop(verifier);
-            return Err(NoMemory);
-        };
+        let cache = default_cache(alloc)?;
         DnssecDnsHandle::with_cache(handle, anchors, verifier, cache)
     }
 
@@ -105,11 +100,7 @@ impl<H: DnsHandle + Drop, V: Verifier + Drop> DnssecDnsHandle<H, V, DefaultCache
         }) }
     {
         let mut validator = self;
-        let Ok(cache) = LruValidationCache::new(alloc, capacity) else {
-            drop(validator);
-            return Err(NoMemory);
-        };
-        drop(mem::replace(&mut validator.cache, cache));
+        validator.cache = LruValidationCache::new(alloc, capacity)?;
         validator.ranges = TtlRanges::new();
         Ok(validator)
     }
@@ -288,24 +279,26 @@ impl<H: DnsHandle + Drop, V: Verifier + Drop, C: AcceptedBy<V> + Drop> DnssecDns
         &self.handle
     }
 
+    /// The cache with what was kept, and how often it was hit.
+    pub fn cache(&self) -> &C
+        ensures { result.now ≡ cache_of self.now }
+    {
+        &self.cache
+    }
+
     /// The handle that was asked, handed back.
     pub fn into_inner(self) -> H
         ensures { result ≡ inner_of self }
     {
-        let DnssecDnsHandle {
-            handle,
-            anchors,
-            verifier,
-            cache,
-            ranges: _,
-            iterations: _,
-            sends: _,
-            faults: _,
-        } = self;
-        drop(anchors);
-        drop(verifier);
-        drop(cache);
-        handle
+        self.handle
+    }
+
+    /// The handle that was asked and the cache with what was kept, handed back. So a warm cache outlives its validator.
+    pub fn into_parts(self) -> (H, C)
+        ensures handle { result.0 ≡ inner_of self }
+        ensures cache { result.1 ≡ cache_of self }
+    {
+        (self.handle, self.cache)
     }
 }
 
@@ -371,6 +364,10 @@ impl<H: DnsHandle + Drop, V: Verifier + Drop, C: AcceptedBy<V> + Drop> DnsHandle
         ensures validates { result ≡ true → true ≡ true }
         ensures always { result ≡ true }
     {
+        true
+    }
+
+    fn is_using_edns(&self) -> bool {
         true
     }
 }

@@ -11,15 +11,14 @@ ghost use Rattle.dns_validation.specs.Validations.{terms_by, terms_in, state_of}
 ghost use Rattle.dns_lookup.specs.Answering.{AnswersLookup, call_by};
 ghost use Rattle.dns_lookup.specs.Caching.{UsesCache};
 ghost use Rattle.dns_lookup.specs.Calls.{use_of};
-ghost use Rattle.dns_lookup.specs.Driving.{LeftByKeeping, ServesOn, cache_state, kept_all};
+ghost use Rattle.dns_lookup.specs.Driving.{HandsOn, LeftByKeeping, ServesOn, cache_state, kept_all};
 ghost use Rattle.dns_lookup.specs.Fronts.{IsFront, SendsOfTerms};
 ghost use Rattle.dns_lookup.specs.LookupAnswers.{OfAnswer, UnlessNoMemory};
 
-use dns_cache::{AcceptedBy, TtlRanges, ValidationCache};
+use dns_cache::{AcceptedBy, CacheKey, TtlRanges, ValidationCache};
 use dns_evidence::{IterationLimits, Verifier};
 use dns_handle::{DnsHandle, DnsRequest, DnsRequestOptions, DnsResponse, NetError};
-use dns_name::NoMemory;
-use dns_record::Query;
+use dns_record::{NoMemory, Query};
 use dns_trust::Judge;
 use dns_validation::{Asking, Validation, Wanted};
 use std::alloc::Global;
@@ -63,9 +62,7 @@ pub(crate) fn look_up<H: DnsHandle, V: Verifier, C: AcceptedBy<V>>(
     let now = judge.moment;
     let verifier = judge.verifier;
     let Bounds { iterations, ranges } = bounds;
-    let Ok(validation) = Validation::new(alloc, judge, query, options, iterations, ranges) else {
-        return Err(NetError::NoMemory);
-    };
+    let validation = Validation::new(alloc, judge, query, options, iterations, ranges)?;
     drive(alloc, handle, cache, verifier, validation, now)
 }
 
@@ -101,10 +98,7 @@ pub(crate) fn look_up_by_request<H: DnsHandle, V: Verifier, C: AcceptedBy<V>>(
     let now = judge.moment;
     let verifier = judge.verifier;
     let Bounds { iterations, ranges } = bounds;
-    let made = Validation::by_request(alloc, judge, query, request, iterations, ranges);
-    let Ok(validation) = made else {
-        return Err(NetError::NoMemory);
-    };
+    let validation = Validation::by_request(alloc, judge, query, request, iterations, ranges)?;
     drive(alloc, handle, cache, verifier, validation, now)
 }
 
@@ -134,14 +128,7 @@ fn drive<H: DnsHandle, V: Verifier, C: AcceptedBy<V>>(
         (call_by (terms_in V.answers begun.entry) (use_of C.ValidationCache cache.old cache.new) handle.old handle.new) a.trail) }
 {
     let mut validation = begun;
-    'asks: loop {
-        let Ok(wanted) = serve(alloc, cache, verifier, &mut validation, now) else {
-            drop(validation);
-            return Err(NetError::NoMemory);
-        };
-        let Some(asking) = wanted else {
-            break;
-        };
+    'asks: while let Some(asking) = serve(alloc, cache, verifier, &mut validation, now)? {
         let reply = handle.send(alloc, asking.request, now);
         validation.answer(reply);
     }
@@ -171,13 +158,29 @@ fn serve<V: Verifier, C: AcceptedBy<V>>(
         match validation.next() {
             None => return Ok(None),
             Some(Wanted::Reply(asking)) => return Ok(Some(asking)),
-            Some(Wanted::Entry(key)) => {
-                let given = cache.get_for(alloc, &key, now, verifier);
-                drop(key);
-                validation.found(given?);
-            }
+            Some(Wanted::Entry(key)) => hand_on(alloc, cache, verifier, validation, &key, now)?,
         }
     }
+}
+
+// Hands on to a validation what a cache gives for the key that it wants, and with whose acceptance.
+fn hand_on<V: Verifier, C: AcceptedBy<V>>(
+    alloc: Global,
+    cache: &mut C,
+    verifier: &V,
+    validation: &mut Validation<'_, V>,
+    key: &CacheKey,
+    now: u64,
+) -> Result<(), NoMemory>
+    requires verifier { (terms_in V.answers validation.old).judge.answers ≡ V.answers verifier.now }
+    ensures terms { terms_in V.answers validation.new ≡ terms_in V.answers validation.old }
+    ensures handed { HandsOn (C.may_give cache.old key.now now) (terms_in V.answers validation.old) key.now now
+        (cache_state C.ValidationCache cache.old) (cache_state C.ValidationCache cache.new)
+        (state_of validation.old) (state_of validation.new) result }
+{
+    let given = cache.get_for(alloc, key, now, verifier)?;
+    validation.found(given);
+    Ok(())
 }
 
 // Keeps what a validation gives out.

@@ -11,8 +11,7 @@ use crate::lookup::{Bounds, look_up_by_request};
 use dns_cache::AcceptedBy;
 use dns_evidence::Verifier;
 use dns_handle::{DnsHandle, DnsRequest, DnsResponse, NetError, Notice};
-use dns_name::NoMemory;
-use dns_record::{OpCode, Query};
+use dns_record::{NoMemory, OpCode, Query};
 use dns_trust::Judge;
 use std::alloc::Global;
 
@@ -32,19 +31,8 @@ pub(crate) fn answer_request<H: DnsHandle, V: Verifier, C: AcceptedBy<V>>(
     if !is_query(&request) {
         return handle.send(alloc, request, judge.moment);
     }
-    let asked = match question_of(&request) {
-        Ok(asked) => asked,
-        Err(_) => {
-            drop(request);
-            return Err(NetError::NoMemory);
-        }
-    };
-    let query = match asked {
-        None => {
-            drop(request);
-            return Err(NetError::Message(Notice::NoQueryInRequest));
-        }
-        Some(query) => query,
+    let Some(query) = question_of(&request)? else {
+        return Err(NetError::Message(Notice::NoQueryInRequest));
     };
     look_up_by_request(alloc, judge, handle, cache, query, request, bounds)
 }
@@ -61,8 +49,8 @@ fn question_of(request: &DnsRequest) -> Result<Option<Query>, NoMemory>
     ensures first { IfOk result (λ q. q ≡ first_question request.now) }
     ensures err { IfErr result (λ e. first_question request.now ≢ None) }
 {
-    match request.message.queries.first() {
-        None => Ok(None),
-        Some(query) => Ok(Some(query.try_clone()?)),
-    }
+    let Some(query) = request.message.queries.first() else {
+        return Ok(None);
+    };
+    Ok(Some(query.try_clone()?))
 }

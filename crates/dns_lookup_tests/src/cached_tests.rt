@@ -54,7 +54,6 @@ fn kept_sets_serve_by_their_own_anchors_alone(rt: HostRuntime) {
 fn first_response(rt: &impl Abort, alloc: Global) -> DnsResponse {
     let mut validator = validator_of(rt, alloc, walk_by_ds());
     let answer = ask_scene(rt, alloc, &mut validator, walk_by_ds(), MOMENT);
-    drop(validator.into_inner());
     answer.expect(rt, "an answer")
 }
 
@@ -62,9 +61,7 @@ fn first_response(rt: &impl Abort, alloc: Global) -> DnsResponse {
 // the set anew.
 fn is_served(rt: &impl Abort, alloc: Global, row: &Row, trusts: bool) -> Option<bool> {
     let response = second_response(rt, alloc, row, trusts);
-    let held = is_from_cache(&response);
-    drop(response);
-    held
+    is_from_cache(&response)
 }
 
 // Whether the first set of the last step is served from the cache; None where it repeats a step.
@@ -90,7 +87,6 @@ fn holding(rt: &impl Abort, alloc: Global, row: &Row) -> ListCache {
     if let Some(kept) = &row.1 {
         let response = first_response(rt, alloc);
         let entry = entry_of(rt, alloc, &response, kept);
-        drop(response);
         cache.insert(alloc, entry).expect(rt, "memory");
     }
     cache
@@ -104,7 +100,6 @@ fn second_response(rt: &impl Abort, alloc: Global, row: &Row, trusts: bool) -> D
     let made = DnssecDnsHandle::with_cache(upstream, anchors, verifier, cache);
     let mut validator = made.expect(rt, "a validator");
     let answer = ask_scene(rt, alloc, &mut validator, walk_by_ds(), row.2);
-    drop(validator.into_inner());
     answer.expect(rt, "an answer")
 }
 
@@ -123,10 +118,7 @@ fn is_derivation(rt: &impl Abort, alloc: Global, row: &Row) -> bool {
         hard: IterationLimits::DEFAULT.hard,
     };
     let trail = &response.trail;
-    let held = derives(rt, alloc, walk_by_ds(), row.2, &limits, &all, trail);
-    drop(all);
-    drop(response);
-    held
+    derives(rt, alloc, walk_by_ds(), row.2, &limits, &all, trail)
 }
 
 // Makes of a trail that of a lookup whose one set is served: the last step alone stays.
@@ -158,7 +150,6 @@ fn entry_of(rt: &impl Abort, alloc: Global, response: &DnsResponse, kept: &Kept)
     chain.links.truncate(kept.1);
     let set = set_of(rt, alloc, answers_of(step));
     let key = CacheKey::of(&step.query, &set).expect(rt, "memory");
-    drop(set);
     Entry::new(key, kept.0, Ok(found), Some(chain))
 }
 

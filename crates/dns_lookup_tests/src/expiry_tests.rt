@@ -39,11 +39,7 @@ fn expire_so(rt: &impl Abort, alloc: Global, row: &Row) -> bool {
         moment: MOMENT,
     };
     let left = left_by(rt, alloc, judge, row);
-    let held = left.as_slice() == row.4;
-    drop(left);
-    drop(verifier);
-    drop(anchors);
-    held
+    left.as_slice() == row.4
 }
 
 // Drives such a validation to its end, where nothing is kept: when each entry expires that it gives out.
@@ -66,8 +62,7 @@ fn left_by(rt: &impl Abort, alloc: Global, judge: Judge<'_, Listed>, row: &Row) 
         }
         note(rt, &mut validation, &mut left);
     }
-    drop(upstream);
-    drop(validation.into_answer().expect(rt, "an end"));
+    let _ = validation.into_answer().expect(rt, "an end");
     left
 }
 
@@ -84,7 +79,6 @@ fn goes_on(
             true
         }
         Some(Wanted::Entry(key)) => {
-            drop(key);
             validation.found(None);
             true
         }
@@ -97,7 +91,6 @@ fn note(rt: &impl Abort, validation: &mut Validation<'_, Listed>, left: &mut Vec
         match validation.kept() {
             Some(entry) => {
                 left.push(entry.expires).expect(rt, "memory");
-                drop(entry);
             }
             None => return,
         }

@@ -1,14 +1,13 @@
 //! What a scene gives: who is trusted, an upstream in memory, and lookups over it. Where memory runs out, the test ends.
 use crate::rows::check_held;
-use crate::scenes::{Anchored, Scene};
+use crate::scenes::{Anchored, Recording, Scene};
 use dns_cache::{AcceptedBy, Entry};
 use dns_evidence::{Limits, Listed, Trail, Verifier};
 use dns_handle::{DnsHandle, DnsRequestOptions, DnsResponse, NetError};
 use dns_lookup::DnssecDnsHandle;
 use dns_message::Message;
 use dns_model::Denial;
-use dns_name::{Name, Octets};
-use dns_record::{DNSClass, Query, RecordType};
+use dns_record::{DNSClass, Name, Octets, Query, RecordType};
 use dns_recorded::Recorded;
 use dns_trail::check_trail;
 use dns_trust::TrustAnchors;
@@ -39,15 +38,20 @@ pub(crate) fn anchors_of(rt: &impl Abort, alloc: Global, scene: &Scene) -> Trust
     anchors
 }
 
-/// The verifier that accepts a scene's signatures.
-pub(crate) fn verifier_of(rt: &impl Abort, alloc: Global, scene: &Scene) -> Listed {
-    let mut verifier = Listed::new(alloc);
-    verifier.support(13);
+/// Accepts the signatures of a scene too.
+pub(crate) fn accept_all(rt: &impl Abort, verifier: &mut Listed, scene: &Scene) {
     for given in scene.accepts {
         verifier
             .accept(13, given.0, given.1, given.2)
             .expect(rt, "memory");
     }
+}
+
+/// The verifier that accepts a scene's signatures.
+pub(crate) fn verifier_of(rt: &impl Abort, alloc: Global, scene: &Scene) -> Listed {
+    let mut verifier = Listed::new(alloc);
+    verifier.support(13);
+    accept_all(rt, &mut verifier, scene);
     verifier
 }
 
@@ -90,12 +94,22 @@ pub(crate) fn put_message(
     recorded.push(query, Ok(response)).expect(rt, "memory");
 }
 
+/// Puts replies behind those that were recorded.
+pub(crate) fn put_replies(
+    rt: &impl Abort,
+    alloc: Global,
+    recorded: &mut Recorded,
+    replies: &[Recording],
+) {
+    for given in replies {
+        put_message(rt, alloc, recorded, given.0, given.1, given.2);
+    }
+}
+
 /// An upstream that answers as a scene says.
 pub(crate) fn upstream_of(rt: &impl Abort, alloc: Global, scene: &Scene) -> Recorded {
     let mut recorded = Recorded::new(alloc);
-    for given in scene.replies {
-        put_message(rt, alloc, &mut recorded, given.0, given.1, given.2);
-    }
+    put_replies(rt, alloc, &mut recorded, scene.replies);
     recorded
 }
 
@@ -112,7 +126,16 @@ pub(crate) fn validator_of(
     alloc: Global,
     scene: &Scene,
 ) -> DnssecDnsHandle<Recorded, Listed> {
-    let upstream = upstream_of(rt, alloc, scene);
+    validator_over(rt, alloc, upstream_of(rt, alloc, scene), scene)
+}
+
+/// A validator over an upstream, by what a scene trusts.
+pub(crate) fn validator_over(
+    rt: &impl Abort,
+    alloc: Global,
+    upstream: Recorded,
+    scene: &Scene,
+) -> DnssecDnsHandle<Recorded, Listed> {
     let anchors = anchors_of(rt, alloc, scene);
     let verifier = verifier_of(rt, alloc, scene);
     DnssecDnsHandle::new(alloc, upstream, anchors, verifier).expect(rt, "memory")
@@ -157,7 +180,5 @@ pub(crate) fn derives(
     let anchors = anchors_of(rt, alloc, scene);
     let verifier = verifier_of(rt, alloc, scene);
     let checked = check_trail(alloc, &anchors, &verifier, now, limits, kept, trail);
-    drop(verifier);
-    drop(anchors);
     checked.expect(rt, "memory")
 }

@@ -25,24 +25,20 @@ const ROWS: &[Row] = &[
 fn look_up(rt: &impl Abort, alloc: Global, soft: Option<u16>, hard: Option<u16>) -> Answer {
     let made = validator_of(rt, alloc, hashed());
     let mut limited = made.nsec3_iteration_limits(soft, hard);
-    let answer = ask_scene(rt, alloc, &mut limited, hashed(), MOMENT);
-    drop(limited.into_inner());
-    answer
+    ask_scene(rt, alloc, &mut limited, hashed(), MOMENT)
 }
 
 /// With which mark the denial counts: that of an answer, or of one that is refused.
 fn mark_by(rt: &impl Abort, alloc: Global, row: &Row) -> Option<Proof> {
     let answer = look_up(rt, alloc, row.1, row.2);
-    let mark = match &answer {
+    match &answer {
         Ok(response) => match response.denial {
             Denial::Absent(proof) => Some(proof),
             _ => None,
         },
         Err(NetError::Dns(DnsError::Nsec { proof, .. })) => Some(*proof),
         Err(_) => None,
-    };
-    drop(answer);
-    mark
+    }
 }
 
 #[test]
@@ -63,7 +59,6 @@ fn holds_by_its_own(rt: &impl Abort, alloc: Global) -> bool {
     let response = look_up(rt, alloc, None, None).expect(rt, "an answer");
     let own = derives_by(rt, alloc, &response, 100);
     let less = derives_by(rt, alloc, &response, 99);
-    drop(response);
     own && !less
 }
 

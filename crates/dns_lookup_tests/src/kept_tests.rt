@@ -147,7 +147,6 @@ fn are_so(rt: &impl Abort, alloc: Global, row: &Row) -> bool {
     for lookup in row.3 {
         all = all && is_looked_up(rt, alloc, &mut validator, &row.1, lookup);
     }
-    drop(validator.into_inner());
     all
 }
 
@@ -169,9 +168,7 @@ fn is_looked_up(
         lookup.0,
     );
     let response = answer.expect(rt, "an answer");
-    let held = is_so(&response, lookup);
-    drop(response);
-    held
+    is_so(&response, lookup)
 }
 
 fn is_so(response: &DnsResponse, lookup: &Lookup) -> bool {

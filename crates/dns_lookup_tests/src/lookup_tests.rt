@@ -6,8 +6,7 @@ use dns_evidence::Listed;
 use dns_handle::{DnsError, DnsHandle, DnsRequest, DnsResponse, NetError};
 use dns_lookup::DnssecDnsHandle;
 use dns_model::Proof;
-use dns_name::Octets;
-use dns_record::{Record, RecordType};
+use dns_record::{Octets, Record, RecordType};
 use dns_recorded::Recorded;
 use dns_trust::TrustAnchors;
 use std::alloc::Global;
@@ -47,6 +46,10 @@ impl DnsHandle for Keeping {
     ) -> Result<DnsResponse, NetError> {
         keep(&mut self.kept, &request, now);
         self.replies.send(alloc, request, now)
+    }
+
+    fn is_using_edns(&self) -> bool {
+        true
     }
 }
 
@@ -110,10 +113,7 @@ fn is_sent(rt: &impl Abort, alloc: Global, row: &Asked) -> bool {
     let mut handle = handle_over(rt, alloc, upstream_of(rt, alloc, servers()));
     let answer = ask_scene(rt, alloc, &mut handle, servers(), MOMENT);
     let answered = answer.is_ok();
-    drop(answer);
-    let held = answered && is_kept(handle.inner().kept.as_slice(), row);
-    drop(handle.into_inner());
-    held
+    answered && is_kept(handle.inner().kept.as_slice(), row)
 }
 
 #[test]
@@ -158,10 +158,7 @@ fn is_denied(rt: &impl Abort, alloc: Global) -> bool {
     put_message(rt, alloc, &mut upstream, "b.", RecordType::NS, EXPANDED);
     let mut handle = handle_over(rt, alloc, upstream);
     let answer = ask(rt, alloc, &mut handle, "b.", RecordType::NS, 26, MOMENT);
-    drop(handle.into_inner());
-    let held = is_denial(&answer);
-    drop(answer);
-    held
+    is_denial(&answer)
 }
 
 #[test]

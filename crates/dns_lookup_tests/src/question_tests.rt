@@ -1,12 +1,14 @@
 //! How often a lookup asks its verifier, and how often whoever checks the answer does (RFC 4035, 5.3). Contracts don't see the
 //! verifier's count.
-use crate::given::{MOMENT, anchors_of, ask_scene, upstream_of, verifier_of};
+use crate::given::{Answer, MOMENT, anchors_of, ask, ask_scene, upstream_of, verifier_of};
 use crate::rows::check_held;
-use crate::scenes::{Scene, anchored_beside, one_zone, walk};
+use crate::scenes::{Scene, anchored_beside, one_zone, thirty_sets, walk};
 use dns_chain_check::check_chain;
 use dns_evidence::{Chain, IterationLimits, Limits, Listed, Trail, Verifier};
 use dns_handle::DnsResponse;
 use dns_lookup::DnssecDnsHandle;
+use dns_record::RecordType;
+use dns_recorded::Recorded;
 use dns_trail::check_trail;
 use dns_trust::TrustAnchors;
 use std::alloc::Global;
@@ -44,6 +46,7 @@ enum Given {
     OneZone,
     Walk,
     AnchoredBeside,
+    ThirtySets,
 }
 
 fn scene_of(given: &Given) -> &'static Scene {
@@ -51,22 +54,31 @@ fn scene_of(given: &Given) -> &'static Scene {
         Given::OneZone => one_zone(),
         Given::Walk => walk(),
         Given::AnchoredBeside => anchored_beside(),
+        Given::ThirtySets => thirty_sets(),
     }
 }
 
-/// What is looked up; how often the verifier is asked in the lookup, and in a check of its trail, where what an earlier step found
-/// isn't tested again; and how many signed links its chains have.
-struct Row(&'static str, Given, u32, u32, u32);
+/// What is looked up; how many sends that takes; how often the verifier is asked in the lookup, and as often in a check of its trail; and how
+/// many signed links its chains have.
+struct Row(&'static str, Given, usize, u32, u32);
 
 const ROWS: &[Row] = &[
-    // the first of 9 asks for the keys takes 4 questions, and each other one takes 1, for the chain that was kept; the signatures of the
+    // the first of 9 asks for the keys takes 4 questions, and no other one any, since their chain was accepted then; the signatures of the
     // set take 2, 2 and 1
-    Row("questions of one zone", Given::OneZone, 17, 9, 2),
-    // the first of 2 asks for the keys takes 1 for their DS set and 3 for theirs, and the other one 2 for the chain that was kept; the
-    // signatures of the address take 2 and 1
-    Row("questions of a walk", Given::Walk, 9, 7, 3),
+    Row("questions of one zone", Given::OneZone, 10, 9, 2),
+    // the first of 2 asks for the keys takes 1 for their DS set and 3 for theirs, and the other one none; the signatures of the address
+    // take 2 and 1
+    Row("questions of a walk", Given::Walk, 5, 7, 3),
     // 1 for an anchored key that didn't sign the key set, 1 for the DS set and 1 for the key that it matches
     Row("of an anchored key beside", Given::AnchoredBeside, 3, 3, 2),
+    // the first of 30 asks for the keys takes 1 for the root's key set and 1 for each of 12 DS sets, and no other one any; each set takes 1
+    Row(
+        "thirty sets below twelve zones",
+        Given::ThirtySets,
+        55,
+        43,
+        420,
+    ),
 ];
 
 /// The answer to a scene's query by a verifier that counts.
@@ -81,7 +93,6 @@ fn look_up(
     let made = DnssecDnsHandle::new(alloc, upstream, anchors, verifier);
     let mut validator = made.expect(rt, "memory");
     let answer = ask_scene(rt, alloc, &mut validator, scene, MOMENT);
-    drop(validator.into_inner());
     answer.expect(rt, "an answer")
 }
 
@@ -117,13 +128,14 @@ fn is_derived(
     check_trail(alloc, anchors, verifier, MOMENT, &limits, &[], trail).expect(rt, "memory")
 }
 
-/// The lookup asks as often as the row says, a check of the chains once for each signed link, and one of the trail as the row says.
+/// The lookup sends and asks as often as the row says, a check of the chains once for each signed link, and one of the trail as often as
+/// the lookup.
 fn asks_so(rt: &impl Abort, alloc: Global, listed: &Listed, row: &Row) -> bool {
     let asked = Cell::new(0);
     let (questions, scene) = (&asked, scene_of(&row.1));
     let anchors = anchors_of(rt, alloc, scene);
     let response = look_up(rt, alloc, scene, anchors, Counting { listed, questions });
-    let by_lookup = questions.get() == row.2;
+    let by_lookup = response.trail.steps.len() == row.2 && questions.get() == row.3;
     let anchors = anchors_of(rt, alloc, scene);
     let verifier = &Counting { listed, questions };
     questions.set(0);
@@ -132,8 +144,6 @@ fn asks_so(rt: &impl Abort, alloc: Global, listed: &Listed, row: &Row) -> bool {
     questions.set(0);
     let derived = is_derived(rt, alloc, &anchors, verifier, &response.trail);
     let by_trail = derived && questions.get() == row.3;
-    drop(anchors);
-    drop(response);
     by_lookup && by_chains && by_trail
 }
 
@@ -142,7 +152,63 @@ fn the_verifier_is_asked_no_more_often_than_the_rules_ask_it(rt: HostRuntime) {
     for row in ROWS {
         let listed = verifier_of(&rt, rt.alloc(), scene_of(&row.1));
         let held = asks_so(&rt, rt.alloc(), &listed, row);
-        drop(listed);
         check_held(&rt, row.0, held);
     }
+}
+
+/// The name of the zone of the thirty sets.
+const LAST_ZONE: &str = "z.z.z.z.z.z.z.z.z.z.z.z.";
+
+/// A validator that counts, over the upstream and the cache of one that has looked up a zone's keys.
+fn warm<'a>(
+    rt: &impl Abort,
+    alloc: Global,
+    scene: &Scene,
+    listed: &'a Listed,
+    questions: &'a Cell<u32>,
+) -> DnssecDnsHandle<Recorded, Counting<'a>> {
+    let upstream = upstream_of(rt, alloc, scene);
+    let made = DnssecDnsHandle::new(
+        alloc,
+        upstream,
+        anchors_of(rt, alloc, scene),
+        Counting { listed, questions },
+    );
+    let mut first = made.expect(rt, "memory");
+    let keys = ask(
+        rt,
+        alloc,
+        &mut first,
+        LAST_ZONE,
+        RecordType::DNSKEY,
+        26,
+        MOMENT,
+    );
+    keys.expect(rt, "the keys");
+    let (upstream, cache) = first.into_parts();
+    let anchors = anchors_of(rt, alloc, scene);
+    DnssecDnsHandle::with_cache(upstream, anchors, Counting { listed, questions }, cache).expect(
+        rt, "memory",
+    )
+}
+
+/// How many steps the trail of an answer has.
+fn sends_of(rt: &impl Abort, answer: Answer) -> usize {
+    answer.expect(rt, "an answer").trail.steps.len()
+}
+
+#[test]
+fn a_kept_chain_is_put_to_the_verifier_once_however_often_it_serves(rt: HostRuntime) {
+    let (alloc, scene) = (rt.alloc(), thirty_sets());
+    let listed = verifier_of(&rt, alloc, scene);
+    let questions = Cell::new(0);
+    let mut validator = warm(&rt, alloc, scene, &listed, &questions);
+    check_held(&rt, "the walk", questions.get() == 13);
+    questions.set(0);
+    let answer = ask_scene(&rt, alloc, &mut validator, scene, MOMENT);
+    // the query, and 30 asks for the keys: each is a hit, and the first one takes the 13 questions of the chain that was kept
+    let held = sends_of(&rt, answer) == 31
+        && questions.get() == 43
+        && validator.cache().hits() == 30;
+    check_held(&rt, "a warm cache", held);
 }

@@ -57,10 +57,7 @@ fn is_sent(rt: &impl Abort, alloc: Global, row: &Sent) -> bool {
         original: None,
     };
     let answer = validator.send(alloc, request, MOMENT);
-    let held = is_refused(&answer, validator.inner().kept.as_slice(), row.sent);
-    drop(answer);
-    drop(validator.into_inner());
-    held
+    is_refused(&answer, validator.inner().kept.as_slice(), row.sent)
 }
 
 #[test]

@@ -35,9 +35,7 @@ fn end_so(rt: &impl Abort, alloc: Global, replies: Recorded, ends: &[bool]) -> b
     for has_keys in ends {
         let answer = ask(rt, alloc, &mut handle, ".", RecordType::DNSKEY, 26, MOMENT);
         held = held && is_end(&answer, *has_keys);
-        drop(answer);
     }
-    drop(handle.into_inner());
     held
 }
 

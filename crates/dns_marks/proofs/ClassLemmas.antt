@@ -68,18 +68,23 @@ first_kept : (class : ℕ) (own : Rr → Bool) (rs : List Rr)
     → option_map_or (λ f. class == f.class) (find own (of_class class rs)) false ≡ list_any (λ r. (class == r.class) && own r) rs
 first_kept class own [] = refl
 first_kept class own (r ∷ rs) =
-    first_step (class == r.class) (own r) class own r (of_class class rs) (list_any (λ r. (class == r.class) && own r) rs) refl refl (first_kept class own rs)
+    first_step (class == r.class) (own r) class own r (of_class class rs) (list_any (λ r. (class == r.class) && own r) rs)
+    refl refl (first_kept class own rs)
 
-ds_in_class : (verifier : VerifierAnswers) (class : ℕ) (name : Labels) (rs : List Rr) → by_own_ds verifier name (of_class class rs) ≡ by_ds verifier class name rs
+ds_in_class : (verifier : VerifierAnswers) (class : ℕ) (name : Labels) (rs : List Rr)
+    → by_own_ds verifier name (of_class class rs) ≡ by_ds verifier class name rs
 ds_in_class verifier class name rs =
     let kept = λ (r : Rr). class == r.class in
     let own = is_own_record name type_ds in
     let some = filter (λ r. own r && is_supported_ds verifier r) (filter kept rs) in
     let readable = list_any (λ r. own r && is_readable_ds r) (filter kept rs) in
-    ap (λ b. if b then by_supported name readable some else Bogus (DsRecordShouldExist name)) (all_kept kept own (λ r. is_secure r.proof) rs)
-    ∙ ap (λ b. if are_secure_in_set class name type_ds rs then by_supported name b some else Bogus (DsRecordShouldExist name)) (any_kept kept own is_readable_ds rs)
+    ap (λ b. if b then by_supported name readable some else Bogus (DsRecordShouldExist name))
+    (all_kept kept own (λ r. is_secure r.proof) rs)
+    ∙ ap (λ b. if are_secure_in_set class name type_ds rs then by_supported name b some else Bogus (DsRecordShouldExist name))
+    (any_kept kept own is_readable_ds rs)
     ∙ ap (λ ds. if are_secure_in_set class name type_ds rs
-    then by_supported name (list_any (λ r. is_record_of class name type_ds r && is_readable_ds r) rs) ds else Bogus (DsRecordShouldExist name))
+    then by_supported name (list_any (λ r. is_record_of class name type_ds r && is_readable_ds r) rs) ds
+    else Bogus (DsRecordShouldExist name))
     (filter_kept kept own (is_supported_ds verifier) rs)
 
 -- ---- without one
@@ -103,7 +108,8 @@ without_in_class : (class : ℕ) (name : Labels) (m : MessageValue) → without_
 without_in_class class name m =
     let hashed = hashes_show_no_ds class name m.authorities in
     let by = λ (b : Bool). if b then Insecure (DsResponseInsecure name) else Bogus (DsRecordShouldExist name) in
-    ap (λ b. by (b || (hashed || list_any (is_insecure_own name) (all_records (in_class class m))))) (nsec_in_class class name m.authorities)
+    ap (λ b. by (b || (hashed || list_any (is_insecure_own name) (all_records (in_class class m)))))
+    (nsec_in_class class name m.authorities)
     ∙ ap (λ b. by (authority_shows_no_ds class name m.authorities || (hashed || b))) (insecure_in_class class name m)
 
 -- ---- the verdict
@@ -113,7 +119,8 @@ message_in_class : (verifier : VerifierAnswers) (class : ℕ) (name : Labels) (m
 message_in_class verifier class name m =
     ap (λ b. if b then by_own_ds verifier name (of_class class m.answers) else without_own_ds name (in_class class m))
     (first_kept class (is_own_record name type_ds) m.answers)
-    ∙ ap (λ v. if has_ds_set class name m.answers then v else without_own_ds name (in_class class m)) (ds_in_class verifier class name m.answers)
+    ∙ ap (λ v. if has_ds_set class name m.answers then v else without_own_ds name (in_class class m))
+    (ds_in_class verifier class name m.answers)
     ∙ ap (λ v. if has_ds_set class name m.answers then by_ds verifier class name m.answers else v) (without_in_class class name m)
 
 -- the DS verdict of a zone by the records of its class

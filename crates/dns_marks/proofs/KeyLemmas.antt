@@ -34,13 +34,16 @@ pub record AllFrom (test : Rr → Bool) (keys : List (Bor Rr)) (i : ℕ) : Type 
 pub all_first : (test : Rr → Bool) (keys : List (Bor Rr)) → AllFrom test keys 0
 all_first test keys = record { left = refl }
 
-pub all_more : (test : Rr → Bool) (keys : List (Bor Rr)) (i : ℕ) (key : Bor Rr) → i < length keys → key ≡ slice_index_or keys i key → AllFrom test keys i
+pub all_more : (test : Rr → Bool) (keys : List (Bor Rr)) (i : ℕ) (key : Bor Rr) → i < length keys
+    → key ≡ slice_index_or keys i key → AllFrom test keys i
     → test key.now ≡ true → AllFrom test keys (i + 1)
 all_more test keys i key h is a passes = record {
-  left = sym (ap (λ b. b && list_all test (shown (drop (i + 1) keys))) passes) ∙ sym (ap (list_all test) (shown_from keys i key h is)) ∙ a.left;
+  left = sym (ap (λ b. b && list_all test (shown (drop (i + 1) keys))) passes)
+      ∙ sym (ap (list_all test) (shown_from keys i key h is)) ∙ a.left;
 }
 
-pub all_fail : (test : Rr → Bool) (keys : List (Bor Rr)) (i : ℕ) (key : Bor Rr) → i < length keys → key ≡ slice_index_or keys i key → AllFrom test keys i
+pub all_fail : (test : Rr → Bool) (keys : List (Bor Rr)) (i : ℕ) (key : Bor Rr) → i < length keys
+    → key ≡ slice_index_or keys i key → AllFrom test keys i
     → test key.now ≡ false → list_all test (shown keys) ≡ false
 all_fail test keys i key h is a fails =
     sym a.left ∙ ap (list_all test) (shown_from keys i key h is) ∙ ap (λ b. b && list_all test (shown (drop (i + 1) keys))) fails
@@ -64,7 +67,8 @@ pub record InTurn (verifier : VerifierAnswers) (now : ℕ) (set : RrSet) (r : Rr
   pub searched : list_any (is_proving verifier now set r) (shown (drop i keys)) ≡ list_any (is_proving verifier now set r) (shown keys)
   pub counted : steps + calls_in_turn verifier now set r (shown (drop i keys)) ≡ before + calls_in_turn verifier now set r (shown keys)
 
-pub first_turn : (verifier : VerifierAnswers) (now : ℕ) (set : RrSet) (r : Rr) (keys : List (Bor Rr)) (before : ℕ) → InTurn verifier now set r keys 0 before before
+pub first_turn : (verifier : VerifierAnswers) (now : ℕ) (set : RrSet) (r : Rr) (keys : List (Bor Rr)) (before : ℕ)
+    → InTurn verifier now set r keys 0 before before
 first_turn verifier now set r keys before = record { searched = refl; counted = refl }
 
 pub turn_of : (verifier : VerifierAnswers) (now : ℕ) (set : RrSet) (r key : Rr) (keys : List Rr)
@@ -78,9 +82,11 @@ unfolding calls_in_turn
 none_of verifier now set r = refl
 
 -- the calls from a place on
-calls_from : (verifier : VerifierAnswers) (now : ℕ) (set : RrSet) (r : Rr) (keys : List (Bor Rr)) (i : ℕ) (key : Bor Rr) → i < length keys → key ≡ slice_index_or keys i key
+calls_from : (verifier : VerifierAnswers) (now : ℕ) (set : RrSet) (r : Rr) (keys : List (Bor Rr)) (i : ℕ) (key : Bor Rr)
+    → i < length keys → key ≡ slice_index_or keys i key
     → calls_in_turn verifier now set r (shown (drop i keys))
-    ≡ (if is_proving verifier now set r key.now then 1 else calls_by_key verifier now set r key.now + calls_in_turn verifier now set r (shown (drop (i + 1) keys)))
+    ≡ (if is_proving verifier now set r key.now then 1
+    else calls_by_key verifier now set r key.now + calls_in_turn verifier now set r (shown (drop (i + 1) keys)))
 calls_from verifier now set r keys i key h is =
     ap (calls_in_turn verifier now set r) (shown_from keys i key h is) ∙ turn_of verifier now set r key.now (shown (drop (i + 1) keys))
 
@@ -89,13 +95,16 @@ any_from : (test : Rr → Bool) (keys : List (Bor Rr)) (i : ℕ) (key : Bor Rr) 
 any_from test keys i key h is = ap (list_any test) (shown_from keys i key h is)
 
 -- a key that proves nothing is passed over
-pub next_turn : (verifier : VerifierAnswers) (now : ℕ) (set : RrSet) (r : Rr) (keys : List (Bor Rr)) (i before steps more : ℕ) (key : Bor Rr) → i < length keys
+pub next_turn : (verifier : VerifierAnswers) (now : ℕ) (set : RrSet) (r : Rr) (keys : List (Bor Rr)) (i before steps more : ℕ)
+    (key : Bor Rr) → i < length keys
     → key ≡ slice_index_or keys i key → InTurn verifier now set r keys i before steps → is_proving verifier now set r key.now ≡ false
     → more ≡ steps + calls_by_key verifier now set r key.now → InTurn verifier now set r keys (i + 1) before more
 next_turn verifier now set r keys i before steps more key h is t fails counted =
-    let calls : calls_in_turn verifier now set r (shown (drop i keys)) ≡ calls_by_key verifier now set r key.now + calls_in_turn verifier now set r (shown (drop (i + 1) keys)) =
+    let calls : calls_in_turn verifier now set r (shown (drop i keys))
+    ≡ calls_by_key verifier now set r key.now + calls_in_turn verifier now set r (shown (drop (i + 1) keys)) =
     calls_from verifier now set r keys i key h is
-    ∙ ap (λ b. if b then 1 else calls_by_key verifier now set r key.now + calls_in_turn verifier now set r (shown (drop (i + 1) keys))) fails in
+    ∙ ap (λ b. if b then 1 else calls_by_key verifier now set r key.now + calls_in_turn verifier now set r (shown (drop (i + 1) keys)))
+    fails in
     record {
       searched = sym (any_from (is_proving verifier now set r) keys i key h is
           ∙ ap (λ b. b || list_any (is_proving verifier now set r) (shown (drop (i + 1) keys))) fails) ∙ t.searched;
@@ -107,23 +116,28 @@ put_case proves true h good = refl
 put_case proves false h good = let e : true ≡ false = sym good ∙ h refl in cc
 
 -- a key that proves the set was asked for
-one_call : (verifier : VerifierAnswers) (now : ℕ) (set : RrSet) (r key : Rr) → is_proving verifier now set r key ≡ true → calls_by_key verifier now set r key ≡ 1
-one_call verifier now set r key good = put_case (is_proving verifier now set r key) (is_put verifier now set r key) (unput verifier now set r key) good
+one_call : (verifier : VerifierAnswers) (now : ℕ) (set : RrSet) (r key : Rr) → is_proving verifier now set r key ≡ true
+    → calls_by_key verifier now set r key ≡ 1
+one_call verifier now set r key good =
+    put_case (is_proving verifier now set r key) (is_put verifier now set r key) (unput verifier now set r key) good
 
-pub found_turn : (verifier : VerifierAnswers) (now : ℕ) (set : RrSet) (r : Rr) (keys : List (Bor Rr)) (i before steps : ℕ) (key : Bor Rr) → i < length keys
+pub found_turn : (verifier : VerifierAnswers) (now : ℕ) (set : RrSet) (r : Rr) (keys : List (Bor Rr)) (i before steps : ℕ) (key : Bor Rr)
+    → i < length keys
     → key ≡ slice_index_or keys i key → InTurn verifier now set r keys i before steps → is_proving verifier now set r key.now ≡ true
     → list_any (is_proving verifier now set r) (shown keys) ≡ true
 found_turn verifier now set r keys i before steps key h is t good =
     sym t.searched ∙ any_from (is_proving verifier now set r) keys i key h is
     ∙ ap (λ b. b || list_any (is_proving verifier now set r) (shown (drop (i + 1) keys))) good
 
-pub found_calls : (verifier : VerifierAnswers) (now : ℕ) (set : RrSet) (r : Rr) (keys : List (Bor Rr)) (i before steps more : ℕ) (key : Bor Rr) → i < length keys
+pub found_calls : (verifier : VerifierAnswers) (now : ℕ) (set : RrSet) (r : Rr) (keys : List (Bor Rr)) (i before steps more : ℕ)
+    (key : Bor Rr) → i < length keys
     → key ≡ slice_index_or keys i key → InTurn verifier now set r keys i before steps → is_proving verifier now set r key.now ≡ true
     → more ≡ steps + calls_by_key verifier now set r key.now → more ≡ before + calls_in_turn verifier now set r (shown keys)
 found_calls verifier now set r keys i before steps more key h is t good counted =
     let calls : calls_in_turn verifier now set r (shown (drop i keys)) ≡ 1 =
     calls_from verifier now set r keys i key h is
-    ∙ ap (λ b. if b then 1 else calls_by_key verifier now set r key.now + calls_in_turn verifier now set r (shown (drop (i + 1) keys))) good in
+    ∙ ap (λ b. if b then 1 else calls_by_key verifier now set r key.now + calls_in_turn verifier now set r (shown (drop (i + 1) keys)))
+    good in
     let one : calls_by_key verifier now set r key.now ≡ 1 = one_call verifier now set r key.now good in
     omega (arith, calls, one, t.counted, counted)
 
@@ -133,13 +147,16 @@ most_case true false rest = omega arith
 most_case false put rest = omega arith
 
 -- a call that memory cuts short is one of those
-pub cut_turn : (verifier : VerifierAnswers) (now : ℕ) (set : RrSet) (r : Rr) (keys : List (Bor Rr)) (i before steps more : ℕ) (key : Bor Rr) → i < length keys
-    → key ≡ slice_index_or keys i key → InTurn verifier now set r keys i before steps → more ≤ steps + calls_by_key verifier now set r key.now
+pub cut_turn : (verifier : VerifierAnswers) (now : ℕ) (set : RrSet) (r : Rr) (keys : List (Bor Rr)) (i before steps more : ℕ)
+    (key : Bor Rr) → i < length keys
+    → key ≡ slice_index_or keys i key → InTurn verifier now set r keys i before steps
+    → more ≤ steps + calls_by_key verifier now set r key.now
     → more ≤ before + calls_in_turn verifier now set r (shown keys)
 cut_turn verifier now set r keys i before steps more key h is t most =
     let calls = calls_from verifier now set r keys i key h is in
     let least : calls_by_key verifier now set r key.now ≤ calls_in_turn verifier now set r (shown (drop i keys)) =
-    rw calls (most_case (is_proving verifier now set r key.now) (is_put verifier now set r key.now) (calls_in_turn verifier now set r (shown (drop (i + 1) keys)))) in
+    rw calls (most_case (is_proving verifier now set r key.now) (is_put verifier now set r key.now)
+    (calls_in_turn verifier now set r (shown (drop (i + 1) keys)))) in
     omega (arith, least, t.counted, most)
 
 pub last_turn : (verifier : VerifierAnswers) (now : ℕ) (set : RrSet) (r : Rr) (keys : List (Bor Rr)) (i before steps : ℕ) → length keys ≤ i
@@ -156,7 +173,8 @@ last_calls verifier now set r keys i before steps h t =
 
 -- ---- the rows of a key set
 
-row_case : (set : RrSet) (signed : Option SignedKeys) (whole root : Bool) (last own : KeysOutcome) (mark : Proof) (kind : ProofErrorKindValue)
+row_case : (set : RrSet) (signed : Option SignedKeys) (whole root : Bool) (last own : KeysOutcome) (mark : Proof)
+    (kind : ProofErrorKindValue)
     → own ≡ option_map_or SignedByAnchored signed (if whole then WhollyAnchored else if root then Refused mark kind else NeedsDs)
     → is_needing_ds own ≡ false
     → option_map_or SignedByAnchored signed (if whole then WhollyAnchored else if root then Refused mark kind else last) ≡ own
@@ -166,9 +184,11 @@ row_case set None false true last own mark kind is decided = sym is
 row_case set None false false last own mark kind is decided = let e : true ≡ false = sym (ap is_needing_ds is) ∙ decided in cc
 
 -- a row that decides without the DS verdict of the owner decides with it
-pub by_row : (j : Judge) (set : RrSet) (zone : Option ZoneVerdict) (own : KeysOutcome) → own ≡ keys_outcome j set None → is_needing_ds own ≡ false
+pub by_row : (j : Judge) (set : RrSet) (zone : Option ZoneVerdict) (own : KeysOutcome) → own ≡ keys_outcome j set None
+    → is_needing_ds own ≡ false
     → keys_outcome j set zone ≡ own
 unfolding keys_outcome
 by_row j set zone own is decided =
-    row_case set (signed_by (is_anchored_key j set) j set) (list_all (is_anchored_key j set) set.records) (is_root set.owner) (outcome_by_verdict j set zone) own
+    row_case set (signed_by (is_anchored_key j set) j set) (list_all (is_anchored_key j set) set.records) (is_root set.owner)
+    (outcome_by_verdict j set zone) own
     proof.Bogus (DnskeyNotFound set.owner) is decided

@@ -41,8 +41,10 @@ none_apart : (kind passes : Rr → Bool) → IsKind kind → (r : Rr) → kind r
     → find (λ s. kind s && passes s) (filter (λ s. not (same_set r s)) xs) ≡ None
 none_apart kind passes is r of_kind [] = refl
 none_apart kind passes is r of_kind (x ∷ xs) =
-    none_step (same_set r x) (kind x) (passes x) x (filter (λ s. not (same_set r s)) xs) (find (λ s. kind s && passes s)) (is.within r x of_kind)
-    (none_apart kind passes is r of_kind xs) (λ p h. ap (λ b. cond b (Some x) (find (λ s. kind s && passes s) (filter (λ s. not (same_set r s)) xs))) (sym h))
+    none_step (same_set r x) (kind x) (passes x) x (filter (λ s. not (same_set r s)) xs) (find (λ s. kind s && passes s))
+    (is.within r x of_kind)
+    (none_apart kind passes is r of_kind xs)
+    (λ p h. ap (λ b. cond b (Some x) (find (λ s. kind s && passes s) (filter (λ s. not (same_set r s)) xs))) (sym h))
 
 same_step : (same own passes : Bool) (r : Rr) (rest all : List Rr) (found : List Rr → Option Rr) → (own ≡ true → same ≡ false)
     → found rest ≡ found all
@@ -59,7 +61,8 @@ same_apart : (kind passes : Rr → Bool) → IsKind kind → (r : Rr) → kind r
     → find (λ s. kind s && passes s) (filter (λ s. not (same_set r s)) xs) ≡ find (λ s. kind s && passes s) xs
 same_apart kind passes is r other [] = refl
 same_apart kind passes is r other (x ∷ xs) =
-    same_step (same_set r x) (kind x) (passes x) x (filter (λ s. not (same_set r s)) xs) xs (find (λ s. kind s && passes s)) (is.apart r x other)
+    same_step (same_set r x) (kind x) (passes x) x (filter (λ s. not (same_set r s)) xs) xs (find (λ s. kind s && passes s))
+    (is.apart r x other)
     (same_apart kind passes is r other xs) (λ ys. refl)
 
 lead_step : (own passes : Bool) (r : Rr) (apart rest first : Option Rr) → (own ≡ true → apart ≡ None) → (own ≡ false → apart ≡ rest)
@@ -79,7 +82,8 @@ lead_first : (kind passes : Rr → Bool) → IsKind kind → (xs : List Rr)
 unfolding leaders kept
 lead_first kind passes is [] = refl
 lead_first kind passes is (x ∷ xs) =
-    lead_step (kind x) (passes x) x (find (λ s. kind s && passes s) (filter (λ s. not (same_set x s)) (leaders xs))) (kept passes (find kind xs)) None
+    lead_step (kind x) (passes x) x (find (λ s. kind s && passes s) (filter (λ s. not (same_set x s)) (leaders xs)))
+    (kept passes (find kind xs)) None
     (λ h. none_apart kind passes is x h (leaders xs)) (λ h. same_apart kind passes is x h (leaders xs) ∙ lead_first kind passes is xs)
     ∙ kept_step passes (kind x) x (find kind xs)
 
@@ -107,7 +111,8 @@ plain_step true false r rest find_own all plain same head = let e : false ≡ tr
 plain_step false true r rest find_own all plain same head = head rest ∙ same
 plain_step false false r rest find_own all plain same head = same
 
-own_plain : (name : Labels) (rtype : ℕ) → (rtype == type_rrsig) ≡ false → (r : Rr) → is_own_record name rtype r ≡ true → not (is_signature r) ≡ true
+own_plain : (name : Labels) (rtype : ℕ) → (rtype == type_rrsig) ≡ false → (r : Rr) → is_own_record name rtype r ≡ true
+    → not (is_signature r) ≡ true
 own_plain name rtype other r h =
     let parts : (name_eq name r.owner ≡ true) × ((r.rtype == rtype) ≡ true) = and_parts _ _ h in
     ap (λ t. not (t == type_rrsig)) (number_same r.rtype rtype parts.1) ∙ ap not other
@@ -116,11 +121,13 @@ find_unsigned : (name : Labels) (rtype : ℕ) → (rtype == type_rrsig) ≡ fals
     → find (is_own_record name rtype) (unsigned_part xs) ≡ find (is_own_record name rtype) xs
 find_unsigned name rtype other [] = refl
 find_unsigned name rtype other (x ∷ xs) =
-    plain_step (is_own_record name rtype x) (not (is_signature x)) x (unsigned_part xs) (find (is_own_record name rtype)) (find (is_own_record name rtype) xs)
+    plain_step (is_own_record name rtype x) (not (is_signature x)) x (unsigned_part xs) (find (is_own_record name rtype))
+    (find (is_own_record name rtype) xs)
     (own_plain name rtype other x) (find_unsigned name rtype other xs) (λ ys. refl)
 
 -- the set that is found is that of the first record of the kind, where that passes
-pub find_set : (name : Labels) (rtype : ℕ) → (rtype == type_rrsig) ≡ false → (section : Section) (records : List Rr) (test : MarkedSet → Bool) (passes : Rr → Bool)
+pub find_set : (name : Labels) (rtype : ℕ) → (rtype == type_rrsig) ≡ false
+    → (section : Section) (records : List Rr) (test : MarkedSet → Bool) (passes : Rr → Bool)
     → ((r : Rr) → test (marked_set section (set_of records r)) ≡ (is_own_record name rtype r && passes r))
     → find test (marked_sets section records)
     ≡ option_map (λ r. marked_set section (set_of records r)) (kept passes (find (is_own_record name rtype) records))
@@ -129,7 +136,8 @@ find_set name rtype other section records test passes agree =
     ap (find test) (map-map (marked_set section) (set_of records) (leaders (unsigned_part records)))
     ∙ find-map test (λ r. marked_set section (set_of records r)) (leaders (unsigned_part records))
     ∙ ap (option_map (λ r. marked_set section (set_of records r)))
-    (find_agree (λ r. test (marked_set section (set_of records r))) (λ r. is_own_record name rtype r && passes r) agree (leaders (unsigned_part records)))
+    (find_agree (λ r. test (marked_set section (set_of records r))) (λ r. is_own_record name rtype r
+    && passes r) agree (leaders (unsigned_part records)))
     ∙ ap (option_map (λ r. marked_set section (set_of records r)))
     (lead_first (is_own_record name rtype) passes (own_kind name rtype) (unsigned_part records)
     ∙ ap (kept passes) (find_unsigned name rtype other records))
@@ -148,7 +156,8 @@ found_kind own (r ∷ rs) x is = kind_step (own r) own r (find own rs) x refl is
 same_filter : (test own : Rr → Bool) → ((r : Rr) → test r ≡ own r) → (rs : List Rr) → filter test rs ≡ filter own rs
 same_filter test own same [] = refl
 same_filter test own same (r ∷ rs) =
-    ap (λ b. cond b (r ∷ filter test rs) (filter test rs)) (same r) ∙ ap (λ more. cond (own r) (r ∷ more) more) (same_filter test own same rs)
+    ap (λ b. cond b (r ∷ filter test rs) (filter test rs)) (same r)
+    ∙ ap (λ more. cond (own r) (r ∷ more) more) (same_filter test own same rs)
 
 twice_step : (a b : Bool) (r : Rr) (test : Rr → Bool) (rest all : List Rr) → test r ≡ b → filter test rest ≡ all
     → filter test (cond a (r ∷ rest) rest) ≡ cond (a && b) (r ∷ all) all
@@ -184,4 +193,5 @@ filter_any own test (r ∷ rs) =
 pub own_records : (name : Labels) (rtype : ℕ) (records : List Rr) (r : Rr) → find (is_own_record name rtype) records ≡ Some r
     → filter (same_set r) records ≡ filter (is_own_record name rtype) records
 own_records name rtype records r is =
-    same_filter (same_set r) (is_own_record name rtype) (λ s. own_within name rtype r s (found_kind (is_own_record name rtype) records r is)) records
+    same_filter (same_set r) (is_own_record name rtype)
+    (λ s. own_within name rtype r s (found_kind (is_own_record name rtype) records r is)) records

@@ -17,12 +17,14 @@ use Rattle.dns_marks.specs.SetMarks.{answer_proof, answer_proofs, answer_calls, 
 abbrev pub proofs_from : VerifierAnswers → ℕ → RrSet → List Rr → List KeyAnswer → ℕ → List (Option RrsetProofValue)
 proofs_from verifier now set rs answers i = answer_proofs verifier now set (drop i rs) (drop i answers)
 
-proofs_more : (verifier : VerifierAnswers) (now : ℕ) (set : RrSet) (rs : List Rr) (answers : List KeyAnswer) (i : ℕ) (r : Rr) (answer : KeyAnswer)
+proofs_more : (verifier : VerifierAnswers) (now : ℕ) (set : RrSet) (rs : List Rr) (answers : List KeyAnswer) (i : ℕ) (r : Rr)
+    (answer : KeyAnswer)
     → i < length rs → i < length answers → r ≡ slice_index_or rs i r → answer ≡ slice_index_or answers i answer
     → proofs_from verifier now set rs answers i ≡ answer_proof verifier now set r answer ∷ proofs_from verifier now set rs answers (i + 1)
 proofs_more verifier now set rs answers i r answer in_rs in_answers at_rs at_answers =
     ap (λ xs. answer_proofs verifier now set xs (drop i answers)) (drop_more rs i r in_rs ∙ ap (λ x. x ∷ drop (i + 1) rs) (sym at_rs))
-    ∙ ap (answer_proofs verifier now set (r ∷ drop (i + 1) rs)) (drop_more answers i answer in_answers ∙ ap (λ x. x ∷ drop (i + 1) answers) (sym at_answers))
+    ∙ ap (answer_proofs verifier now set (r ∷ drop (i + 1) rs)) (drop_more answers i answer in_answers
+    ∙ ap (λ x. x ∷ drop (i + 1) answers) (sym at_answers))
 
 no_answer : (rs : List Rr) → zip {X = KeyAnswer} rs [] ≡ []
 no_answer [] = refl
@@ -31,7 +33,8 @@ no_answer (r ∷ rs) = refl
 proofs_end : (verifier : VerifierAnswers) (now : ℕ) (set : RrSet) (rs : List Rr) (answers : List KeyAnswer) (i : ℕ) → length answers ≤ i
     → proofs_from verifier now set rs answers i ≡ []
 proofs_end verifier now set rs answers i h =
-    ap (answer_proofs verifier now set (drop i rs)) (drop_all i answers h) ∙ ap (map (λ p. answer_proof verifier now set p.0 p.1)) (no_answer (drop i rs))
+    ap (answer_proofs verifier now set (drop i rs)) (drop_all i answers h)
+    ∙ ap (map (λ p. answer_proof verifier now set p.0 p.1)) (no_answer (drop i rs))
 
 -- ---- how often the verifier is asked
 
@@ -41,7 +44,8 @@ calls_from verifier now set rs answers i = set_calls verifier now set (zip (drop
 
 calls_step : (verifier : VerifierAnswers) (now : ℕ) (set : RrSet) (r : Rr) (answer : KeyAnswer) (more : List (Rr × KeyAnswer))
     → set_calls verifier now set ((r, answer) ∷ more)
-    ≡ answer_calls verifier now set r answer + (if is_secure_proof (answer_proof verifier now set r answer) then 0 else set_calls verifier now set more)
+    ≡ answer_calls verifier now set r answer + (if is_secure_proof (answer_proof verifier now set r answer) then 0
+    else set_calls verifier now set more)
 unfolding set_calls
 calls_step verifier now set r answer more = refl
 
@@ -49,7 +53,8 @@ calls_none : (verifier : VerifierAnswers) (now : ℕ) (set : RrSet) → set_call
 unfolding set_calls
 calls_none verifier now set = refl
 
-calls_more : (verifier : VerifierAnswers) (now : ℕ) (set : RrSet) (rs : List Rr) (answers : List KeyAnswer) (i : ℕ) (r : Rr) (answer : KeyAnswer)
+calls_more : (verifier : VerifierAnswers) (now : ℕ) (set : RrSet) (rs : List Rr) (answers : List KeyAnswer) (i : ℕ) (r : Rr)
+    (answer : KeyAnswer)
     → i < length rs → i < length answers → r ≡ slice_index_or rs i r → answer ≡ slice_index_or answers i answer
     → calls_from verifier now set rs answers i
     ≡ answer_calls verifier now set r answer
@@ -72,7 +77,8 @@ secure_by place found true proved h = refl
 secure_by place found false proved h = cc
 
 -- a proof that counts as the Secure one is Secure
-secure_at : (place : ℕ) (found : Option RrsetProofValue) (proved : RrsetProofValue) → proof_at Secure place found ≡ Some proved → is_secure_proof found ≡ true
+secure_at : (place : ℕ) (found : Option RrsetProofValue) (proved : RrsetProofValue) → proof_at Secure place found ≡ Some proved
+    → is_secure_proof found ≡ true
 secure_at place None proved h = cc
 secure_at place (Some found) proved h = secure_by place found (proof_eq found.proof Secure) proved h
 
@@ -106,21 +112,33 @@ or_assoc None b c = refl
 or_assoc (Some x) b c = refl
 
 -- no signature so far is Secure, the first Insecure one is known, and the calls so far are counted, two for each at the most
-pub record Sought (verifier : VerifierAnswers) (now : ℕ) (set : RrSet) (rs : List Rr) (answers : List KeyAnswer) (i : ℕ) (excuse : Option RrsetProofValue) (before steps : ℕ) : Type 0 where
-  pub secure : first_proof Secure i (proofs_from verifier now set rs answers i) ≡ first_proof Secure 0 (answer_proofs verifier now set rs answers)
+pub record Sought (verifier : VerifierAnswers) (now : ℕ) (set : RrSet) (rs : List Rr) (answers : List KeyAnswer) (i : ℕ)
+    (excuse : Option RrsetProofValue) (before steps : ℕ) : Type 0 where
+  pub secure : first_proof Secure i (proofs_from verifier now set rs answers i)
+      ≡ first_proof Secure 0 (answer_proofs verifier now set rs answers)
   pub insecure : option_or excuse (first_proof Insecure i (proofs_from verifier now set rs answers i))
       ≡ first_proof Insecure 0 (answer_proofs verifier now set rs answers)
   pub spent : steps ≤ before + 2 * i
   pub counted : steps + calls_from verifier now set rs answers i ≡ before + set_calls verifier now set (zip rs answers)
 
-pub sought_none : (verifier : VerifierAnswers) (now : ℕ) (set : RrSet) (rs : List Rr) (answers : List KeyAnswer) (excuse : Option RrsetProofValue) (before : ℕ)
+pub sought_none : (verifier : VerifierAnswers) (now : ℕ) (set : RrSet) (rs : List Rr) (answers : List KeyAnswer)
+    (excuse : Option RrsetProofValue) (before : ℕ)
     → excuse ≡ None → Sought verifier now set rs answers 0 excuse before before
-sought_none verifier now set rs answers excuse before none = record { secure = refl; insecure = ap (λ o. option_or o (first_proof Insecure 0 (answer_proofs verifier now set rs answers))) none; spent = omega arith; counted = refl }
+sought_none verifier now set rs answers excuse before none =
+    record {
+      secure = refl;
+      insecure = ap (λ o. option_or o (first_proof Insecure 0 (answer_proofs verifier now set rs answers))) none;
+      spent = omega arith;
+      counted = refl;
+    }
 
 -- a signature that is Secure decides
-pub sought_here : (verifier : VerifierAnswers) (now : ℕ) (set : RrSet) (rs : List Rr) (answers : List KeyAnswer) (i : ℕ) (excuse : Option RrsetProofValue)
-    (before steps : ℕ) (r : Rr) (answer : KeyAnswer) (proved : RrsetProofValue) → Sought verifier now set rs answers i excuse before steps → i < length answers → length answers ≡ length rs
-    → r ≡ slice_index_or rs i r → answer ≡ slice_index_or answers i answer → proof_at Secure i (answer_proof verifier now set r answer) ≡ Some proved
+pub sought_here : (verifier : VerifierAnswers) (now : ℕ) (set : RrSet) (rs : List Rr) (answers : List KeyAnswer) (i : ℕ)
+    (excuse : Option RrsetProofValue)
+    (before steps : ℕ) (r : Rr) (answer : KeyAnswer) (proved : RrsetProofValue)
+    → Sought verifier now set rs answers i excuse before steps → i < length answers → length answers ≡ length rs
+    → r ≡ slice_index_or rs i r → answer ≡ slice_index_or answers i answer
+    → proof_at Secure i (answer_proof verifier now set r answer) ≡ Some proved
     → Some proved ≡ deciding_proof (answer_proofs verifier now set rs answers)
 sought_here verifier now set rs answers i excuse before steps r answer proved s in_answers same at_rs at_answers is =
     let in_rs : i < length rs = omega (arith, in_answers, same) in
@@ -130,9 +148,12 @@ sought_here verifier now set rs answers i excuse before steps r answer proved s 
     ∙ ap (λ o. option_or o (first_proof Secure (i + 1) (proofs_from verifier now set rs answers (i + 1)))) is))
 
 -- another is passed over
-pub sought_more : (verifier : VerifierAnswers) (now : ℕ) (set : RrSet) (rs : List Rr) (answers : List KeyAnswer) (i : ℕ) (excuse after : Option RrsetProofValue)
-    (before steps later : ℕ) (r : Rr) (answer : KeyAnswer) → Sought verifier now set rs answers i excuse before steps → i < length answers → length answers ≡ length rs
-    → r ≡ slice_index_or rs i r → answer ≡ slice_index_or answers i answer → proof_at Secure i (answer_proof verifier now set r answer) ≡ None
+pub sought_more : (verifier : VerifierAnswers) (now : ℕ) (set : RrSet) (rs : List Rr) (answers : List KeyAnswer) (i : ℕ)
+    (excuse after : Option RrsetProofValue)
+    (before steps later : ℕ) (r : Rr) (answer : KeyAnswer) → Sought verifier now set rs answers i excuse before steps
+    → i < length answers → length answers ≡ length rs
+    → r ≡ slice_index_or rs i r → answer ≡ slice_index_or answers i answer
+    → proof_at Secure i (answer_proof verifier now set r answer) ≡ None
     → after ≡ option_or excuse (proof_at Insecure i (answer_proof verifier now set r answer)) → later ≤ steps + 2
     → later ≡ steps + answer_calls verifier now set r answer → Sought verifier now set rs answers (i + 1) after before later
 sought_more verifier now set rs answers i excuse after before steps later r answer s in_answers same at_rs at_answers none is two calls =
@@ -141,27 +162,33 @@ sought_more verifier now set rs answers i excuse after before steps later r answ
     let more = proofs_from verifier now set rs answers (i + 1) in
     let here = proofs_more verifier now set rs answers i r answer in_rs in_answers at_rs at_answers in
     record {
-      secure = sym (ap (first_proof Secure i) here ∙ first_more Secure i found more ∙ ap (λ o. option_or o (first_proof Secure (i + 1) more)) none) ∙ s.secure;
+      secure = sym (ap (first_proof Secure i) here ∙ first_more Secure i found more
+          ∙ ap (λ o. option_or o (first_proof Secure (i + 1) more)) none) ∙ s.secure;
       insecure = ap (λ o. option_or o (first_proof Insecure (i + 1) more)) is
           ∙ or_assoc excuse (proof_at Insecure i found) (first_proof Insecure (i + 1) more)
           ∙ ap (option_or excuse) (sym (ap (first_proof Insecure i) here ∙ first_more Insecure i found more))
           ∙ s.insecure;
       spent = let so_far = s.spent in omega (arith, so_far, two);
       counted = let so_far = s.counted in
-          let left : calls_from verifier now set rs answers i ≡ answer_calls verifier now set r answer + calls_from verifier now set rs answers (i + 1) =
+          let left : calls_from verifier now set rs answers i ≡ answer_calls verifier now set r answer + calls_from verifier
+          now set rs answers (i + 1) =
           calls_more verifier now set rs answers i r answer in_rs in_answers at_rs at_answers
-          ∙ ap (λ b. answer_calls verifier now set r answer + (if b then 0 else calls_from verifier now set rs answers (i + 1))) (not_secure_at i found none) in
+          ∙ ap (λ b. answer_calls verifier now set r answer + (if b then 0 else calls_from verifier now set rs answers (i + 1)))
+          (not_secure_at i found none) in
           omega (arith, so_far, left, calls);
     }
 
 -- no signature is left
-pub sought_end : (verifier : VerifierAnswers) (now : ℕ) (set : RrSet) (rs : List Rr) (answers : List KeyAnswer) (i : ℕ) (excuse : Option RrsetProofValue)
-    (before steps : ℕ) → Sought verifier now set rs answers i excuse before steps → length answers ≤ i → excuse ≡ deciding_proof (answer_proofs verifier now set rs answers)
+pub sought_end : (verifier : VerifierAnswers) (now : ℕ) (set : RrSet) (rs : List Rr) (answers : List KeyAnswer) (i : ℕ)
+    (excuse : Option RrsetProofValue)
+    (before steps : ℕ) → Sought verifier now set rs answers i excuse before steps → length answers ≤ i
+    → excuse ≡ deciding_proof (answer_proofs verifier now set rs answers)
 sought_end verifier now set rs answers i excuse before steps s h =
     let none = proofs_end verifier now set rs answers i h in
     sym (ap (λ o. option_or o (first_proof Insecure 0 (answer_proofs verifier now set rs answers)))
     (sym s.secure ∙ ap (first_proof Secure i) none ∙ first_none Secure i)
-    ∙ sym s.insecure ∙ ap (λ ps. option_or excuse (first_proof Insecure i ps)) none ∙ ap (option_or excuse) (first_none Insecure i) ∙ or_none excuse)
+    ∙ sym s.insecure ∙ ap (λ ps. option_or excuse (first_proof Insecure i ps)) none ∙ ap (option_or excuse) (first_none Insecure i)
+    ∙ or_none excuse)
 
 -- ---- the first ask that failed
 
@@ -174,7 +201,8 @@ failed_step : (answers : List KeyAnswer) (i : ℕ) (answer : KeyAnswer) → i < 
 failed_step answers i answer h is =
     ap (λ xs. slice_get (filter_map failed_ask xs) 0) (drop_more answers i answer h ∙ ap (λ x. x ∷ drop (i + 1) answers) (sym is))
 
-pub failed_here : (answers : List KeyAnswer) (i : ℕ) (answer : KeyAnswer) (q : Question) → i < length answers → answer ≡ slice_index_or answers i answer
+pub failed_here : (answers : List KeyAnswer) (i : ℕ) (answer : KeyAnswer) (q : Question) → i < length answers
+    → answer ≡ slice_index_or answers i answer
     → failed_ask answer ≡ Some q → failed_from answers i ≡ Some q
 failed_here answers i answer q h is failed =
     failed_step answers i answer h is ∙ ap (λ o. slice_get (cons_option o (filter_map failed_ask (drop (i + 1) answers))) 0) failed
@@ -190,21 +218,28 @@ failed_end answers i h = ap (λ xs. slice_get (filter_map failed_ask xs) 0) (dro
 -- ---- the steps
 
 -- one signature more of eight
-pub spent_here : (verifier : VerifierAnswers) (now : ℕ) (set : RrSet) (rs : List Rr) (answers : List KeyAnswer) (i : ℕ) (excuse : Option RrsetProofValue)
-    (before steps later : ℕ) → Sought verifier now set rs answers i excuse before steps → i < length answers → length answers ≡ length rs → length rs ≤ 8
+pub spent_here : (verifier : VerifierAnswers) (now : ℕ) (set : RrSet) (rs : List Rr) (answers : List KeyAnswer) (i : ℕ)
+    (excuse : Option RrsetProofValue)
+    (before steps later : ℕ) → Sought verifier now set rs answers i excuse before steps → i < length answers
+    → length answers ≡ length rs → length rs ≤ 8
     → later ≤ steps + 2 → later ≤ before + 16
 spent_here verifier now set rs answers i excuse before steps later s in_answers same few two =
     let so_far = s.spent in omega (arith, so_far, in_answers, same, few, two)
 
 -- none more
-pub spent_end : (verifier : VerifierAnswers) (now : ℕ) (set : RrSet) (rs : List Rr) (answers : List KeyAnswer) (i : ℕ) (excuse : Option RrsetProofValue)
-    (before steps : ℕ) → Sought verifier now set rs answers i excuse before steps → i ≤ length answers → length answers ≡ length rs → length rs ≤ 8
+pub spent_end : (verifier : VerifierAnswers) (now : ℕ) (set : RrSet) (rs : List Rr) (answers : List KeyAnswer) (i : ℕ)
+    (excuse : Option RrsetProofValue)
+    (before steps : ℕ) → Sought verifier now set rs answers i excuse before steps → i ≤ length answers
+    → length answers ≡ length rs → length rs ≤ 8
     → steps ≤ before + 16
-spent_end verifier now set rs answers i excuse before steps s within same few = let so_far = s.spent in omega (arith, so_far, within, same, few)
+spent_end verifier now set rs answers i excuse before steps s within same few = let so_far = s.spent in
+    omega (arith, so_far, within, same, few)
 
 -- the signature that is Secure is the last that is asked for
-pub counted_here : (verifier : VerifierAnswers) (now : ℕ) (set : RrSet) (rs : List Rr) (answers : List KeyAnswer) (i : ℕ) (excuse : Option RrsetProofValue)
-    (before steps later : ℕ) (r : Rr) (answer : KeyAnswer) (proved : RrsetProofValue) → Sought verifier now set rs answers i excuse before steps → i < length answers
+pub counted_here : (verifier : VerifierAnswers) (now : ℕ) (set : RrSet) (rs : List Rr) (answers : List KeyAnswer) (i : ℕ)
+    (excuse : Option RrsetProofValue)
+    (before steps later : ℕ) (r : Rr) (answer : KeyAnswer) (proved : RrsetProofValue)
+    → Sought verifier now set rs answers i excuse before steps → i < length answers
     → length answers ≡ length rs → r ≡ slice_index_or rs i r → answer ≡ slice_index_or answers i answer
     → proof_at Secure i (answer_proof verifier now set r answer) ≡ Some proved → later ≡ steps + answer_calls verifier now set r answer
     → later ≡ before + set_calls verifier now set (zip rs answers)
@@ -218,7 +253,8 @@ counted_here verifier now set rs answers i excuse before steps later r answer pr
     omega (arith, so_far, left, calls)
 
 -- where none is, all are asked for
-pub counted_end : (verifier : VerifierAnswers) (now : ℕ) (set : RrSet) (rs : List Rr) (answers : List KeyAnswer) (i : ℕ) (excuse : Option RrsetProofValue)
+pub counted_end : (verifier : VerifierAnswers) (now : ℕ) (set : RrSet) (rs : List Rr) (answers : List KeyAnswer) (i : ℕ)
+    (excuse : Option RrsetProofValue)
     (before steps : ℕ) → Sought verifier now set rs answers i excuse before steps → length answers ≤ i
     → steps ≡ before + set_calls verifier now set (zip rs answers)
 counted_end verifier now set rs answers i excuse before steps s h =

@@ -16,7 +16,7 @@ use Rattle.dns_rules.specs.Marks as marks
 use Rattle.dns_rules.specs.Derivation.{proof_eq}
 use Rattle.dns_rules.specs.ProofErrors.{RrsetProofValue}
 use Rattle.dns_marks.specs.SetMarks.{first_proof, deciding_proof}
-use Rattle.dns_proof.specs.Proofs.{proved_by, excused}
+use Rattle.dns_cache.specs.Proofs.{proved_by, excused}
 use Rattle.dns_marks.specs.SignatureKeys.{judge_at, is_proving, are_insecure, proof_by_keys, verdict_by_mark, proof_verdict}
 
 -- all keys have this mark
@@ -29,12 +29,14 @@ good_anyhow : (verifier : VerifierAnswers) (anchors : List AnchorValue) (now : �
 unfolding is_good_by
 good_anyhow verifier anchors now set r key = refl
 
-found_step : (b : Bool) (key : Rr) (rest : Bool) (found : Option Rr) → rest ≡ is_some found → (b || rest) ≡ is_some (cond b (Some key) found)
+found_step : (b : Bool) (key : Rr) (rest : Bool) (found : Option Rr) → rest ≡ is_some found
+    → (b || rest) ≡ is_some (cond b (Some key) found)
 found_step true key rest found h = refl
 found_step false key rest found h = h
 
 -- of Secure keys one proves the set where it is found
-any_secure : (verifier : VerifierAnswers) (anchors : List AnchorValue) (now : ℕ) (set : RrSet) (r : Rr) (keys : List Rr) → HaveMark proof.Secure keys
+any_secure : (verifier : VerifierAnswers) (anchors : List AnchorValue) (now : ℕ) (set : RrSet) (r : Rr) (keys : List Rr)
+    → HaveMark proof.Secure keys
     → list_any (is_proving verifier now set r) keys ≡ is_some (find (is_good_by (judge verifier anchors now) set r) keys)
 any_secure verifier anchors now set r [] h = refl
 any_secure verifier anchors now set r (key ∷ keys) h =
@@ -44,11 +46,13 @@ any_secure verifier anchors now set r (key ∷ keys) h =
     (find (is_good_by (judge verifier anchors now) set r) keys) (any_secure verifier anchors now set r keys h.1)
 
 -- others prove nothing
-none_proves : (verifier : VerifierAnswers) (now : ℕ) (set : RrSet) (r : Rr) (mark : Proof) → is_secure mark ≡ false → (keys : List Rr) → HaveMark mark keys
+none_proves : (verifier : VerifierAnswers) (now : ℕ) (set : RrSet) (r : Rr) (mark : Proof) → is_secure mark ≡ false
+    → (keys : List Rr) → HaveMark mark keys
     → list_any (is_proving verifier now set r) keys ≡ false
 none_proves verifier now set r mark other [] h = refl
 none_proves verifier now set r mark other (key ∷ keys) h =
-    ap (λ b. (b && is_good_by (judge_at verifier now) set r key) || list_any (is_proving verifier now set r) keys) (ap is_secure h.0 ∙ other)
+    ap (λ b. (b && is_good_by (judge_at verifier now) set r key) || list_any (is_proving verifier now set r) keys)
+    (ap is_secure h.0 ∙ other)
     ∙ none_proves verifier now set r mark other keys h.1
 
 -- Insecure keys are all Insecure
@@ -68,18 +72,22 @@ by_found : (found : Option Rr) (proved : RrsetProofValue) → proved.proof ≡ p
 by_found None proved h = refl
 by_found (Some key) proved h = ap verdict_by_mark h
 
-neither : (verifier : VerifierAnswers) (now : ℕ) (set : RrSet) (r : Rr) (mark : Proof) (keys : List Rr) → is_secure mark ≡ false → proof_eq mark proof.Insecure ≡ false
+neither : (verifier : VerifierAnswers) (now : ℕ) (set : RrSet) (r : Rr) (mark : Proof) (keys : List Rr) → is_secure mark ≡ false
+    → proof_eq mark proof.Insecure ≡ false
     → HaveMark mark keys → proof_by_keys verifier now set r keys ≡ None
 neither verifier now set r mark keys insecure other h =
-    ap (λ b. if b then Some (proved_by now set r None) else if are_insecure keys then Some excused else None) (none_proves verifier now set r mark insecure keys h)
+    ap (λ b. if b then Some (proved_by now set r None) else if are_insecure keys then Some excused
+    else None) (none_proves verifier now set r mark insecure keys h)
     ∙ ap (λ b. if b then Some excused else None) (not_insecure mark other keys h)
 
-first_of : (keys : List Rr) → proof_verdict (if is_some (slice_get keys 0) && true then Some excused else None) ≡ option_map_or (λ key. marks.Insecure) (slice_get keys 0) Failed
+first_of : (keys : List Rr) → proof_verdict (if is_some (slice_get keys 0) && true then Some excused else None)
+    ≡ option_map_or (λ key. marks.Insecure) (slice_get keys 0) Failed
 first_of [] = refl
 first_of (key ∷ keys) = refl
 
 -- by keys that all have one mark a signature does for its set what it does by a key set of that mark
-pub by_one_mark : (verifier : VerifierAnswers) (anchors : List AnchorValue) (now : ℕ) (set : RrSet) (r : Rr) (mark : Proof) (keys : List Rr) → HaveMark mark keys
+pub by_one_mark : (verifier : VerifierAnswers) (anchors : List AnchorValue) (now : ℕ) (set : RrSet) (r : Rr) (mark : Proof)
+    (keys : List Rr) → HaveMark mark keys
     → proof_verdict (proof_by_keys verifier now set r keys) ≡ by_keys (judge verifier anchors now) set r mark keys
 by_one_mark verifier anchors now set r proof.Secure keys h =
     ap (λ b. proof_verdict (if b then Some (proved_by now set r None) else if are_insecure keys then Some excused else None))
@@ -93,7 +101,8 @@ by_one_mark verifier anchors now set r proof.Insecure keys h =
     ∙ ap (λ b. proof_verdict (if is_some (slice_get keys 0) && b then Some excused else None)) (all_insecure keys h)
     ∙ first_of keys
 by_one_mark verifier anchors now set r proof.Bogus keys h = ap proof_verdict (neither verifier now set r proof.Bogus keys refl refl h)
-by_one_mark verifier anchors now set r proof.Indeterminate keys h = ap proof_verdict (neither verifier now set r proof.Indeterminate keys refl refl h)
+by_one_mark verifier anchors now set r proof.Indeterminate keys h =
+    ap proof_verdict (neither verifier now set r proof.Indeterminate keys refl refl h)
 
 -- ---- the signature that decides
 
@@ -126,7 +135,8 @@ unfolding first_proof
 secure_places i [] = refl
 secure_places i (None ∷ more) = secure_places (i + 1) more
 secure_places i (Some p ∷ more) =
-    secure_step p.proof p i (first_proof proof.Secure (i + 1) more) (position_from is_proved (i + 1) (map proof_verdict more)) refl (secure_places (i + 1) more)
+    secure_step p.proof p i (first_proof proof.Secure (i + 1) more) (position_from is_proved (i + 1) (map proof_verdict more))
+    refl (secure_places (i + 1) more)
 
 insecure_places : (i : ℕ) (proofs : List (Option RrsetProofValue))
     → option_map found_mark (first_proof proof.Insecure i proofs)
@@ -135,7 +145,8 @@ unfolding first_proof
 insecure_places i [] = refl
 insecure_places i (None ∷ more) = insecure_places (i + 1) more
 insecure_places i (Some p ∷ more) =
-    insecure_step p.proof p i (first_proof proof.Insecure (i + 1) more) (position_from shows_insecure (i + 1) (map proof_verdict more)) refl (insecure_places (i + 1) more)
+    insecure_step p.proof p i (first_proof proof.Insecure (i + 1) more) (position_from shows_insecure (i + 1) (map proof_verdict more))
+    refl (insecure_places (i + 1) more)
 
 deciding_case : (s e : Option RrsetProofValue) (proved excused : Option ℕ)
     → option_map found_mark s ≡ option_map (λ n. record { mark = proof.Secure; sig = Some n }) proved
@@ -149,7 +160,8 @@ deciding_case None e (Some n) excused is_s is_e = cc
 deciding_case (Some p) e None excused is_s is_e = cc
 deciding_case (Some p) e (Some n) excused is_s is_e = ap (λ o. option_map_or (λ m. m) o (found_mark p)) is_s
 
-marks_from : (verdicts : List Verdict) → set_mark verdicts ≡ mark_at (position_from is_proved 0 verdicts) (position_from shows_insecure 0 verdicts)
+marks_from : (verdicts : List Verdict)
+    → set_mark verdicts ≡ mark_at (position_from is_proved 0 verdicts) (position_from shows_insecure 0 verdicts)
 marks_from [] = refl
 marks_from (v ∷ vs) =
     ap (λ o. mark_at o (position shows_insecure (v ∷ vs))) (position_from-zero is_proved (v ∷ vs))
@@ -159,6 +171,7 @@ marks_from (v ∷ vs) =
 pub by_verdicts : (proofs : List (Option RrsetProofValue))
     → option_map_or found_mark (deciding_proof proofs) (record { mark = proof.Bogus; sig = None }) ≡ set_mark (map proof_verdict proofs)
 by_verdicts proofs =
-    deciding_case (first_proof proof.Secure 0 proofs) (first_proof proof.Insecure 0 proofs) (position_from is_proved 0 (map proof_verdict proofs))
+    deciding_case (first_proof proof.Secure 0 proofs) (first_proof proof.Insecure 0 proofs)
+    (position_from is_proved 0 (map proof_verdict proofs))
     (position_from shows_insecure 0 (map proof_verdict proofs)) (secure_places 0 proofs) (insecure_places 0 proofs)
     ∙ sym (marks_from (map proof_verdict proofs))

@@ -49,7 +49,8 @@ proved verifier name rs false = refl
 some_step : (name : Labels) (b any readable : Bool) (r : Rr) (kept_ones : List Rr)
     → (if any then Signed kept_ones else if readable then Insecure UnknownKeyAlgorithm else Bogus (DsRecordShouldExist name))
     ≡ by_supported name readable kept_ones
-    → (if b || any then Signed (cond b (r ∷ kept_ones) kept_ones) else if readable then Insecure UnknownKeyAlgorithm else Bogus (DsRecordShouldExist name))
+    → (if b || any then Signed (cond b (r ∷ kept_ones) kept_ones) else if readable then Insecure UnknownKeyAlgorithm
+    else Bogus (DsRecordShouldExist name))
     ≡ by_supported name readable (cond b (r ∷ kept_ones) kept_ones)
 some_step name true any readable r kept_ones h = refl
 some_step name false any readable r kept_ones h = h
@@ -79,7 +80,8 @@ by_records verifier name answers =
     ∙ ap (by_supported name (list_any (λ s. own s && is_readable_ds s) answers)) (filter_twice own (is_supported_ds verifier) answers))
 
 class_step : (verifier : VerifierAnswers) (name : Labels) (answers : List Rr) (r : Rr) (b : Bool) (without : ZoneVerdict)
-    → verdict_by_ds verifier name (if are_secure (filter (same_set r) answers) then proof.Secure else proof.Bogus) (filter (same_set r) answers)
+    → verdict_by_ds verifier name (if are_secure (filter (same_set r) answers) then proof.Secure
+    else proof.Bogus) (filter (same_set r) answers)
     ≡ by_own_ds verifier name answers
     → option_map_or (λ found. verdict_by_ds verifier name found.mark found.set.records)
     (option_map (λ r. marked_set Answer (set_of answers r)) (if b then Some r else None)) without
@@ -102,7 +104,8 @@ by_first verifier class name answers without (Some r) h =
 
 -- ---- the NSEC set
 
-found_step : (b rest : Bool) (x : MarkedSet) (found : Option MarkedSet) → rest ≡ is_some found → (b || rest) ≡ is_some (cond b (Some x) found)
+found_step : (b rest : Bool) (x : MarkedSet) (found : Option MarkedSet) → rest ≡ is_some found
+    → (b || rest) ≡ is_some (cond b (Some x) found)
 found_step true rest x found h = refl
 found_step false rest x found h = h
 
@@ -129,7 +132,8 @@ shows_case : (name : Labels) (authorities : List Rr) (r : Rr)
 shows_case name authorities r =
     ap (λ b. b && (name_eq name r.owner && ((r.rtype == type_nsec) && list_any shows_unsigned_cut (filter (same_set r) authorities))))
     (secure_case (are_secure (filter (same_set r) authorities)))
-    ∙ parts_case (are_secure (filter (same_set r) authorities)) (name_eq name r.owner) (r.rtype == type_nsec) (list_any shows_unsigned_cut (filter (same_set r) authorities))
+    ∙ parts_case (are_secure (filter (same_set r) authorities)) (name_eq name r.owner) (r.rtype == type_nsec)
+    (list_any shows_unsigned_cut (filter (same_set r) authorities))
 
 none_head : (own test : Rr → Bool) (r : Rr) (rs : List Rr) (b : Bool) → (find own rs ≡ None → list_any (λ s. own s && test s) rs ≡ false)
     → cond b (Some r) (find own rs) ≡ None → ((b && test r) || list_any (λ s. own s && test s) rs) ≡ false
@@ -145,7 +149,8 @@ some_case true r f = refl
 some_case false r f = refl
 
 by_nsec : (name : Labels) (authorities : List Rr) (first : Option Rr) → find (is_own_record name type_nsec) authorities ≡ first
-    → is_some (option_map (λ r. marked_set Authority (set_of authorities r)) (kept (set_shows authorities) first)) ≡ own_shows_no_ds name authorities
+    → is_some (option_map (λ r. marked_set Authority (set_of authorities r)) (kept (set_shows authorities) first))
+    ≡ own_shows_no_ds name authorities
 unfolding kept
 by_nsec name authorities None h =
     sym (ap (λ b. are_own_secure name type_nsec authorities && b) (any_none (is_own_record name type_nsec) shows_unsigned_cut authorities h)
@@ -157,23 +162,28 @@ by_nsec name authorities (Some r) h =
     ∙ ap (λ b. b && list_any shows_unsigned_cut (filter own authorities)) (filter_all own (λ s. is_secure s.proof) authorities)
     ∙ ap (λ b. are_own_secure name type_nsec authorities && b) (filter_any own shows_unsigned_cut authorities)
 
-any_nsec : (name : Labels) (authorities : List Rr) → list_any (zone.shows_no_ds name) (marked_sets Authority authorities) ≡ own_shows_no_ds name authorities
+any_nsec : (name : Labels) (authorities : List Rr)
+    → list_any (zone.shows_no_ds name) (marked_sets Authority authorities) ≡ own_shows_no_ds name authorities
 any_nsec name authorities =
     any_found (zone.shows_no_ds name) (marked_sets Authority authorities)
-    ∙ ap is_some (find_set name type_nsec refl Authority authorities (zone.shows_no_ds name) (set_shows authorities) (shows_case name authorities))
+    ∙ ap is_some (find_set name type_nsec refl Authority authorities (zone.shows_no_ds name) (set_shows authorities)
+    (shows_case name authorities))
     ∙ by_nsec name authorities (find (is_own_record name type_nsec) authorities) refl
 
 -- ---- all that a message shows
 
-no_find : {X : Type 0} (test : MarkedSet → Bool) (f : X → MarkedSet) → ((x : X) → test (f x) ≡ false) → (xs : List X) → find test (map f xs) ≡ None
+no_find : {X : Type 0} (test : MarkedSet → Bool) (f : X → MarkedSet) → ((x : X) → test (f x) ≡ false) → (xs : List X)
+    → find test (map f xs) ≡ None
 no_find test f none [] = refl
 no_find test f none (x ∷ xs) = ap (λ b. cond b (Some (f x)) (find test (map f xs))) (none x) ∙ no_find test f none xs
 
-no_any : {X : Type 0} (test : MarkedSet → Bool) (f : X → MarkedSet) → ((x : X) → test (f x) ≡ false) → (xs : List X) → list_any test (map f xs) ≡ false
+no_any : {X : Type 0} (test : MarkedSet → Bool) (f : X → MarkedSet) → ((x : X) → test (f x) ≡ false) → (xs : List X)
+    → list_any test (map f xs) ≡ false
 no_any test f none [] = refl
 no_any test f none (x ∷ xs) = ap (λ b. b || list_any test (map f xs)) (none x) ∙ no_any test f none xs
 
-any_map : {X : Type 0} (test : MarkedSet → Bool) (f : X → MarkedSet) (xs : List X) → list_any test (map f xs) ≡ list_any (λ x. test (f x)) xs
+any_map : {X : Type 0} (test : MarkedSet → Bool) (f : X → MarkedSet) (xs : List X)
+    → list_any test (map f xs) ≡ list_any (λ x. test (f x)) xs
 any_map test f [] = refl
 any_map test f (x ∷ xs) = ap (λ b. test (f x) || b) (any_map test f xs)
 
@@ -182,13 +192,15 @@ or_none None = refl
 or_none (Some x) = refl
 
 -- the DS set is one of the answer section
-shown_ds : (class : ℕ) (name : Labels) (m : MessageValue) → find (is_ds_set_of class name) (shown_by m) ≡ find (is_ds_set_of class name) (marked_sets Answer m.answers)
+shown_ds : (class : ℕ) (name : Labels) (m : MessageValue)
+    → find (is_ds_set_of class name) (shown_by m) ≡ find (is_ds_set_of class name) (marked_sets Answer m.answers)
 shown_ds class name m =
     let test = is_ds_set_of class name in
     find-append test (marked_sets Answer m.answers) (marked_sets Authority m.authorities ++ map lone_record (all_records m))
     ∙ ap (option_or (find test (marked_sets Answer m.answers)))
     (find-append test (marked_sets Authority m.authorities) (map lone_record (all_records m))
-    ∙ ap (λ o. option_or o (find test (map lone_record (all_records m)))) (no_find test (marked_set Authority) (λ set. refl) (sets_of m.authorities))
+    ∙ ap (λ o. option_or o (find test (map lone_record (all_records m))))
+    (no_find test (marked_set Authority) (λ set. refl) (sets_of m.authorities))
     ∙ no_find test lone_record (λ r. refl) (all_records m))
     ∙ or_none (find test (marked_sets Answer m.answers))
 
@@ -209,7 +221,8 @@ set_case true above = refl
 set_case false above = refl
 
 -- what is Insecure is a record
-shown_insecure : (name : Labels) (m : MessageValue) → list_any (zone.is_insecure_above name) (shown_by m) ≡ list_any (is_insecure_own name) (all_records m)
+shown_insecure : (name : Labels) (m : MessageValue)
+    → list_any (zone.is_insecure_above name) (shown_by m) ≡ list_any (is_insecure_own name) (all_records m)
 shown_insecure name m =
     let test = zone.is_insecure_above name in
     list_any-append test (marked_sets Answer m.answers) (marked_sets Authority m.authorities ++ map lone_record (all_records m))
@@ -222,7 +235,8 @@ shown_insecure name m =
 
 -- ---- what NSEC3 sets say
 
-no_kept : {X : Type 0} (test : MarkedSet → Bool) (f : X → MarkedSet) → ((x : X) → test (f x) ≡ false) → (xs : List X) → filter test (map f xs) ≡ []
+no_kept : {X : Type 0} (test : MarkedSet → Bool) (f : X → MarkedSet) → ((x : X) → test (f x) ≡ false) → (xs : List X)
+    → filter test (map f xs) ≡ []
 no_kept test f none [] = refl
 no_kept test f none (x ∷ xs) = ap (λ b. cond b (f x ∷ filter test (map f xs)) (filter test (map f xs))) (none x) ∙ no_kept test f none xs
 

@@ -8,7 +8,7 @@ use Rattle.dns_model.specs.RecordViews.{dnskey_of}
 use Rattle.dns_model.specs.Keys.{VerifierAnswers}
 use Rattle.dns_rules.specs.ProofErrors.{ProofErrorValue, ErrorComputingKeyTag, UnsupportedKeyAlgorithm, DnsKeyHasNoDs}
 use Rattle.dns_rules.specs.Delegations.{matching_ds}
-use Rattle.dns_proof.specs.Kinds.{because}
+use Rattle.dns_cache.specs.Kinds.{because}
 
 -- why no DS matches a key: it can't be read, its algorithm isn't supported, or none is there that matches
 abbrev pub unmatched : VerifierAnswers → Rr → ProofErrorValue

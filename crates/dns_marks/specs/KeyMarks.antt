@@ -5,8 +5,8 @@ use Rattle.dns_rules.specs.ProofErrors.{ProofErrorValue}
 use Rattle.dns_rules.specs.KeySets.{KeysOutcome, SignedByAnchored, WhollyAnchored, NeedsDs, SignedByMatched, WhollyTrusted, Refused}
 use Rattle.dns_marks.specs.declared.key_marks.KeysMark.{KeysMark}
 use Rattle.dns_marks.specs.declared.key_marks.KeysMark.TheVariants.{NeedDs, Done}
-use Rattle.dns_proof.specs.Kinds.{because}
-use Rattle.dns_proof.specs.Proofs.{proved_by, proved_whole}
+use Rattle.dns_cache.specs.Kinds.{because}
+use Rattle.dns_cache.specs.Proofs.{proved_by, proved_whole}
 
 -- Secure by a signature with its place and the ttl that it leaves, or with none; the DS verdict is needed; or the error
 abbrev pub keys_mark : ℕ → RrSet → KeysOutcome → Result KeysMark ProofErrorValue

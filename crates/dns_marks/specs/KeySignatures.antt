@@ -16,9 +16,9 @@ use Rattle.dns_rules.specs.Validity.{Validity, validity, is_valid}
 use Rattle.dns_rules.specs.ProofErrors.{ProofErrorKindValue, ProofErrorValue, RrsetProofValue, InsecureDnsKey, DnsKeyRevoked, NotZoneDnsKey, AlgorithmMismatch, Msg, DnsKeyVerifyRrsig}
 use Rattle.dns_trust.specs.declared.usable.KeyFault.{KeyFault}
 use Rattle.dns_trust.specs.declared.usable.KeyFault.TheVariants.{Revoked, NotZoneKey}
-use Rattle.dns_proof.specs.Kinds.{because}
+use Rattle.dns_cache.specs.Kinds.{because}
 use Rattle.dns_marks.specs.Misfits.{misfit}
-use Rattle.dns_proof.specs.Proofs.{proved_by}
+use Rattle.dns_cache.specs.Proofs.{proved_by}
 
 -- whether a signature fits a set and a key at a moment
 abbrev pub validity_at : ℕ → RrSet → Rr → Rr → Validity

@@ -11,7 +11,7 @@ use Rattle.dns_rules.specs.Derivation.{proof_eq}
 use Rattle.dns_rules.specs.ProofErrors.{ProofErrorKindValue, ProofErrorValue, RrsetProofValue, RrsigsNotPresent, Net, RrsigsUnverified}
 use Rattle.dns_marks.specs.declared.set_mark.KeyAnswer.{KeyAnswer}
 use Rattle.dns_marks.specs.declared.set_mark.KeyAnswer.TheVariants.{Skipped, Failed, Keys}
-use Rattle.dns_proof.specs.Kinds.{because}
+use Rattle.dns_cache.specs.Kinds.{because}
 use Rattle.dns_marks.specs.SignatureKeys.{keys_proof, calls_by_keys}
 
 -- what came of an ask, as a plain value

@@ -16,7 +16,7 @@ use Rattle.dns_rules.specs.Marks.{Verdict, Proved, Failed, may_be_signed, counte
 use Rattle.dns_rules.specs.Marks as marks
 use Rattle.dns_rules.specs.Derivation.{proof_eq}
 use Rattle.dns_rules.specs.ProofErrors.{RrsetProofValue}
-use Rattle.dns_proof.specs.Proofs.{proved_by, excused}
+use Rattle.dns_cache.specs.Proofs.{proved_by, excused}
 use Rattle.dns_marks.specs.KeySignatures.{is_put}
 
 -- signatures are good by a verifier at a moment; no anchor is looked at

@@ -19,7 +19,7 @@ use Rattle.dns_rules.specs.ProofErrors.{DsRecordShouldExist, DsResponseInsecure,
 use Rattle.dns_rules.specs.Delegations as zone
 use Rattle.dns_marks.specs.declared.zone_verdict.ZoneVerdict.{ZoneVerdict}
 use Rattle.dns_marks.specs.declared.zone_verdict.ZoneVerdict.TheVariants.{Signed, Insecure, Bogus}
-use Rattle.dns_proof.specs.Kinds.{kind_value}
+use Rattle.dns_cache.specs.Kinds.{kind_value}
 
 abbrev pub zone_verdict_value : ZoneVerdict → zone.ZoneVerdict
 zone_verdict_value (Signed ds) = zone.Signed ds.items

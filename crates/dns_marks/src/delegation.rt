@@ -1,14 +1,15 @@
+//! Whether DS records match a key, and why none does (RFC 4035, 5.2).
+
 ghost use Rattle.std.specs.Prelude.{◌≡◌, IfOk};
 ghost use Rattle.dns_model.specs.Gives.{Gives};
-ghost use Rattle.dns_proof.specs.Kinds.{want_of_memory};
+ghost use Rattle.dns_cache.specs.Kinds.{out_of_memory};
 ghost use Rattle.dns_marks.specs.Dnskeys.{key_proof, unmatched as cause_of};
 
+use dns_cache::{ProofError, ProofErrorKind};
 use dns_evidence::Verifier;
 use dns_model::Proof;
-use dns_name::NoMemory;
-use dns_proof::{ProofError, ProofErrorKind};
 use dns_rdata::Dnskey;
-use dns_record::Record;
+use dns_record::{NoMemory, Record};
 use dns_trust::matching_ds;
 use std::alloc::Global;
 
@@ -21,14 +22,11 @@ pub fn verify_dnskey<V: Verifier>(
     key: &Record,
     ds: &[Record],
 ) -> Result<Proof, ProofError>
-    ensures { Gives (λ proof. proof) want_of_memory result (key_proof (V.answers verifier.now) key.now ds.now) }
+    ensures { Gives (λ proof. proof) out_of_memory result (key_proof (V.answers verifier.now) key.now ds.now) }
 {
     match matching_ds(verifier, &key.name, key, ds) {
         Some(_) => Ok(Proof::Secure),
-        None => {
-            let cause = unmatched(verifier, key)?;
-            Err(cause)
-        }
+        None => Err(unmatched(verifier, key)?),
     }
 }
 

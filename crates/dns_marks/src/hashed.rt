@@ -10,10 +10,9 @@ ghost use Rattle.dns_marks.specs.ZoneVerdicts.{are_secure as are_secure_records,
 use dns_denial::verify_nsec3_insecure_delegation;
 use dns_denying::nsec3_denials;
 use dns_evidence::{ChainedSet, MarkedSet};
-use dns_grouping::sets_in;
 use dns_model::{Proof, Section};
-use dns_name::{Name, NoMemory};
-use dns_record::{DNSClass, Record, RecordSet};
+use dns_outcome::sets_in;
+use dns_record::{DNSClass, Name, NoMemory, Record, RecordSet};
 use std::alloc::Global;
 
 /// The Secure NSEC3 sets of a class show that a zone's delegation has no DS, or that an unsigned zone may be there.
@@ -47,8 +46,7 @@ fn push_own(own: &mut Vec<Record>, class: DNSClass, found: &Record) -> Result<()
     ensures { OnOk result (own.new.items ≡ own.old.items ++ of_class_in class.0 (found.now ∷ [])) }
 {
     if class == found.dns_class {
-        let kept = found.try_clone()?;
-        own.push(kept)?;
+        own.push(found.try_clone()?)?;
     }
     Ok(())
 }
@@ -86,6 +84,7 @@ fn marked(alloc: Global, set: RecordSet) -> ChainedSet
     }
 }
 
+// Each record is Secure.
 fn are_secure(records: &[Record]) -> bool
     ensures { result ≡ are_secure_records records.now }
 {

@@ -1,3 +1,5 @@
+//! The mark of a DNSKEY set, by trust anchors and then by the DS verdict of its owner (RFC 4035, 5.2).
+
 ghost use Rattle.std.specs.Prelude.{◌≡◌, ◌<◌, length, true, Some};
 ghost use Rattle.std.specs.Option.{option_map};
 ghost use Rattle.std.specs.List.{filter};
@@ -6,17 +8,17 @@ ghost use Rattle.dns_model.specs.Gives.{Gives};
 ghost use Rattle.dns_model.specs.Chains.{judge};
 ghost use Rattle.dns_rules.specs.KeySets.{needs_ds, keys_outcome, outcome_by_verdict, outcome_by_ds};
 ghost use Rattle.dns_trust.specs.Judge.{judge_of};
-ghost use Rattle.dns_proof.specs.Kinds.{want_of_memory};
+ghost use Rattle.dns_cache.specs.Kinds.{out_of_memory};
 ghost use Rattle.dns_marks.specs.KeyMarks.{keys_mark};
-ghost use Rattle.dns_proof.specs.Proofs.{proved_by as proved_under};
+ghost use Rattle.dns_cache.specs.Proofs.{proved_by as proved_under};
 ghost use Rattle.dns_marks.specs.ZoneVerdicts.{zone_verdict_value};
 ghost use Rattle.dns_marks.specs.declared.key_marks.KeysMark.TheVariants.{Done};
 
 use crate::ZoneVerdict;
 use crate::rrset_proof::{proved_by, proved_whole};
+use dns_cache::{ProofError, ProofErrorKind, RrsetProof};
 use dns_evidence::Verifier;
 use dns_model::Proof;
-use dns_proof::{ProofError, ProofErrorKind, RrsetProof};
 use dns_record::{Record, RecordSet};
 use dns_trust::{
     AnchoredRow, DsIndex, Judge, MatchedRow, SignedBy, TrustAnchors, anchored_row, matched_row,
@@ -24,12 +26,21 @@ use dns_trust::{
 use std::alloc::Global;
 
 /// How far a DNSKEY set is judged.
-#[derive(Drop)]
 pub enum KeysMark {
     /// The DS verdict of its owner decides, and wasn't handed in.
     NeedDs,
     /// It is judged.
     Done(RrsetProof),
+}
+
+// By hand, so that a function that lets one go calls this.
+impl Drop for KeysMark {
+    fn drop(self) {
+        match self {
+            KeysMark::NeedDs => {}
+            KeysMark::Done(_) => {}
+        }
+    }
 }
 
 /// The mark of a DNSKEY set with a key at a moment in seconds since 1970, by trust anchors and then by the DS verdict of its
@@ -43,7 +54,7 @@ pub fn mark_keys<V: Verifier>(
     now: u64,
 ) -> Result<KeysMark, ProofError>
     requires record { 0 < length set.now.records }
-    ensures { Gives (λ mark. mark) want_of_memory result
+    ensures { Gives (λ mark. mark) out_of_memory result
         (keys_mark now set.now
         (keys_outcome (judge (V.answers verifier.now) anchors.now now) set.now
         (option_map (λ z. zone_verdict_value z.now) zone.entry))) }
@@ -83,20 +94,14 @@ fn marked_by_zone<V: Verifier>(
     zone: &ZoneVerdict,
 ) -> Result<KeysMark, ProofError>
     requires { needs_ds (judge_of V.answers judge.now) set.now ≡ true }
-    ensures { Gives (λ mark. mark) want_of_memory result
+    ensures { Gives (λ mark. mark) out_of_memory result
         (keys_mark judge.now.moment set.now
         (outcome_by_verdict (judge_of V.answers judge.now) set.now (Some (zone_verdict_value zone.now)))) }
 {
     match zone {
         ZoneVerdict::Signed(ds) => marked_by_ds(alloc, judge, set, ds),
-        ZoneVerdict::Insecure(kind) => {
-            let kind = kind.try_clone()?;
-            Err(ProofError::new(Proof::Insecure, kind))
-        }
-        ZoneVerdict::Bogus(kind) => {
-            let kind = kind.try_clone()?;
-            Err(ProofError::new(Proof::Bogus, kind))
-        }
+        ZoneVerdict::Insecure(kind) => { Err(ProofError::new(Proof::Insecure, kind.try_clone()?)) }
+        ZoneVerdict::Bogus(kind) => { Err(ProofError::new(Proof::Bogus, kind.try_clone()?)) }
     }
 }
 
@@ -108,7 +113,7 @@ fn marked_by_ds<V: Verifier>(
     ds: &[Record],
 ) -> Result<KeysMark, ProofError>
     requires { needs_ds (judge_of V.answers judge.now) set.now ≡ true }
-    ensures { Gives (λ mark. mark) want_of_memory result
+    ensures { Gives (λ mark. mark) out_of_memory result
         (keys_mark judge.now.moment set.now
         (outcome_by_ds (judge_of V.answers judge.now) set.now
         (filter (is_supported_ds (V.answers judge.now.verifier.now)) ds.now))) }

@@ -1,9 +1,11 @@
+//! The mark of a set that isn't DNSKEY, by the answers to the asks of its signatures (RFC 4035, 4.3 and 5.3).
+
 ghost use Rattle.std.specs.Prelude.{◌≡◌, ◌+◌, ◌≤◌, ◌<◌, length, take, slice_get, IfOk, OnOk};
 ghost use Rattle.std.specs.List.{list_all, filter_map, zip};
 ghost use Rattle.std.specs.Option.{option_copied};
 ghost use Rattle.dns_model.specs.Gives.{Gives};
 ghost use Rattle.dns_rules.specs.Marks.{most_signatures};
-ghost use Rattle.dns_proof.specs.Kinds.{kind_value, want_of_memory};
+ghost use Rattle.dns_cache.specs.Kinds.{kind_value, out_of_memory};
 ghost use Rattle.dns_marks.specs.KeySignatures.{Unless};
 ghost use Rattle.dns_marks.specs.Tested.{of_set_answers};
 ghost use Rattle.dns_marks.specs.SetMarks.{key_answer_value, set_calls, answer_calls};
@@ -11,17 +13,15 @@ ghost use Rattle.dns_marks.specs.SetMarks.{set_proof, deciding_proof, answer_pro
 
 use crate::tested::SetAnswers;
 use crate::verify_rrsig_with_keys;
+use dns_cache::{ProofError, ProofErrorKind, RrsetProof};
 use dns_evidence::{Steps, Verifier};
 use dns_model::Proof;
-use dns_name::NoMemory;
-use dns_proof::{ProofError, ProofErrorKind, RrsetProof};
-use dns_record::{Query, Record, RecordSet, clone_records};
+use dns_record::{NoMemory, Query, Record, RecordSet, clone_records};
 use dns_trust::first_signatures;
 use std::alloc::Global;
 use std::sync::ledger::Ledger;
 
 /// What came of the ask for the keys of a signature's signer.
-#[derive(Drop)]
 pub enum KeyAnswer {
     /// The signature wasn't asked for.
     Skipped,
@@ -31,6 +31,17 @@ pub enum KeyAnswer {
     Keys(Vec<Record>),
 }
 
+// By hand, so that a function that lets one go calls this.
+impl Drop for KeyAnswer {
+    fn drop(self) {
+        match self {
+            KeyAnswer::Skipped => {}
+            KeyAnswer::Failed(_) => {}
+            KeyAnswer::Keys(_) => {}
+        }
+    }
+}
+
 impl KeyAnswer {
     /// An equal answer in memory of its own.
     pub fn try_clone(&self) -> Result<KeyAnswer, NoMemory>
@@ -38,14 +49,8 @@ impl KeyAnswer {
     {
         match self {
             KeyAnswer::Skipped => Ok(KeyAnswer::Skipped),
-            KeyAnswer::Failed(query) => {
-                let query = query.try_clone()?;
-                Ok(KeyAnswer::Failed(query))
-            }
-            KeyAnswer::Keys(keys) => {
-                let keys = clone_records(keys)?;
-                Ok(KeyAnswer::Keys(keys))
-            }
+            KeyAnswer::Failed(query) => Ok(KeyAnswer::Failed(query.try_clone()?)),
+            KeyAnswer::Keys(keys) => Ok(KeyAnswer::Keys(clone_records(keys)?)),
         }
     }
 }
@@ -65,8 +70,8 @@ pub fn mark_rrset<V: Verifier, L: Ledger>(
     requires record { 0 < length set.now.records }
     requires signed { 0 < length set.now.signatures }
     requires answered { length answers.now ≡ length (take most_signatures set.now.signatures) }
-    ensures proof { Gives (λ p. p) want_of_memory result (set_proof (V.answers verifier.now) now set.now answers.now) }
-    ensures calls { Unless want_of_memory result (steps.new ≡ steps.old
+    ensures proof { Gives (λ p. p) out_of_memory result (set_proof (V.answers verifier.now) now set.now answers.now) }
+    ensures calls { Unless out_of_memory result (steps.new ≡ steps.old
         + set_calls (V.answers verifier.now) now set.now (zip (take most_signatures set.now.signatures) answers.now)) }
     ensures most { steps.new ≤ steps.old + 16 }
 {
@@ -126,8 +131,7 @@ fn proof_by_answer<V: Verifier, L: Ledger>(
     ensures most { steps.new ≤ steps.old + 2 }
 {
     match answer {
-        KeyAnswer::Skipped => Ok(None),
-        KeyAnswer::Failed(_) => Ok(None),
+        KeyAnswer::Skipped | KeyAnswer::Failed(_) => Ok(None),
         KeyAnswer::Keys(keys) => verify_rrsig_with_keys(
             alloc,
             set_answers.verifier,
@@ -159,19 +163,18 @@ fn no_proof(set: &RecordSet, answers: &[KeyAnswer]) -> Result<ProofErrorKind, No
     ensures { IfOk result (λ k. kind_value k ≡ cause_of set.now answers.now) }
 {
     if are_skipped(answers) {
-        let name = set.name.try_clone()?;
         return Ok(ProofErrorKind::RrsigsNotPresent {
-            name,
+            name: set.name.try_clone()?,
             record_type: set.record_type,
         });
     }
     if let Some(query) = first_failed(answers) {
-        let query = query.try_clone()?;
-        return Ok(ProofErrorKind::Net { query });
+        return Ok(ProofErrorKind::Net {
+            query: query.try_clone()?,
+        });
     }
-    let name = set.name.try_clone()?;
     Ok(ProofErrorKind::RrsigsUnverified {
-        name,
+        name: set.name.try_clone()?,
         record_type: set.record_type,
     })
 }
@@ -188,14 +191,11 @@ fn are_skipped(answers: &[KeyAnswer]) -> bool
     true
 }
 
+// The signature wasn't asked for.
 fn is_skipped(answer: &KeyAnswer) -> bool
     ensures { result ≡ is_skipped_answer answer.now }
 {
-    match answer {
-        KeyAnswer::Skipped => true,
-        KeyAnswer::Failed(_) => false,
-        KeyAnswer::Keys(_) => false,
-    }
+    matches!(answer, KeyAnswer::Skipped)
 }
 
 // The question of the first ask that failed.
@@ -210,12 +210,12 @@ fn first_failed(answers: &[KeyAnswer]) -> Option<&Query>
     None
 }
 
+// The question of an ask that failed.
 fn failed_ask(answer: &KeyAnswer) -> Option<&Query>
     ensures { option_copied result ≡ failed_question answer.now }
 {
     match answer {
-        KeyAnswer::Skipped => None,
         KeyAnswer::Failed(query) => Some(query),
-        KeyAnswer::Keys(_) => None,
+        KeyAnswer::Skipped | KeyAnswer::Keys(_) => None,
     }
 }

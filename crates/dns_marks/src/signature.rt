@@ -1,23 +1,24 @@
+//! What a signature proves of a set by one key, and why it proves nothing (RFC 4035, 5.3).
+
 ghost use Rattle.std.specs.Prelude.{◌≡◌, ◌+◌, ◌≤◌, ◌<◌, length, true, is_some, IfOk, OnOk, IfSome};
 ghost use Rattle.std.specs.Option.{option_map};
 ghost use Rattle.dns_model.specs.Gives.{Gives};
 ghost use Rattle.dns_model.specs.RecordViews.{rrsig_of, dnskey_of};
 ghost use Rattle.dns_handle.specs.Notices.{notice_text};
 ghost use Rattle.dns_trust.specs.SetSignatures.{IsRead};
-ghost use Rattle.dns_proof.specs.Kinds.{kind_value, want_of_memory};
+ghost use Rattle.dns_cache.specs.Kinds.{kind_value, out_of_memory};
 ghost use Rattle.dns_marks.specs.Misfits.{misfit as misfit_of};
 ghost use Rattle.dns_marks.specs.Tested.{of_tested};
 ghost use Rattle.dns_marks.specs.KeySignatures.{Unless, validity_at, signature_proof, proof_read, calls_by_key, calls_read, calls_if_supported, fault_cause, key_failure as failure_of, is_verified as is_verified_by};
 
 use crate::rrset_proof::proved_by_tested;
 use crate::tested::Tested;
+use dns_cache::{ProofError, ProofErrorKind, RrsetProof};
 use dns_evidence::{Steps, Verifier};
 use dns_handle::Notice;
 use dns_model::Proof;
-use dns_name::{Name, NoMemory, Octets};
-use dns_proof::{ProofError, ProofErrorKind, RrsetProof};
 use dns_rdata::{Dnskey, Rrsig, signed_data};
-use dns_record::{Record, RecordSet};
+use dns_record::{Name, NoMemory, Octets, Record, RecordSet};
 use dns_trust::{KeyFault, RrsigValidity, SetSignature, accepts_signature, key_fault};
 use std::alloc::Global;
 use std::sync::ledger::Ledger;
@@ -37,8 +38,8 @@ pub fn verify_rrset_with_dnskey<V: Verifier, L: Ledger>(
     requires sig { is_some (rrsig_of sig.now) ≡ true }
     requires record { 0 < length set.now.records }
     ensures proof { IfSome (signature_proof (V.answers verifier.now) now set.now sig.now key.now)
-        (λ told. Gives (λ p. p) want_of_memory result told) }
-    ensures calls { Unless want_of_memory result
+        (λ told. Gives (λ p. p) out_of_memory result told) }
+    ensures calls { Unless out_of_memory result
         (steps.new ≡ steps.old + calls_by_key (V.answers verifier.now) now set.now sig.now key.now) }
     ensures most { steps.new ≤ steps.old + calls_by_key (V.answers verifier.now) now set.now sig.now key.now }
 {
@@ -67,9 +68,9 @@ fn verify_read<V: Verifier, L: Ledger>(
     steps: &mut Steps<L>,
 ) -> Result<RrsetProof, ProofError>
     requires { IsRead tested.now.signature }
-    ensures proof { Gives (λ p. p) want_of_memory result
+    ensures proof { Gives (λ p. p) out_of_memory result
         (of_tested V.answers tested.now proof_read key.now tested.now.signature.read.now dnskey.now) }
-    ensures calls { Unless want_of_memory result
+    ensures calls { Unless out_of_memory result
         (steps.new ≡ steps.old
         + of_tested V.answers tested.now calls_read key.now tested.now.signature.read.now dnskey.now) }
     ensures most { steps.new ≤ steps.old
@@ -166,7 +167,7 @@ fn is_verified<V: Verifier, L: Ledger>(
     Ok(ask_verifier(tested, dnskey, &bytes, steps))
 }
 
-// The verifier accepts the signature over these bytes as the key's; a step is counted for the call.
+/// The verifier accepts the signature over these bytes as the key's; a step is counted for the call.
 pub(crate) fn ask_verifier<V: Verifier, L: Ledger>(
     tested: &Tested<'_, '_, V>,
     dnskey: &Dnskey<'_>,

@@ -1,3 +1,5 @@
+//! What a signature proves of a set by keys that have a mark each (RFC 4035, 4.3 and 5.3).
+
 ghost use Rattle.std.specs.Prelude.{◌≡◌, ◌+◌, ◌≤◌, ◌<◌, length, Some, IfOk, OnOk};
 ghost use Rattle.std.specs.List.{list_any};
 ghost use Rattle.dns_model.specs.RecordViews.{dnskey_of};
@@ -12,12 +14,11 @@ ghost use Rattle.dns_marks.specs.KeySignatures.{calls_by_key, is_put as is_put_t
 use crate::rrset_proof::{excused, proved_by_tested};
 use crate::signature::ask_verifier;
 use crate::tested::Tested;
+use dns_cache::RrsetProof;
 use dns_evidence::{Steps, Verifier};
 use dns_model::Proof;
-use dns_name::{NoMemory, Octets};
-use dns_proof::RrsetProof;
 use dns_rdata::{Dnskey, Rrsig};
-use dns_record::{Record, RecordSet};
+use dns_record::{NoMemory, Octets, Record, RecordSet};
 use dns_trust::{SetSignature, counted_keys, is_usable, is_valid, may_be_signed, signed_data_once};
 use std::alloc::Global;
 use std::sync::ledger::Ledger;
@@ -163,6 +164,7 @@ fn are_insecure(keys: &[&Record]) -> bool
     !keys.is_empty()
 }
 
+// The key is Insecure.
 fn is_insecure(key: &Record) -> bool
     ensures { result ≡ proof_eq key.now.proof Insecure }
 {

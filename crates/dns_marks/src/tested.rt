@@ -1,3 +1,5 @@
+//! What is tested, and by what and when.
+
 use crate::KeyAnswer;
 use dns_record::RecordSet;
 use dns_trust::SetSignature;
@@ -7,6 +9,7 @@ use dns_trust::SetSignature;
 pub(crate) struct Tested<'v, 's, V> {
     /// What tests signatures.
     pub(crate) verifier: &'v V,
+    /// The signature and its set.
     pub(crate) signature: SetSignature<'s>,
     /// Seconds since 1970.
     pub(crate) moment: u64,
@@ -17,7 +20,9 @@ pub(crate) struct Tested<'v, 's, V> {
 pub(crate) struct SetAnswers<'a, V> {
     /// What tests signatures.
     pub(crate) verifier: &'a V,
+    /// The set.
     pub(crate) set: &'a RecordSet,
+    /// One answer for each of the first eight signatures, in order.
     pub(crate) answers: &'a [KeyAnswer],
     /// Seconds since 1970.
     pub(crate) moment: u64,

@@ -1,3 +1,5 @@
+//! The DS verdict of a zone, by the answer to the ask for its DS set (RFC 4035, 5.2; RFC 5155, 8.9).
+
 ghost use Rattle.std.specs.Prelude.{◌≡◌, ◌&&◌, ◌||◌, false, not, IfOk, Some};
 ghost use Rattle.std.specs.List.{filter, list_all, list_any};
 ghost use Rattle.dns_model.specs.Types.{type_ds, type_nsec};
@@ -11,14 +13,13 @@ ghost use Rattle.dns_rules.specs.Delegations.{ds_question as ds_question_of};
 ghost use Rattle.dns_marks.specs.ZoneVerdicts.{zone_verdict_value, answer_verdict, in_class, by_message, by_ds as by_ds_set, by_supported, without_ds as without_ds_set, has_ds_set as has_set_in, are_secure_in_set, authority_shows_no_ds as shows_none, hashes_show_no_ds as shows_none_by_hash, is_insecure_record_above as is_above, shown_by, is_record_of};
 
 use crate::hashed::hashes_show_no_ds;
+use dns_cache::ProofErrorKind;
 use dns_evidence::Verifier;
 use dns_handle::{DnsResponse, NetError};
 use dns_message::Message;
 use dns_model::Proof;
-use dns_name::{Name, NoMemory};
-use dns_proof::ProofErrorKind;
 use dns_rdata::Ds;
-use dns_record::{DNSClass, Record, RecordType, clone_records};
+use dns_record::{DNSClass, Name, NoMemory, Record, RecordType, clone_records};
 use dns_trust::{ds_query, is_supported_ds, shows_unsigned_cut};
 use std::alloc::Global;
 
@@ -26,7 +27,6 @@ use std::alloc::Global;
 pub type DnsAnswer = Result<DnsResponse, NetError>;
 
 /// What the DS set of a zone says of it (RFC 4035, 5.2).
-#[derive(Drop)]
 pub enum ZoneVerdict {
     /// The zone is signed, and by these DS records its keys are known.
     Signed(Vec<Record>),
@@ -36,31 +36,33 @@ pub enum ZoneVerdict {
     Bogus(ProofErrorKind),
 }
 
+// By hand, so that a function that lets one go calls this.
+impl Drop for ZoneVerdict {
+    fn drop(self) {
+        match self {
+            ZoneVerdict::Signed(_) => {}
+            ZoneVerdict::Insecure(_) => {}
+            ZoneVerdict::Bogus(_) => {}
+        }
+    }
+}
+
 impl ZoneVerdict {
     /// An equal verdict in memory of its own.
     pub fn try_clone(&self) -> Result<ZoneVerdict, NoMemory>
         ensures { IfOk result (λ v. zone_verdict_value v ≡ zone_verdict_value self.now) }
     {
         match self {
-            ZoneVerdict::Signed(ds) => {
-                let ds = clone_records(ds)?;
-                Ok(ZoneVerdict::Signed(ds))
-            }
-            ZoneVerdict::Insecure(kind) => {
-                let kind = kind.try_clone()?;
-                Ok(ZoneVerdict::Insecure(kind))
-            }
-            ZoneVerdict::Bogus(kind) => {
-                let kind = kind.try_clone()?;
-                Ok(ZoneVerdict::Bogus(kind))
-            }
+            ZoneVerdict::Signed(ds) => Ok(ZoneVerdict::Signed(clone_records(ds)?)),
+            ZoneVerdict::Insecure(kind) => Ok(ZoneVerdict::Insecure(kind.try_clone()?)),
+            ZoneVerdict::Bogus(kind) => Ok(ZoneVerdict::Bogus(kind.try_clone()?)),
         }
     }
 }
 
 /// The DS verdict of a zone, by the answer to the ask for its DS set (RFC 4035, 5.2; RFC 5155, 8.9). Records of another class
 /// say nothing of it. A set counts as Secure where all its records are; one record of any section that is Insecure, at the
-/// zone or above it, is enough where there is no DS set. Want of memory in the ask is want of memory; any other error
+/// zone or above it, is enough where there is no DS set. An ask that ran out of memory is out of memory here too; any other error
 /// is a failed ask.
 #[tactic(auto, unfolding(dns_rules::specs::Delegations::zone_verdict))]
 pub fn ds_verdict<V: Verifier>(
@@ -200,6 +202,7 @@ fn shows_no_ds(zone: &Name, class: DNSClass, authorities: &[Record]) -> bool
         && has_unsigned_cut(zone, class, authorities)
 }
 
+// Some NSEC of the zone shows a delegation to an unsigned zone.
 fn has_unsigned_cut(zone: &Name, class: DNSClass, authorities: &[Record]) -> bool
     ensures { result ≡ list_any
         (λ r. is_record_of class.0 zone.now type_nsec r && delegations.shows_unsigned_cut r) authorities.now }
@@ -221,6 +224,7 @@ fn has_insecure(zone: &Name, class: DNSClass, message: &Message) -> bool
         || has_insecure_in(zone, class, &message.additionals)
 }
 
+// One of these records is Insecure, at the zone or above it.
 fn has_insecure_in(zone: &Name, class: DNSClass, records: &[Record]) -> bool
     ensures { result ≡ list_any (is_above class.0 zone.now) records.now }
 {
@@ -232,6 +236,7 @@ fn has_insecure_in(zone: &Name, class: DNSClass, records: &[Record]) -> bool
     false
 }
 
+// The record is Insecure, at the zone or above it.
 fn is_insecure_above(zone: &Name, class: DNSClass, next: &Record) -> bool
     ensures { result ≡ is_above class.0 zone.now next.now }
 {
@@ -296,8 +301,7 @@ fn supported<V: Verifier>(
     let mut supported = Vec::new(alloc);
     for next in answers {
         if is_supported_of(verifier, zone, class, next) {
-            let ds = next.try_clone()?;
-            supported.push(ds)?;
+            supported.push(next.try_clone()?)?;
         }
     }
     Ok(supported)

@@ -1,10 +1,14 @@
-//! Chains that a verifier accepts by itself, whoever trusts their first keys and whenever. Chains that are checked with
-//! anchors and a moment are rows of `dns_check audit`.
+//! Chains that a verifier accepts by itself, whoever trusts their first keys and whenever; and how often the verifier is asked for
+//! what was kept of a set. Chains that are checked with anchors and a moment are rows of `dns_check audit`.
+
+use crate::counting::Counting;
 use crate::parts::*;
-use dns_chain_check::accepted_chain;
-use dns_evidence::{Chain, Link, Listed};
-use dns_model::Section;
-use dns_record::{DNSClass, Rdata, RecordType};
+use dns_cache::{CacheKey, Entry, RrsetProof};
+use dns_chain_check::{accepted_chain, still_holds};
+use dns_evidence::{Chain, Link, Listed, PlacedSet};
+use dns_model::{Proof, Section};
+use dns_record::{DNSClass, Query, Rdata, RecordType};
+use dns_trust::{Judge, TrustAnchors};
 use std::alloc::Global;
 use std::process::Abort;
 
@@ -28,8 +32,8 @@ const ROWS: &[Row] = &[
     Row("a number more than keys", "AN", false),
 ];
 
-/// A signature over the root's NS set, whose server is `a.`, and the bytes that it is over.
-const OVER_ROOT: &[u8] = b"\0\x02\x0d\0\0\0\x0e\x10\0\0\x07\xd0\0\0\x03\xe8\xae\xc9\0\xcc";
+/// A signature over the root's NS set, whose server is `a.`, from second 1000 to second 2000, and the bytes that it is over.
+const OVER_ROOT: &[u8] = b"\0\x02\x0d\0\0\0\x0e\x10\0\0\x07\xd0\0\0\x03\xe8\xae\xc9\0\xaa\xbb";
 
 const ROOT_BYTES: &[u8] =
     b"\0\x02\x0d\0\0\0\x0e\x10\0\0\x07\xd0\0\0\x03\xe8\xae\xc9\0\0\0\x02\0\x01\0\0\x0e\x10\0\x03\x01a\0";
@@ -103,13 +107,11 @@ fn links_of(rt: &impl Abort, alloc: Global, letters: &str) -> Vec<Link> {
     links
 }
 
-/// So many links to the root's key.
-fn starts(rt: &impl Abort, alloc: Global, count: usize) -> Vec<Link> {
-    let mut links = Vec::new(alloc);
+/// So many links more to the root's key.
+fn add_starts(rt: &impl Abort, alloc: Global, links: &mut Vec<Link>, count: usize) {
     for _ in 0..count {
         links.push(anchored(rt, alloc, KEY)).expect(rt, "memory");
     }
-    links
 }
 
 /// The verifier accepts the chain of these links.
@@ -120,12 +122,9 @@ fn is_accepted(rt: &impl Abort, alloc: Global, links: Vec<Link>) -> bool {
     };
     let mut listed = Listed::new(alloc);
     listed.support(13);
-    let listing = listed.accept(13, b"\xaa\xbb", ROOT_BYTES, b"\xcc");
+    let listing = listed.accept(13, b"\xaa\xbb", ROOT_BYTES, b"\xaa\xbb");
     listing.expect(rt, "memory");
-    let accepted = accepted_chain(alloc, &listed, &chain).expect(rt, "memory");
-    drop(listed);
-    drop(chain);
-    accepted
+    accepted_chain(alloc, &listed, &chain).expect(rt, "memory")
 }
 
 #[test]
@@ -138,6 +137,67 @@ fn chains_are_accepted_without_anchors_and_moment(rt: HostRuntime) {
 
 #[test]
 fn a_chain_of_70_000_keys_is_accepted(rt: HostRuntime) {
-    let links = starts(&rt, rt.alloc(), MANY);
+    let mut links = Vec::new(rt.alloc());
+    add_starts(&rt, rt.alloc(), &mut links, MANY);
     check_row(&rt, "70,000 keys", is_accepted(&rt, rt.alloc(), links));
+}
+
+/// The root's NS set with its signature, in an answer.
+fn placed_set(rt: &impl Abort, alloc: Global) -> PlacedSet {
+    PlacedSet {
+        section: Section::Answer,
+        set: set_of(rt, alloc, ".", RecordType::NS, &[b"\x01a\0"], &[OVER_ROOT]),
+    }
+}
+
+/// The whole chain, with so many links more to the root's key.
+fn whole_chain(rt: &impl Abort, alloc: Global, more: usize) -> Chain {
+    let mut links = links_of(rt, alloc, "AW");
+    add_starts(rt, alloc, &mut links, more);
+    links.push(link(rt, alloc, b'S')).expect(rt, "memory");
+    Chain {
+        section: Section::Answer,
+        links,
+    }
+}
+
+/// What a cache kept of it: Secure by its first signature, and by that chain.
+fn kept(rt: &impl Abort, alloc: Global, placed: &PlacedSet, more: usize) -> Entry {
+    let query = Query {
+        name: name_of(rt, alloc, "."),
+        query_type: RecordType::NS,
+        query_class: DNSClass::IN,
+    };
+    let found = RrsetProof {
+        proof: Proof::Secure,
+        adjusted_ttl: Some(500),
+        rrsig_index: Some(0),
+    };
+    let chain = whole_chain(rt, alloc, more);
+    let key = CacheKey::of(&query, &placed.set).expect(rt, "memory");
+    Entry::new(key, 2000, Ok(found), Some(chain))
+}
+
+/// What was kept holds at a moment by one question to the verifier, since one link of its chain is a signed one.
+fn holds_at(rt: &impl Abort, alloc: Global, moment: u64, more: usize) -> bool {
+    let placed = placed_set(rt, alloc);
+    let mut anchors = TrustAnchors::empty(alloc);
+    trust(rt, alloc, &mut anchors, ".", b"\xaa\xbb");
+    let verifier = Counting::new();
+    let judge = Judge {
+        verifier: &verifier,
+        anchors: &anchors,
+        moment,
+    };
+    let entry = kept(rt, alloc, &placed, more);
+    let holds = still_holds(alloc, &judge, &placed, &entry).expect(rt, "memory");
+    holds && verifier.questions.get() == 1
+}
+
+#[test]
+fn a_kept_chain_is_put_to_the_verifier_once(rt: HostRuntime) {
+    let alloc = rt.alloc();
+    check_row(&rt, "one question", holds_at(&rt, alloc, 1500, 0));
+    check_row(&rt, "past its signature", !holds_at(&rt, alloc, 2001, 0));
+    check_row(&rt, "of 70,003 links", holds_at(&rt, alloc, 1500, MANY));
 }

@@ -1,3 +1,5 @@
+//! A verifier that counts its questions.
+
 use dns_evidence::Verifier;
 use std::cell::Cell;
 

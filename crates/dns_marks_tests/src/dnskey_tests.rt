@@ -1,9 +1,11 @@
+//! Which DS records match a key, and what is found of one that none matches (RFC 4035, 5.2).
+
 use crate::counting::Counting;
 use crate::parts::*;
 use crate::wanted::reads;
+use dns_cache::ProofError;
 use dns_marks::verify_dnskey;
 use dns_model::Proof;
-use dns_proof::ProofError;
 use dns_record::{Record, RecordType};
 use dns_trust::DsIndex;
 use std::alloc::Global;
@@ -80,9 +82,7 @@ fn is_matched(
     ds: &[Record],
 ) -> bool {
     let index = DsIndex::of(alloc, &key.name, ds).expect(rt, "memory");
-    let matched = index.matching(verifier, key).is_some();
-    drop(index);
-    matched
+    index.matching(verifier, key).is_some()
 }
 
 /// What is found of a key of this type and rdata is what is wanted, and a DS matches it where that is Secure.
@@ -105,17 +105,12 @@ fn finds(
     let verifier = Counting::new();
     let matched = is_matched(rt, alloc, &verifier, &key, ds);
     let found = verify_dnskey(alloc, &verifier, &key, ds);
-    let held = is_key(rt, alloc, &found, want);
-    drop(found);
-    drop(key);
-    held && matched == (want == "Secure")
+    is_key(rt, alloc, &found, want) && matched == (want == "Secure")
 }
 
 fn is_shown(rt: &impl Abort, alloc: Global, row: &Row) -> bool {
     let ds = ds_records(rt, alloc, row.3);
-    let held = finds(rt, alloc, row.1, row.2, &ds, row.4);
-    drop(ds);
-    held
+    finds(rt, alloc, row.1, row.2, &ds, row.4)
 }
 
 #[test]
@@ -128,7 +123,6 @@ fn keys_are_proved_by_ds_records(rt: HostRuntime) {
 #[test]
 fn a_key_is_matched_behind_70_000_ds_records(rt: HostRuntime) {
     let ds = many_and_one(&rt, rt.alloc(), RecordType::DS, DS_BESIDE, DS);
-    let held = finds(&rt, rt.alloc(), DNSKEY, KEY, &ds, "Secure");
-    drop(ds);
-    check_row(&rt, "the last DS matches", held);
+    let matched = finds(&rt, rt.alloc(), DNSKEY, KEY, &ds, "Secure");
+    check_row(&rt, "the last DS matches", matched);
 }

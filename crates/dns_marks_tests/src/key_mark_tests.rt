@@ -1,11 +1,12 @@
+//! The marks of DNSKEY sets, and how often the verifier is asked for one (RFC 4035, 5.2).
+
 use crate::counting::Counting;
 use crate::parts::*;
 use crate::wanted::{Want, is_found, reads, text_of};
+use dns_cache::{ProofError, ProofErrorKind};
 use dns_marks::{KeysMark, ZoneVerdict, mark_keys};
 use dns_model::Proof;
-use dns_name::Name;
-use dns_proof::{ProofError, ProofErrorKind};
-use dns_record::{RecordSet, RecordType};
+use dns_record::{Name, RecordSet, RecordType};
 use dns_trust::TrustAnchors;
 use std::alloc::Global;
 use std::process::Abort;
@@ -152,20 +153,14 @@ fn is_marked(
     }
     let verifier = Counting::new();
     let mark = mark_keys(alloc, &verifier, anchors, set, zone, 1500);
-    let held = is_mark(rt, alloc, &mark, &row.7);
-    drop(mark);
-    held && verifier.questions.get() == row.8
+    is_mark(rt, alloc, &mark, &row.7) && verifier.questions.get() == row.8
 }
 
 fn is_shown(rt: &impl Abort, alloc: Global, row: &Row) -> bool {
     let set = key_set(rt, alloc, row);
     let anchors = anchors_of(rt, alloc, row);
     let zone = verdict_of(rt, alloc, &row.6);
-    let held = is_marked(rt, alloc, &set, &anchors, zone.as_ref(), row);
-    drop(zone);
-    drop(anchors);
-    drop(set);
-    held
+    is_marked(rt, alloc, &set, &anchors, zone.as_ref(), row)
 }
 
 #[test]

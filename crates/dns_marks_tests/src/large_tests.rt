@@ -1,4 +1,5 @@
 //! Lists of more than fits in 16 bits: none gives up by its number. And lists of signatures in another order.
+
 use crate::parts::*;
 use dns_evidence::{Listed, Verifier};
 use dns_marks::{KeyAnswer, ZoneVerdict};
@@ -20,11 +21,10 @@ fn copy_holds_last(rt: &impl Abort, alloc: Global) -> bool {
         accepted.expect(rt, "memory");
     }
     let copy = listed.try_clone().expect(rt, "memory");
+    // The copy stands by itself.
     drop(listed);
     let last = MANY as u32 - 1;
-    let held = copy.accepts(13, &last.to_be_bytes(), SIGNED, SIGNATURE);
-    drop(copy);
-    held
+    copy.accepts(13, &last.to_be_bytes(), SIGNED, SIGNATURE)
 }
 
 #[test]
@@ -59,30 +59,26 @@ fn become_same(rt: &impl Abort, listed: &mut Listed, other: &mut Listed) -> bool
 fn lists_are_the_same_in_any_order(rt: HostRuntime) {
     let mut listed = Listed::new(rt.alloc());
     let mut other = Listed::new(rt.alloc());
-    let held = become_same(&rt, &mut listed, &mut other);
-    drop(other);
-    drop(listed);
-    check_row(&rt, "another order, and one twice", held);
+    let same = become_same(&rt, &mut listed, &mut other);
+    check_row(&rt, "another order, and one twice", same);
 }
 
 fn is_answer_copied(rt: &impl Abort, alloc: Global) -> bool {
     let keys = many_and_one(rt, alloc, RecordType::DNSKEY, KEY_BESIDE, KEY);
     let answer = KeyAnswer::Keys(keys);
     let copy = answer.try_clone().expect(rt, "memory");
+    // The copy stands by itself.
     drop(answer);
-    let held = matches!(&copy, KeyAnswer::Keys(keys) if keys.len() == MANY + 1);
-    drop(copy);
-    held
+    matches!(&copy, KeyAnswer::Keys(keys) if keys.len() == MANY + 1)
 }
 
 fn is_verdict_copied(rt: &impl Abort, alloc: Global) -> bool {
     let ds = many_and_one(rt, alloc, RecordType::DS, MISS, DS);
     let verdict = ZoneVerdict::Signed(ds);
     let copy = verdict.try_clone().expect(rt, "memory");
+    // The copy stands by itself.
     drop(verdict);
-    let held = matches!(&copy, ZoneVerdict::Signed(ds) if ds.len() == MANY + 1);
-    drop(copy);
-    held
+    matches!(&copy, ZoneVerdict::Signed(ds) if ds.len() == MANY + 1)
 }
 
 #[test]
@@ -101,9 +97,7 @@ fn trusts(
     key: &[u8],
 ) -> bool {
     let owner = name_of(rt, alloc, owner);
-    let held = anchors.contains_with_name(&owner, algorithm, key);
-    drop(owner);
-    held
+    anchors.contains_with_name(&owner, algorithm, key)
 }
 
 /// Each of so many keys is new.
@@ -119,18 +113,14 @@ fn trust_all(rt: &impl Abort, alloc: Global, anchors: &mut TrustAnchors) -> bool
 fn copy_trusts_last(rt: &impl Abort, alloc: Global, anchors: &TrustAnchors) -> bool {
     let copy = anchors.try_clone().expect(rt, "memory");
     let last = MANY as u32 - 1;
-    let held = trusts(rt, alloc, &copy, ".", 13, &last.to_be_bytes()) && copy.len() == MANY;
-    drop(copy);
-    held
+    trusts(rt, alloc, &copy, ".", 13, &last.to_be_bytes()) && copy.len() == MANY
 }
 
 /// Whether a set that trusts a key of `org.` by algorithm 13 trusts it for this owner and this algorithm.
 fn is_trusted_for(rt: &impl Abort, alloc: Global, owner: &str, algorithm: u8) -> bool {
     let mut anchors = TrustAnchors::empty(alloc);
     trust(rt, alloc, &mut anchors, "org.", KEY);
-    let held = trusts(rt, alloc, &anchors, owner, algorithm, KEY);
-    drop(anchors);
-    held
+    trusts(rt, alloc, &anchors, owner, algorithm, KEY)
 }
 
 #[test]
@@ -158,7 +148,6 @@ fn a_set_of_70_000_anchors_is_copied(rt: HostRuntime) {
     let mut anchors = TrustAnchors::empty(rt.alloc());
     let all_new = anchors.is_empty() && trust_all(&rt, rt.alloc(), &mut anchors);
     let again = trust(&rt, rt.alloc(), &mut anchors, ".", &0u32.to_be_bytes());
-    let held = copy_trusts_last(&rt, rt.alloc(), &anchors);
-    drop(anchors);
-    check_row(&rt, "of the root", held && all_new && !again);
+    let copied = copy_trusts_last(&rt, rt.alloc(), &anchors);
+    check_row(&rt, "of the root", all_new && !again && copied);
 }

@@ -1,7 +1,7 @@
 //! What tests share: the assertion on a row, and keys, records, sets and anchors.
+
 use dns_model::Proof;
-use dns_name::{Name, Octets};
-use dns_record::{DNSClass, Rdata, Record, RecordSet, RecordType};
+use dns_record::{DNSClass, Name, Octets, Rdata, Record, RecordSet, RecordType};
 use dns_trust::TrustAnchors;
 use std::alloc::Global;
 use std::process::Abort;
@@ -145,7 +145,6 @@ pub(crate) fn fill(
         let next = one.try_clone().expect(rt, "memory");
         records.push(next).expect(rt, "memory");
     }
-    drop(one);
 }
 
 /// Trusts a key of this owner; whether it is new.

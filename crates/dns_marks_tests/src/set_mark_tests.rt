@@ -1,14 +1,15 @@
 //! The marks of whole sets, and how often the verifier is asked for one: for its signatures in turn, up to the first
 //! that proves it, and for eight at the most (RFC 4035, 5.3.3).
+
 ghost use Rattle.std.specs.Prelude.{◌≡◌, ◌<◌};
 
 use crate::counting::Counting;
 use crate::parts::*;
 use crate::wanted::{Want, is_wanted};
+use dns_cache::{ProofError, ProofErrorKind, RrsetProof};
 use dns_evidence::Steps;
 use dns_marks::{KeyAnswer, mark_rrset};
 use dns_model::Proof;
-use dns_proof::{ProofError, ProofErrorKind, RrsetProof};
 use dns_record::{DNSClass, Query, RecordSet, RecordType};
 use dns_trust::first_signatures;
 use std::alloc::Global;
@@ -124,9 +125,7 @@ fn answer_of(rt: &impl Abort, alloc: Global, owner: &str, told: &Told) -> KeyAns
 /// A copy of an answer, which outlives it.
 fn copied_answer(rt: &impl Abort, alloc: Global, owner: &str, told: &Told) -> KeyAnswer {
     let answer = answer_of(rt, alloc, owner, told);
-    let copy = answer.try_clone().expect(rt, "memory");
-    drop(answer);
-    copy
+    answer.try_clone().expect(rt, "memory")
 }
 
 fn answers_of(rt: &impl Abort, alloc: Global, row: &Row) -> Vec<KeyAnswer> {
@@ -170,18 +169,13 @@ fn is_marked(
 ) -> bool {
     let verifier = Counting::new();
     let mark = found::<Brand>(alloc, &verifier, set, answers, Blank::new(1));
-    let held = is_wanted(rt, alloc, &mark, &row.4);
-    drop(mark);
-    held && verifier.questions.get() == row.5
+    is_wanted(rt, alloc, &mark, &row.4) && verifier.questions.get() == row.5
 }
 
 fn is_shown(rt: &impl Abort, alloc: Global, row: &Row) -> bool {
     let answers = answers_of(rt, alloc, row);
     let set = set_of(rt, alloc, row.1, RecordType::NS, &[b"\x01a\0"], row.2);
-    let held = is_marked(rt, alloc, &set, &answers, row);
-    drop(set);
-    drop(answers);
-    held
+    is_marked(rt, alloc, &set, &answers, row)
 }
 
 #[test]

@@ -1,18 +1,18 @@
 //! What signatures prove by keys with marks, and how often the verifier is asked for one: for each key that counts and
 //! passes every other test, in turn, up to the first by which the signature is good (RFC 4035, 5.3). Contracts see the
 //! counter of steps, and not the verifier.
+
 ghost use Rattle.std.specs.Prelude.{◌≡◌, ◌<◌};
 
 use crate::counting::Counting;
 use crate::parts::*;
 use crate::wanted::{Want, is_found, is_wanted};
+use dns_cache::{ProofError, ProofErrorKind, RrsetProof};
 use dns_evidence::Steps;
 use dns_marks::{verify_rrset_with_dnskey, verify_rrsig_with_keys};
 use dns_model::Proof;
-use dns_name::NoMemory;
-use dns_proof::{ProofError, ProofErrorKind, RrsetProof};
 use dns_rdata::{Dnskey, Rrsig};
-use dns_record::{Record, RecordSet, RecordType};
+use dns_record::{NoMemory, Record, RecordSet, RecordType};
 use dns_trust::{Judge, TrustAnchors, is_good_by};
 use std::alloc::Global;
 use std::marker::Brand;
@@ -184,9 +184,7 @@ fn is_good(rt: &impl Abort, alloc: Global, verifier: &Counting, parts: &Parts, n
         anchors: &anchors,
         moment: now,
     };
-    let good = is_good_by(alloc, &judge, set, sig, key).expect(rt, "memory");
-    drop(anchors);
-    good
+    is_good_by(alloc, &judge, set, sig, key).expect(rt, "memory")
 }
 
 /// What it proves by all keys, whose marks count.
@@ -218,9 +216,8 @@ fn is_proved_by_key(rt: &impl Abort, alloc: Global, parts: &Parts, row: &Row) ->
     let good = is_good(rt, alloc, &verifier, parts, row.4);
     let once = verifier.questions.get();
     let mark = proof_by_key::<Brand>(alloc, &verifier, parts, row.4, Blank::new(1));
-    let held = is_wanted(rt, alloc, &mark, &row.5);
-    drop(mark);
-    held && good == matches!(&row.5, Want::Found(..))
+    is_wanted(rt, alloc, &mark, &row.5)
+        && good == matches!(&row.5, Want::Found(..))
         && once == row.6
         && verifier.questions.get() == once.wrapping_add(row.6)
 }
@@ -240,9 +237,8 @@ fn is_proved_by_keys(rt: &impl Abort, alloc: Global, parts: &Parts, row: &Row) -
 fn signatures_are_judged_by_one_key(rt: HostRuntime) {
     for row in by_one() {
         let parts = parts_of(&rt, rt.alloc(), row);
-        let held = is_proved_by_key(&rt, rt.alloc(), &parts, row);
-        drop(parts);
-        check_row(&rt, row.0, held);
+        let proved = is_proved_by_key(&rt, rt.alloc(), &parts, row);
+        check_row(&rt, row.0, proved);
     }
 }
 
@@ -250,9 +246,8 @@ fn signatures_are_judged_by_one_key(rt: HostRuntime) {
 fn signatures_are_judged_by_keys_with_marks(rt: HostRuntime) {
     for row in by_keys() {
         let parts = parts_of(&rt, rt.alloc(), row);
-        let held = is_proved_by_keys(&rt, rt.alloc(), &parts, row);
-        drop(parts);
-        check_row(&rt, row.0, held);
+        let proved = is_proved_by_keys(&rt, rt.alloc(), &parts, row);
+        check_row(&rt, row.0, proved);
     }
 }
 
@@ -274,7 +269,6 @@ fn a_set_of_70_000_records_is_proved_by_the_last_of_as_many_keys(rt: HostRuntime
     let parts = large_parts(&rt, rt.alloc());
     let by_key = is_proved_by_key(&rt, rt.alloc(), &parts, LARGE);
     let by_keys = is_proved_by_keys(&rt, rt.alloc(), &parts, LARGE);
-    drop(parts);
     check_row(&rt, "by that key alone", by_key);
     check_row(&rt, "among them", by_keys);
 }

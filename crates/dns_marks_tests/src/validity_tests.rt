@@ -1,3 +1,5 @@
+//! Whether a signature fits a set, a key and a moment (RFC 4035, 5.3.1).
+
 use crate::parts::*;
 use dns_model::Proof;
 use dns_record::{Record, RecordType};
@@ -95,9 +97,6 @@ fn fits(rt: &impl Abort, alloc: Global, row: &Row) -> bool {
     let key = record_of(rt, alloc, &row.2);
     let set = set_of(rt, alloc, ".", RecordType::NS, &[b"\x01a\0"], &[]);
     let found = RrsigValidity::check(&sig, &set, &key, row.3);
-    drop(set);
-    drop(key);
-    drop(sig);
     found == row.4
 }
 

@@ -1,6 +1,7 @@
 //! Marks and errors as tests compare them.
+
+use dns_cache::{ProofError, RrsetProof};
 use dns_model::Proof;
-use dns_proof::{ProofError, RrsetProof};
 use std::alloc::Global;
 use std::fmt::Display;
 use std::process::Abort;
@@ -15,9 +16,7 @@ pub(crate) enum Want {
 /// An error, or the cause of one, reads so.
 pub(crate) fn reads<D: Display>(rt: &impl Abort, alloc: Global, error: &D, want: &str) -> bool {
     let text = format!(in alloc; "{error}").expect(rt, "memory");
-    let held = text.as_str() == want;
-    drop(text);
-    held
+    text.as_str() == want
 }
 
 /// What is found is this mark, this ttl and this place.

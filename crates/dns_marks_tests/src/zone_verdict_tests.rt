@@ -1,3 +1,5 @@
+//! The DS verdicts of a zone, by answers and by asks that failed (RFC 4035, 5.2; RFC 5155, 8.9).
+
 use crate::counting::Counting;
 use crate::parts::*;
 use crate::wanted::reads;
@@ -8,8 +10,7 @@ use dns_message::Message;
 use dns_model::Proof::{Bogus, Insecure, Secure};
 use dns_model::Section::{Additional, Answer, Authority};
 use dns_model::{Denial, Proof, Section};
-use dns_name::NoMemory;
-use dns_record::{DNSClass, OpCode, Query, Record, RecordType, ResponseCode};
+use dns_record::{DNSClass, NoMemory, OpCode, Query, Record, RecordType, ResponseCode};
 use std::alloc::Global;
 use std::process::Abort;
 
@@ -241,9 +242,7 @@ fn is_verdict(rt: &impl Abort, alloc: Global, verdict: &ZoneVerdict, want: &Want
 /// A copy of a verdict is this one.
 fn copy_is(rt: &impl Abort, alloc: Global, verdict: &ZoneVerdict, want: &Want) -> bool {
     let copy = verdict.try_clone().expect(rt, "memory");
-    let held = is_verdict(rt, alloc, &copy, want);
-    drop(copy);
-    held
+    is_verdict(rt, alloc, &copy, want)
 }
 
 fn is_wanted(
@@ -262,11 +261,7 @@ fn is_wanted(
 fn gives(rt: &impl Abort, alloc: Global, class: DNSClass, answer: DnsAnswer, want: &Want) -> bool {
     let zone = name_of(rt, alloc, "EXAMPLE.");
     let verdict = ds_verdict(alloc, &Counting::new(), &zone, class, &answer);
-    let held = is_wanted(rt, alloc, &verdict, want);
-    drop(verdict);
-    drop(zone);
-    drop(answer);
-    held
+    is_wanted(rt, alloc, &verdict, want)
 }
 
 /// The DS verdict by a response that is this message.

@@ -17,7 +17,14 @@ unfolding u16_field
 field_whole bytes pos inside = let test : nat_lt (length bytes) (pos + 2) ≡ false = grind (arith, nat_tests, inside) in rw test refl
 
 pub header_whole : (bytes : List ℕ) → 12 ≤ length bytes
-    → header_at bytes ≡ Ok (record { id = u16_at bytes 0; flags = u16_at bytes 2; questions = u16_at bytes 4; answers = u16_at bytes 6; authorities = u16_at bytes 8; additionals = u16_at bytes 10 })
+    → header_at bytes ≡ Ok (record {
+      id = u16_at bytes 0;
+      flags = u16_at bytes 2;
+      questions = u16_at bytes 4;
+      answers = u16_at bytes 6;
+      authorities = u16_at bytes 8;
+      additionals = u16_at bytes 10;
+    })
 unfolding header_at
 header_whole bytes whole =
     let a = field_whole bytes 0 (omega (arith, whole)) in

@@ -86,7 +86,8 @@ ReadsAgain bound bytes = (start pos size other : ℕ) (labels : Labels) (next : 
     → labels_from bound bytes start pos size ≡ Ok (labels, next)
     → other + length (wire labels) ≤ 255 → labels_from bound bytes start pos other ≡ Ok (labels, next)
 
-step_again : (r : Result Step DecodeError) (bound : ℕ) (bytes : List ℕ) (start pos size other : ℕ) (labels : Labels) (next : ℕ) → step_of bytes start pos size ≡ r
+step_again : (r : Result Step DecodeError) (bound : ℕ) (bytes : List ℕ) (start pos size other : ℕ) (labels : Labels) (next : ℕ)
+    → step_of bytes start pos size ≡ r
     → ReadsAgain bound bytes → after_step r bytes start pos size (labels_from bound bytes) ≡ Ok (labels, next)
     → other + length (wire labels) ≤ 255
     → after_step (step_of bytes start pos other) bytes start pos other (labels_from bound bytes) ≡ Ok (labels, next)
@@ -102,7 +103,8 @@ step_again (Ok (step.Label n)) bound bytes start pos size other labels next is m
     let some = some_wire b.rest in
     let again : labels_from bound bytes start (pos + 1 + n) (other + 1 + n) ≡ Ok (b.rest, next) =
     more start (pos + 1 + n) (size + 1 + n) (other + 1 + n) b.rest next b.told (omega (arith, room, size_of, long)) in
-    rw (label_again bytes start pos size other n is (omega (arith, room, size_of, long, some))) (ap (with_label label) again ∙ ap (λ (l : Labels). Ok (l, next)) (sym b.whole))
+    rw (label_again bytes start pos size other n is (omega (arith, room, size_of, long, some))) (ap (with_label label) again
+    ∙ ap (λ (l : Labels). Ok (l, next)) (sym b.whole))
 step_again (Ok (step.Pointer target)) bound bytes start pos size other labels next is more h room =
     let e = elsewhere (labels_from bound bytes target target size) labels next (pos + 2) h in
     let again : labels_from bound bytes target target other ≡ Ok (labels, e.other) =
@@ -137,7 +139,8 @@ ended_with : (ending : Option ℕ) (front rest : Labels) (place : ℕ)
 ended_with None front rest place = refl
 ended_with (Some first) front rest place = refl
 
-pub row_known : (bytes : List ℕ) (at start pos : ℕ) (ending : Option ℕ) (old new : List ℕ) (size target : ℕ) (copied whole spelled : List ℕ) → Row bytes at start pos ending old new size
+pub row_known : (bytes : List ℕ) (at start pos : ℕ) (ending : Option ℕ) (old new : List ℕ) (size target : ℕ)
+    (copied whole spelled : List ℕ) → Row bytes at start pos ending old new size
     → step_of bytes start pos size ≡ Ok (step.Pointer target) → IsKnown bytes target spelled
     → size + length spelled ≤ 255
     → copied ≡ new ++ slice_range bytes start pos → whole ≡ copied ++ spelled
@@ -261,7 +264,8 @@ pub more_passed : (bytes : List ℕ) (at place size : ℕ) (old new : List Passe
     → All (IsOnWay bytes at) old
     → IsOnWay bytes at (record { place = place; size = size }) → All (IsOnWay bytes at) new
 more_passed bytes at place size old new (inl same) all one = subst (All (IsOnWay bytes at)) (sym same) all
-more_passed bytes at place size old new (inr more) all one = subst (All (IsOnWay bytes at)) (sym more) (All-push (IsOnWay bytes at) old (record { place = place; size = size }) all one)
+more_passed bytes at place size old new (inr more) all one =
+    subst (All (IsOnWay bytes at)) (sym more) (All-push (IsOnWay bytes at) old (record { place = place; size = size }) all one)
 
 -- ---- the table
 
@@ -293,7 +297,8 @@ kept_more bytes spelled more starts sizes all = record {
       let one = all.each place lt in
       record {
         inside = λ some. omega (arith, one.inside some, length-append spelled more);
-        known = λ some. subst (IsKnown bytes place) (sym (same_part spelled more (slice_index starts place) (slice_index sizes place) (one.inside some))) (one.known some);
+        known = λ some. subst (IsKnown bytes place)
+            (sym (same_part spelled more (slice_index starts place) (slice_index sizes place) (one.inside some))) (one.known some);
       };
 }
 

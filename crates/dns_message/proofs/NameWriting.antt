@@ -31,7 +31,8 @@ first_of_ok {X} {Y} {p} {q} h = let e : p ≡ q = cc in ap (λ (x : X × Y). x.0
 pub second_of_ok : {X Y : Type 0} {p q : X × Y} → (let r : Result (X × Y) DecodeError = Ok p in r) ≡ Ok q → p.1 ≡ q.1
 second_of_ok {X} {Y} {p} {q} h = let e : p ≡ q = cc in ap (λ (x : X × Y). x.1) e
 
-with_label_inverse : (label : Label) (r : Result (Labels × ℕ) DecodeError) (labels : Labels) (next : ℕ) → with_label label r ≡ Ok (labels, next) → IsMore label r labels next
+with_label_inverse : (label : Label) (r : Result (Labels × ℕ) DecodeError) (labels : Labels) (next : ℕ)
+    → with_label label r ≡ Ok (labels, next) → IsMore label r labels next
 with_label_inverse label (Err e) labels next h = absurd cc
 with_label_inverse label (Ok x) labels next h =
     let same : label ∷ x.0 ≡ labels = first_of_ok h in
@@ -42,13 +43,15 @@ record IsEnding (r : Result (Labels × ℕ) DecodeError) (labels : Labels) : Typ
   place : ℕ
   was : r ≡ Ok (labels, place)
 
-ending_inverse : (place : ℕ) (r : Result (Labels × ℕ) DecodeError) (labels : Labels) (next : ℕ) → ending_at place r ≡ Ok (labels, next) → IsEnding r labels
+ending_inverse : (place : ℕ) (r : Result (Labels × ℕ) DecodeError) (labels : Labels) (next : ℕ)
+    → ending_at place r ≡ Ok (labels, next) → IsEnding r labels
 ending_inverse place (Err e) labels next h = absurd cc
 ending_inverse place (Ok x) labels next h =
     let same : x.0 ≡ labels = first_of_ok h in
     record { place = x.1; was = ap (λ (l : Labels). Ok (l, x.1)) same }
 
-step_good : (r : Result Step DecodeError) (n : ℕ) (bytes : List ℕ) (start pos size : ℕ) (labels : Labels) (next : ℕ) → size ≤ 254 → step_of bytes start pos size ≡ r
+step_good : (r : Result Step DecodeError) (n : ℕ) (bytes : List ℕ) (start pos size : ℕ) (labels : Labels) (next : ℕ)
+    → size ≤ 254 → step_of bytes start pos size ≡ r
     → ((s p z : ℕ) (l : Labels) (k : ℕ) → z ≤ 254 → labels_from n bytes s p z ≡ Ok (l, k) → IsGood z l)
     → after_step r bytes start pos size (labels_from n bytes) ≡ Ok (labels, next) → IsGood size labels
 step_good (Err e) n bytes start pos size labels next fits is ih h = absurd cc
@@ -72,11 +75,13 @@ step_good (Ok (step.Pointer target)) n bytes start pos size labels next fits is 
     let more = ending_inverse (pos + 2) (labels_from n bytes target target size) labels next h in
     ih target target size labels more.place fits more.was
 
-labels_good : (n : ℕ) (bytes : List ℕ) (start pos size : ℕ) (labels : Labels) (next : ℕ) → size ≤ 254 → labels_from n bytes start pos size ≡ Ok (labels, next) → IsGood size labels
+labels_good : (n : ℕ) (bytes : List ℕ) (start pos size : ℕ) (labels : Labels) (next : ℕ) → size ≤ 254
+    → labels_from n bytes start pos size ≡ Ok (labels, next) → IsGood size labels
 unfolding labels_from
 labels_good zero bytes start pos size labels next fits h = absurd cc
 labels_good (suc n) bytes start pos size labels next fits h =
-    step_good (step_of bytes start pos size) n bytes start pos size labels next fits refl (λ s p z l k f e. labels_good n bytes s p z l k f e) h
+    step_good (step_of bytes start pos size) n bytes start pos size labels next fits refl
+    (λ s p z l k f e. labels_good n bytes s p z l k f e) h
 
 -- what is read is a name
 pub name_good : (bytes : List ℕ) (pos : ℕ) (labels : Labels) (next : ℕ) → name_at bytes pos ≡ Ok (labels, next) → is_name labels ≡ true
@@ -88,19 +93,23 @@ name_good bytes pos labels next h =
 
 -- ---- the other way
 
-root_here : (bytes : List ℕ) (start pos size : ℕ) → pos < length bytes → get_or bytes pos 0 ≡ 0 → step_of bytes start pos size ≡ Ok step.Root
+root_here : (bytes : List ℕ) (start pos size : ℕ) → pos < length bytes → get_or bytes pos 0 ≡ 0
+    → step_of bytes start pos size ≡ Ok step.Root
 unfolding step_of
 root_here bytes start pos size inside byte = grind (arith, nat_tests)
 
-label_here : (bytes : List ℕ) (start pos size n : ℕ) → get_or bytes pos 0 ≡ n → 0 < n → n ≤ 63 → pos + 1 + n ≤ length bytes → size + 1 + n ≤ 254 → step_of bytes start pos size ≡ Ok (step.Label n)
+label_here : (bytes : List ℕ) (start pos size n : ℕ) → get_or bytes pos 0 ≡ n → 0 < n → n ≤ 63 → pos + 1 + n ≤ length bytes
+    → size + 1 + n ≤ 254 → step_of bytes start pos size ≡ Ok (step.Label n)
 unfolding step_of
 label_here bytes start pos size n byte some small inside room = grind (arith, nat_tests)
 
-pub labels_again : (labels : Labels) (bytes : List ℕ) (start pos size : ℕ) → Stands bytes pos (wire labels) → list_all is_label labels ≡ true → size + length (wire labels) ≤ 255
+pub labels_again : (labels : Labels) (bytes : List ℕ) (start pos size : ℕ) → Stands bytes pos (wire labels)
+    → list_all is_label labels ≡ true → size + length (wire labels) ≤ 255
     → labels_at bytes start pos size ≡ Ok (labels, pos + length (wire labels))
 labels_again [] bytes start pos size s good room =
     let inside : pos + 1 ≤ length bytes = stands_inside bytes pos (0 ∷ []) s in
-    let byte : get_or bytes pos 0 ≡ 0 = ap (λ (k : ℕ). get_or bytes k 0) (sym (add-zero pos)) ∙ stands_byte bytes pos (0 ∷ []) 0 s (omega arith) in
+    let byte : get_or bytes pos 0 ≡ 0 = ap (λ (k : ℕ). get_or bytes k 0) (sym (add-zero pos))
+    ∙ stands_byte bytes pos (0 ∷ []) 0 s (omega arith) in
     one_step (Ok step.Root) bytes start pos size (root_here bytes start pos size (omega arith) byte)
 labels_again (label ∷ name) bytes start pos size s good room =
     let n : ℕ = length label in
@@ -111,12 +120,15 @@ labels_again (label ∷ name) bytes start pos size s good room =
     let whole : length (wire (label ∷ name)) ≡ 1 + length label + length (wire name) = omega (arith, length-append label (wire name)) in
     let last : 0 < length (wire name) = omega (arith, length-wire name) in
     let inside : pos + length (wire (label ∷ name)) ≤ length bytes = stands_inside bytes pos (wire (label ∷ name)) s in
-    let byte : get_or bytes pos 0 ≡ length label = ap (λ (k : ℕ). get_or bytes k 0) (sym (add-zero pos)) ∙ stands_byte bytes pos (wire (label ∷ name)) 0 s (omega (arith, whole)) in
+    let byte : get_or bytes pos 0 ≡ length label = ap (λ (k : ℕ). get_or bytes k 0) (sym (add-zero pos))
+    ∙ stands_byte bytes pos (wire (label ∷ name)) 0 s (omega (arith, whole)) in
     let behind : Stands bytes (pos + 1) (label ++ wire name) = stands_back bytes pos (length label ∷ []) (label ++ wire name) s in
     let here : Stands bytes (pos + 1) label = stands_front bytes (pos + 1) label (wire name) behind in
     let rest : Stands bytes (pos + 1 + length label) (wire name) = stands_back bytes (pos + 1) label (wire name) behind in
-    let is : step_of bytes start pos size ≡ Ok (step.Label (length label)) = label_here bytes start pos size (length label) byte some small (omega (arith, whole)) (omega (arith, whole)) in
-    let more : labels_at bytes start (pos + 1 + length label) (size + 1 + length label) ≡ Ok (name, pos + 1 + length label + length (wire name)) =
+    let is : step_of bytes start pos size ≡ Ok (step.Label (length label)) =
+    label_here bytes start pos size (length label) byte some small (omega (arith, whole)) (omega (arith, whole)) in
+    let more : labels_at bytes start (pos + 1 + length label) (size + 1 + length label)
+    ≡ Ok (name, pos + 1 + length label + length (wire name)) =
     labels_again name bytes start (pos + 1 + length label) (size + 1 + length label) rest parts.1 (omega (arith, whole)) in
     let end : pos + 1 + length label + length (wire name) ≡ pos + length (wire (label ∷ name)) = omega (arith, whole) in
     one_step (Ok (step.Label (length label))) bytes start pos size is
@@ -125,7 +137,8 @@ labels_again (label ∷ name) bytes start pos size s good room =
     ∙ ap (λ (k : ℕ). Ok (label ∷ name, k)) end
 
 -- a name in wire form is read again
-pub name_again : (labels : Labels) (bytes : List ℕ) (pos : ℕ) → Stands bytes pos (wire labels) → is_name labels ≡ true → name_at bytes pos ≡ Ok (labels, pos + length (wire labels))
+pub name_again : (labels : Labels) (bytes : List ℕ) (pos : ℕ) → Stands bytes pos (wire labels) → is_name labels ≡ true
+    → name_at bytes pos ≡ Ok (labels, pos + length (wire labels))
 unfolding name_at
 name_again labels bytes pos s good =
     let parts = and_parts (list_all is_label labels) (nat_le (length (wire labels)) 255) good in

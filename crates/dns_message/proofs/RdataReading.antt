@@ -19,7 +19,8 @@ no_front : (o : Option (List ℕ)) → with_bytes [] o ≡ o
 no_front None = refl
 no_front (Some bytes) = refl
 
-pub fields_start : (into : List ℕ) (fields : List shapes.Field) (bytes : List ℕ) (at stop : ℕ) → into ≡ [] → with_bytes into (fields_at fields bytes at stop) ≡ fields_at fields bytes at stop
+pub fields_start : (into : List ℕ) (fields : List shapes.Field) (bytes : List ℕ) (at stop : ℕ) → into ≡ []
+    → with_bytes into (fields_at fields bytes at stop) ≡ fields_at fields bytes at stop
 fields_start into fields bytes at stop none = rw none (no_front (fields_at fields bytes at stop))
 
 joined : (a b : List ℕ) (o : Option (List ℕ)) → with_bytes (a ++ b) o ≡ with_bytes a (with_bytes b o)
@@ -32,10 +33,12 @@ pub record IsNext (shape : List Field) (i : ℕ) (field : Field) : Type 0 where
 
 pub next_field : (shape : List Field) (i : ℕ) (d : Field) → i < length shape → IsNext shape i (get_or shape i d)
 next_field shape i d lt =
-    let parts : drop i shape ≡ get_or shape i d ∷ drop (i + 1) shape = drop-cons shape i d lt ∙ ap (λ (k : ℕ). get_or shape i d ∷ drop k shape) (sym (add-one i)) in
+    let parts : drop i shape ≡ get_or shape i d ∷ drop (i + 1) shape = drop-cons shape i d lt
+    ∙ ap (λ (k : ℕ). get_or shape i d ∷ drop k shape) (sym (add-one i)) in
     record { parts = ap (map field_value) parts }
 
-pub fields_more : (shape : List Field) (i : ℕ) (field : Field) (bytes old new : List ℕ) (pos stop next : ℕ) (total : Option (List ℕ)) → IsNext shape i field
+pub fields_more : (shape : List Field) (i : ℕ) (field : Field) (bytes old new : List ℕ) (pos stop next : ℕ) (total : Option (List ℕ))
+    → IsNext shape i field
     → IsAppended (field_at (field_value field) bytes pos stop) old new next
     → with_bytes old (fields_at (map field_value (drop i shape)) bytes pos stop) ≡ total
     → with_bytes new (fields_at (map field_value (drop (i + 1) shape)) bytes next stop) ≡ total
@@ -47,7 +50,8 @@ fields_more shape i field bytes old new pos stop next total n a so_far =
     ∙ ap (λ (o : Option (List ℕ × ℕ)). after_field o (λ k. fields_at (map field_value (drop (i + 1) shape)) bytes k stop)) a.told in
     ap (λ (b : List ℕ). with_bytes b rest) a.grown ∙ joined old a.front rest ∙ ap (with_bytes old) (sym one) ∙ so_far
 
-pub fields_none : (shape : List Field) (i : ℕ) (field : Field) (bytes old : List ℕ) (pos stop : ℕ) (total : Option (List ℕ)) → IsNext shape i field
+pub fields_none : (shape : List Field) (i : ℕ) (field : Field) (bytes old : List ℕ) (pos stop : ℕ) (total : Option (List ℕ))
+    → IsNext shape i field
     → field_at (field_value field) bytes pos stop ≡ None
     → with_bytes old (fields_at (map field_value (drop i shape)) bytes pos stop) ≡ total
     → None ≡ total

@@ -30,9 +30,11 @@ pub name_ends : (bytes : List ℕ) (pos stop : ℕ) (labels : Labels) (rest : Li
 unfolding field_at spelled_at
 name_ends bytes pos stop labels rest rises inside read =
     let r = name_in_inverse (slice_range bytes pos stop) labels rest read in
-    let here : Stands bytes pos (wire labels) = stands_front bytes pos (wire labels) rest (subst (λ xs. Stands bytes pos xs) r.whole (stands_part bytes pos stop rises inside)) in
+    let here : Stands bytes pos (wire labels) =
+    stands_front bytes pos (wire labels) rest (subst (λ xs. Stands bytes pos xs) r.whole (stands_part bytes pos stop rises inside)) in
     let again : name_at bytes pos ≡ Ok (labels, pos + length (wire labels)) = name_again labels bytes pos here r.good in
-    let long : length (slice_range bytes pos stop) ≡ stop - pos = length-take-le (stop - pos) (drop pos bytes) (omega (arith, inside, length-drop pos bytes)) in
+    let long : length (slice_range bytes pos stop) ≡ stop - pos =
+    length-take-le (stop - pos) (drop pos bytes) (omega (arith, inside, length-drop pos bytes)) in
     record {
       told = rw again (ap (λ xs. Some (xs, pos + length (wire labels))) (sym (stands_range bytes pos (wire labels) here)));
       rises = omega arith;

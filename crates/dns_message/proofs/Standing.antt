@@ -33,7 +33,8 @@ stands_back bytes pos a b s = record {
 }
 
 pub stands_inside : (bytes : List ℕ) (pos : ℕ) (part : List ℕ) → Stands bytes pos part → pos + length part ≤ length bytes
-stands_inside bytes pos part s = omega (arith, ap length s.whole, length-append s.before (part ++ s.after), length-append part s.after, s.long)
+stands_inside bytes pos part s =
+    omega (arith, ap length s.whole, length-append s.before (part ++ s.after), length-append part s.after, s.long)
 
 pub stands_range : (bytes : List ℕ) (pos : ℕ) (part : List ℕ) → Stands bytes pos part → slice_range bytes pos (pos + length part) ≡ part
 stands_range bytes pos part s =
@@ -42,7 +43,8 @@ stands_range bytes pos part s =
     rw (n, rest) (take_at part s.after (length part) refl)
 
 -- one byte of it
-pub stands_byte : (bytes : List ℕ) (pos : ℕ) (part : List ℕ) (i : ℕ) → Stands bytes pos part → i < length part → get_or bytes (pos + i) 0 ≡ get_or part i 0
+pub stands_byte : (bytes : List ℕ) (pos : ℕ) (part : List ℕ) (i : ℕ) → Stands bytes pos part → i < length part
+    → get_or bytes (pos + i) 0 ≡ get_or part i 0
 stands_byte bytes pos part i s lt =
     ap (λ (b : List ℕ). get_or b (pos + i) 0) s.whole
     ∙ ap (λ (n : ℕ). get_or (s.before ++ (part ++ s.after)) (n + i) 0) (sym s.long)
@@ -53,7 +55,8 @@ pub stands_u16 : (bytes : List ℕ) (pos n : ℕ) → Stands bytes pos (u16_byte
 unfolding u16_field
 stands_u16 bytes pos n s =
     let inside : pos + 2 ≤ length bytes = stands_inside bytes pos (u16_bytes n) s in
-    let a : get_or bytes pos 0 ≡ n / 256 = ap (λ (k : ℕ). get_or bytes k 0) (sym (add-zero pos)) ∙ stands_byte bytes pos (u16_bytes n) 0 s (omega arith) in
+    let a : get_or bytes pos 0 ≡ n / 256 = ap (λ (k : ℕ). get_or bytes k 0) (sym (add-zero pos))
+    ∙ stands_byte bytes pos (u16_bytes n) 0 s (omega arith) in
     let b : get_or bytes (pos + 1) 0 ≡ n % 256 = stands_byte bytes pos (u16_bytes n) 1 s (omega arith) in
     let value : u16_at bytes pos ≡ n = omega (arith, a, b) in
     let test : nat_lt (length bytes) (pos + 2) ≡ false = grind (arith, nat_tests, inside) in
@@ -63,7 +66,8 @@ pub stands_u32 : (bytes : List ℕ) (pos n : ℕ) → Stands bytes pos (u32_byte
 unfolding u32_field
 stands_u32 bytes pos n s =
     let inside : pos + 4 ≤ length bytes = stands_inside bytes pos (u32_bytes n) s in
-    let a : get_or bytes pos 0 ≡ n / 16777216 = ap (λ (k : ℕ). get_or bytes k 0) (sym (add-zero pos)) ∙ stands_byte bytes pos (u32_bytes n) 0 s (omega arith) in
+    let a : get_or bytes pos 0 ≡ n / 16777216 = ap (λ (k : ℕ). get_or bytes k 0) (sym (add-zero pos))
+    ∙ stands_byte bytes pos (u32_bytes n) 0 s (omega arith) in
     let b : get_or bytes (pos + 1) 0 ≡ n / 65536 % 256 = stands_byte bytes pos (u32_bytes n) 1 s (omega arith) in
     let c : get_or bytes (pos + 2) 0 ≡ n / 256 % 256 = stands_byte bytes pos (u32_bytes n) 2 s (omega arith) in
     let d : get_or bytes (pos + 3) 0 ≡ n % 256 = stands_byte bytes pos (u32_bytes n) 3 s (omega arith) in

@@ -17,19 +17,29 @@ use Rattle.dns_message.specs.WrittenAs.{question_bytes, record_bytes, edns_bytes
 pub pieces_more : {X : Type 0} (f : X → List ℕ) (xs : List X) (i : ℕ) (x : X) (front all more : List ℕ) → i < length xs → x ≡ get_or xs i x
     → all ≡ front ++ flat_map f (take i xs) → more ≡ all ++ f x → more ≡ front ++ flat_map f (take (i + 1) xs)
 pieces_more f xs i x front all more lt item before grown =
-    let one : flat_map f (get_or xs i x ∷ []) ≡ f x = flat_map-cons f (get_or xs i x) [] ∙ append-nil (f (get_or xs i x)) ∙ ap f (sym item) in
+    let one : flat_map f (get_or xs i x ∷ []) ≡ f x = flat_map-cons f (get_or xs i x) [] ∙ append-nil (f (get_or xs i x))
+    ∙ ap f (sym item) in
     let last : flat_map f (take (i + 1) xs) ≡ flat_map f (take i xs) ++ f x =
-    ap (flat_map f) (take_more xs i x lt) ∙ flat_map-append f (take i xs) (get_or xs i x ∷ []) ∙ ap (λ (l : List ℕ). flat_map f (take i xs) ++ l) one in
-    grown ∙ ap (λ (l : List ℕ). l ++ f x) before ∙ append_assoc front (flat_map f (take i xs)) (f x) ∙ ap (λ (l : List ℕ). front ++ l) (sym last)
+    ap (flat_map f) (take_more xs i x lt) ∙ flat_map-append f (take i xs) (get_or xs i x ∷ [])
+    ∙ ap (λ (l : List ℕ). flat_map f (take i xs) ++ l) one in
+    grown ∙ ap (λ (l : List ℕ). l ++ f x) before ∙ append_assoc front (flat_map f (take i xs)) (f x)
+    ∙ ap (λ (l : List ℕ). front ++ l) (sym last)
 
 -- no piece is left
-pub pieces_all : {X : Type 0} (f : X → List ℕ) (xs : List X) (i : ℕ) (front all : List ℕ) → length xs ≤ i → all ≡ front ++ flat_map f (take i xs) → all ≡ front ++ flat_map f xs
+pub pieces_all : {X : Type 0} (f : X → List ℕ) (xs : List X) (i : ℕ) (front all : List ℕ) → length xs ≤ i
+    → all ≡ front ++ flat_map f (take i xs) → all ≡ front ++ flat_map f xs
 pieces_all {X} f xs i front all past so_far = so_far ∙ ap (λ (l : List X). front ++ flat_map f l) (take_all i xs past)
 
 -- no piece is empty
 pub long_enough : {X : Type 0} (f : X → List ℕ) → ((x : X) → 0 < length (f x)) → (xs : List X) → length xs ≤ length (flat_map f xs)
 long_enough f some [] = omega arith
-long_enough f some (x ∷ xs) = omega (arith, some x, long_enough f some xs, ap length (flat_map-cons f x xs), length-append (f x) (flat_map f xs))
+long_enough f some (x ∷ xs) = omega (
+  arith,
+  some x,
+  long_enough f some xs,
+  ap length (flat_map-cons f x xs),
+  length-append (f x) (flat_map f xs),
+)
 
 some_question : (q : Question) → 0 < length (question_bytes q)
 some_question q = omega (arith, length-wire q.owner, length-append (wire q.owner ++ u16_bytes q.rtype) (u16_bytes q.class))
@@ -43,7 +53,8 @@ some_record r = omega (
 
 -- the parts of a written message
 pub record IsLong (m : MessageValue) : Type 0 where
-  pub whole : length m.queries + length m.answers + length m.authorities + length m.additionals + length (edns_bytes m.response_code m.edns) ≤ length (written m)
+  pub whole : length m.queries + length m.answers + length m.authorities + length m.additionals + length
+      (edns_bytes m.response_code m.edns) ≤ length (written m)
 
 pub written_length : (m : MessageValue) → IsLong m
 unfolding written
@@ -62,10 +73,16 @@ long_options : (code : ℕ) (e : Option EdnsValue) → has_long_options e ≡ tr
 long_options code None h = absurd cc
 long_options code (Some e) h =
     let many : 65535 < length e.options = grind (arith, nat_tests) in
-    omega (arith, many, length-append (wire [] ++ u16_bytes 41 ++ u16_bytes e.max_payload ++ u32_bytes (opt_ttl code e) ++ u16_bytes (length e.options)) e.options)
+    omega (
+      arith,
+      many,
+      length-append (wire [] ++ u16_bytes 41 ++ u16_bytes e.max_payload ++ u32_bytes (opt_ttl code e)
+          ++ u16_bytes (length e.options)) e.options,
+    )
 
 -- one of five tests holds
-one_of_five : {X : Type 0} (a b c d e : Bool) → (a ≡ true → X) → (b ≡ true → X) → (c ≡ true → X) → (d ≡ true → X) → (e ≡ true → X) → (a || b || c || d || e) ≡ true → X
+one_of_five : {X : Type 0} (a b c d e : Bool) → (a ≡ true → X) → (b ≡ true → X) → (c ≡ true → X) → (d ≡ true → X)
+    → (e ≡ true → X) → (a || b || c || d || e) ≡ true → X
 one_of_five true b c d e p q r s t h = p refl
 one_of_five false true c d e p q r s t h = q refl
 one_of_five false false true d e p q r s t h = r refl

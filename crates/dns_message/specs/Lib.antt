@@ -1,3 +1,4 @@
+-- Definitions of how a message is read and written (RFC 1035, 4.1).
 pub mod Reading
 pub mod NameAt
 pub mod Readable
@@ -8,3 +9,4 @@ pub mod RdataAt
 pub mod RecordAt
 pub mod MessageAt
 pub mod WrittenAs
+pub mod Lent

@@ -1,3 +1,4 @@
+//! Why bytes are no message.
 ghost use Rattle.std.specs.Prelude.{◌≡◌};
 ghost use Rattle.dns_message.specs.declared.decode_error.DecodeKind.TheVariants.{NoMemory};
 
@@ -27,7 +28,7 @@ pub enum DecodeKind {
 pub struct DecodeError {
     /// What is wrong.
     pub kind: DecodeKind,
-    /// The place of the byte at which it is wrong, from 0; 0 for want of memory.
+    /// The place of the byte at which it is wrong, from 0; 0 where memory ran out.
     pub offset: u32,
 }
 
@@ -53,10 +54,10 @@ impl<T: Drop> From<AllocFailed<T>> for DecodeError {
     }
 }
 
-impl From<dns_name::NoMemory> for DecodeError {
+impl From<dns_record::NoMemory> for DecodeError {
     ghost from_gives = { λ _ e. e.kind ≡ NoMemory };
 
-    fn from(_error: dns_name::NoMemory) -> DecodeError {
+    fn from(_error: dns_record::NoMemory) -> DecodeError {
         DecodeError {
             kind: DecodeKind::NoMemory,
             offset: 0,

@@ -1,3 +1,4 @@
+//! Why a message isn't written.
 ghost use Rattle.std.specs.Prelude.{◌≡◌};
 ghost use Rattle.dns_message.specs.declared.encode_error.EncodeError.TheVariants as errors;
 
@@ -28,10 +29,10 @@ impl<T: Drop> From<AllocFailed<T>> for EncodeError {
     }
 }
 
-impl From<dns_name::NoMemory> for EncodeError {
+impl From<dns_record::NoMemory> for EncodeError {
     ghost from_gives = { λ _ e. e ≡ errors.NoMemory };
 
-    fn from(_error: dns_name::NoMemory) -> EncodeError {
+    fn from(_error: dns_record::NoMemory) -> EncodeError {
         EncodeError::NoMemory
     }
 }

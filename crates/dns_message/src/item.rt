@@ -1,3 +1,4 @@
+//! What a record of a section is: one that is kept, or an OPT.
 use crate::message::Edns;
 use dns_record::Record;
 

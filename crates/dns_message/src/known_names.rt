@@ -1,9 +1,10 @@
+//! Names of a message that were read already, by their places (RFC 1035, 4.1.4).
 ghost use Rattle.std.specs.Prelude.{◌≡◌, ◌+◌, ◌≤◌, List, ℕ, length, IfOk, IfSome};
 ghost use Rattle.std.specs.List.{All};
 ghost use Rattle.dns_message.specs.KnownNames.{AreKnown, IsKnown, IsPassed, part_of};
 
 use crate::step::PLACES;
-use dns_name::{Name, NoMemory};
+use dns_record::{Name, NoMemory};
 use std::alloc::Global;
 
 /// A place to which a pointer of a name leads, and how many bytes of labels the name has before.
@@ -32,7 +33,7 @@ const MOST_SPELLED: usize = 0xffff_0000;
 const SHORT: usize = 1024;
 
 impl KnownNames {
-    /// None of a message's names.
+    // None of a message's names.
     pub(crate) fn new(alloc: Global, bytes: &[u8]) -> Result<KnownNames, NoMemory>
         ensures { IfOk result (λ names. AreKnown bytes.now names) }
     {
@@ -50,7 +51,7 @@ impl KnownNames {
         })
     }
 
-    /// The wire form of the name at a place, where it was spelled, and where a name has room for it behind so many bytes.
+    // The wire form of the name at a place, where it was spelled, and where a name has room for it behind so many bytes.
     pub(crate) fn find(&self, place: u16, before: usize) -> Option<&[u8]>
         requires { before ≤ 254 }
         ensures known { (bytes : List ℕ) → AreKnown bytes self.now
@@ -69,12 +70,12 @@ impl KnownNames {
         Some(&self.spelled[start..start + size])
     }
 
-    /// Whether the names at a place are kept.
+    // Whether the names at a place are kept.
     pub(crate) fn keeps(&self, place: u16) -> bool {
         usize::from(place) < self.sizes.len()
     }
 
-    /// Puts the part of a name that stands at a place which it passed: its wire form begins at `base` among the spelled bytes.
+    // Puts the part of a name that stands at a place which it passed: its wire form begins at `base` among the spelled bytes.
     fn put(&mut self, bytes: &[u8], one: Passed, base: usize, name: &[u8])
         requires known { AreKnown bytes.now self.old }
         requires passed { IsPassed bytes.now name.now one }
@@ -91,7 +92,7 @@ impl KnownNames {
         }
     }
 
-    /// Keeps a name that was spelled, for each place which it passed.
+    // Keeps a name that was spelled, for each place which it passed.
     pub(crate) fn learn(
         &mut self,
         bytes: &[u8],

@@ -1,11 +1,11 @@
+//! Messages and their EDNS (RFC 1035, 4.1; RFC 6891, 6.1).
 ghost use Rattle.std.specs.Prelude.{◌≡◌, IfOk};
 
-use dns_name::{NoMemory, Octets};
-use dns_record::{OpCode, Query, Record, ResponseCode, clone_records};
+use dns_record::{NoMemory, Octets, OpCode, Query, Record, ResponseCode, clone_records};
 use std::marker::Model;
 
 /// What an OPT record says beside its part of the code (RFC 6891, 6.1).
-#[derive(Debug, Drop)]
+#[derive(Debug)]
 pub struct Edns {
     /// The most bytes that the sender takes in a datagram.
     pub max_payload: u16,
@@ -17,6 +17,19 @@ pub struct Edns {
     pub flags: u16,
     /// The options as they came, each with its code and length (RFC 6891, 6.1.2).
     pub options: Octets,
+}
+
+// By hand, so that a function that lets one go calls this.
+impl Drop for Edns {
+    fn drop(self) {
+        let Edns {
+            max_payload: _,
+            version: _,
+            dnssec_ok: _,
+            flags: _,
+            options: _,
+        } = self;
+    }
 }
 
 impl Model for Edns {
@@ -113,8 +126,7 @@ fn clone_queries(queries: &Vec<Query>) -> Result<Vec<Query>, NoMemory>
 {
     let mut all = Vec::new(*queries.allocator());
     for query in queries {
-        let next = query.try_clone()?;
-        all.push(next)?;
+        all.push(query.try_clone()?)?;
     }
     Ok(all)
 }
@@ -124,10 +136,7 @@ fn clone_edns(edns: &Option<Edns>) -> Result<Option<Edns>, NoMemory>
 {
     match edns {
         None => Ok(None),
-        Some(edns) => {
-            let edns = edns.try_clone()?;
-            Ok(Some(edns))
-        }
+        Some(edns) => Ok(Some(edns.try_clone()?)),
     }
 }
 

@@ -1,4 +1,5 @@
-use dns_name::Octets;
+//! The bytes of a message that is read.
+use dns_record::Octets;
 use std::alloc::Global;
 
 /// The bytes of a message that is read, with what each reader of a part of it is given beside the place.

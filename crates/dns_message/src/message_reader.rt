@@ -1,3 +1,4 @@
+//! Reading a message: its header and its sections (RFC 1035, 4.1).
 ghost use Rattle.std.specs.Prelude.{◌≡◌, ◌+◌, ◌<◌, ◌≤◌, ◌^◌, length, Ok, IfOk};
 ghost use Rattle.dns_message.specs.Reading.{Reads};
 ghost use Rattle.dns_message.specs.MessageAt.{header_at, question_at, questions_at, message_of, message_at};
@@ -14,9 +15,8 @@ use crate::name_reader::name_of;
 use crate::number_reader::u16_of;
 use crate::read_fault::{ReadFault, fault};
 use crate::section_reader::section_of;
-use dns_name::{Name, Octets};
 use dns_rdata::u16_at;
-use dns_record::{DNSClass, OpCode, Query, Record, RecordType, ResponseCode};
+use dns_record::{DNSClass, Name, Octets, OpCode, Query, Record, RecordType, ResponseCode};
 use std::alloc::Global;
 
 /// The six numbers that a message begins with (RFC 1035, 4.1.1).
@@ -53,7 +53,7 @@ fn header_of(bytes: &[u8]) -> Result<Header, ReadFault>
     })
 }
 
-/// A question and the place after it (RFC 1035, 4.1.2).
+// A question and the place after it (RFC 1035, 4.1.2).
 #[tactic(auto, unfolding(crate::specs::MessageAt::question_at))]
 fn question_of(
     message: &MessageBytes<'_>,
@@ -82,7 +82,7 @@ fn question_of(
 /// A question for the root (RFC 1035, 4.1.2), so that a count alone takes no memory.
 const SMALLEST_QUESTION: usize = 5;
 
-/// So many questions, and the place after them.
+// So many questions, and the place after them.
 fn questions_of(
     message: &MessageBytes<'_>,
     names: &mut KnownNames,
@@ -117,7 +117,7 @@ struct Sections {
     additionals: Vec<Record>,
 }
 
-/// The message of these parts (RFC 1035, 4.1.1; RFC 6891, 6.1.3).
+// The message of these parts (RFC 1035, 4.1.1; RFC 6891, 6.1.3).
 fn message_of(header: Header, sections: Sections, opt: Option<(Edns, u8)>) -> Message
     ensures { result ≡ message_of (header_value header)
         sections.queries.items sections.answers.items sections.authorities.items sections.additionals.items opt }
@@ -152,7 +152,7 @@ fn message_of(header: Header, sections: Sections, opt: Option<(Edns, u8)>) -> Me
     }
 }
 
-/// The message whose header this is, from the place after it.
+// The message whose header this is, from the place after it.
 #[tactic(auto, unfolding(crate::specs::MessageAt::message_at))]
 fn read_sections(
     message: &MessageBytes<'_>,
@@ -197,7 +197,7 @@ fn read_sections(
     Ok(message_of(header, sections, opt))
 }
 
-/// The message that the octets are.
+// The message that the octets are.
 #[tactic(auto, unfolding(crate::specs::MessageAt::message_at))]
 fn read_message(octets: Octets) -> Result<Message, ReadFault>
     requires { length octets < 2 ^ 32 }
@@ -220,7 +220,7 @@ impl Message {
     /// The message that the bytes are, all of them (RFC 1035, 4.1; RFC 6891). Names may end in pointers, and are spelled out,
     /// also those inside an rdata in the classes IN, NONE and ANY. The records are marked `Indeterminate`.
     ///
-    /// `DecodeError` is the first fault from the left with its place in bytes, or want of memory.
+    /// `DecodeError` is the first fault from the left with its place in bytes, or out of memory.
     pub fn from_vec(alloc: Global, bytes: &[u8]) -> Result<Message, DecodeError>
         requires { length bytes.now < 2 ^ 32 }
         ensures { Reads (λ m. m) result (message_at bytes.now) }

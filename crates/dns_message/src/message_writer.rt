@@ -1,16 +1,18 @@
-ghost use Rattle.std.specs.Prelude.{◌≡◌, ◌+◌, ◌<◌, ◌≤◌, ◌++◌, length, false, OnOk, IfOk};
+//! Writing a message, names spelled out and the OPT last (RFC 1035, 4.1; RFC 6891, 6.1).
+ghost use Rattle.std.specs.Prelude.{◌≡◌, ◌+◌, ◌<◌, ◌≤◌, ◌++◌, length, map, false, OnOk, IfOk};
 ghost use Rattle.std.specs.List.{flat_map};
 ghost use Rattle.dns_model.specs.Bytes.{u16_bytes, u32_bytes};
 ghost use Rattle.dns_model.specs.Gives.{Gives};
 ghost use Rattle.dns_message.specs.declared.encode_error.EncodeError.TheVariants as errors;
+ghost use Rattle.dns_message.specs.Lent.{message_value};
 ghost use Rattle.dns_message.specs.WrittenAs.{flag_bit, question_bytes, record_bytes, opt_ttl, opt_bytes, edns_bytes, flags_of, header_bytes, edns_count, has_long_options, has_many, encoded, empty_query, IsReadAgain};
 
 use crate::encode_error::EncodeError;
 use crate::header_flags::*;
 use crate::message::{Edns, Message};
-use dns_name::{NoMemory, Octets};
+use crate::message_ref::MessageRef;
 use dns_rdata::{push_u16, push_u32};
-use dns_record::{OpCode, Query, Record, RecordType, ResponseCode};
+use dns_record::{NoMemory, Octets, OpCode, Query, Record, RecordType, ResponseCode};
 use std::alloc::Global;
 
 /// The most bytes of a message that is written, and the most items of a section.
@@ -40,7 +42,7 @@ struct RecordParts<'a> {
     rdata: &'a [u8],
 }
 
-/// Appends a record of these parts.
+// Appends a record of these parts.
 fn push_parts(out: &mut Vec<u8>, parts: &RecordParts<'_>) -> Result<(), NoMemory>
     requires { length parts.now.rdata.now ≤ 65535 }
     ensures { OnOk result (out.new.items ≡ out.old.items
@@ -78,8 +80,8 @@ fn push_questions(out: &mut Vec<u8>, queries: &[Query]) -> Result<(), NoMemory>
     Ok(())
 }
 
-fn push_records(out: &mut Vec<u8>, records: &[Record]) -> Result<(), NoMemory>
-    ensures { OnOk result (out.new.items ≡ out.old.items ++ flat_map record_bytes records.now) }
+fn push_records(out: &mut Vec<u8>, records: &[&Record]) -> Result<(), NoMemory>
+    ensures { OnOk result (out.new.items ≡ out.old.items ++ flat_map record_bytes (map (λ r. r.now) records.now)) }
 {
     for record in records {
         push_record(out, record)?;
@@ -111,18 +113,18 @@ fn push_opt(out: &mut Vec<u8>, code: u16, edns: &Edns) -> Result<(), NoMemory>
 }
 
 #[tactic(auto, unfolding(crate::specs::WrittenAs::has_many))]
-fn push_edns(out: &mut Vec<u8>, message: &Message) -> Result<(), NoMemory>
-    requires { has_many message.now ≡ false }
-    ensures { OnOk result (out.new.items ≡ out.old.items ++ edns_bytes message.now.response_code message.now.edns) }
+fn push_edns(out: &mut Vec<u8>, message: &MessageRef<'_>) -> Result<(), NoMemory>
+    requires { has_many (message_value message.now) ≡ false }
+    ensures { OnOk result (out.new.items ≡ out.old.items ++ edns_bytes message.now.response_code.0 message.now.edns.now) }
 {
-    match &message.edns {
+    match message.edns {
         None => Ok(()),
         Some(edns) => push_opt(out, message.response_code.0, edns),
     }
 }
 
-fn flags_of(message: &Message) -> u16
-    ensures { result ≡ flags_of message.now }
+fn flags_of(message: &MessageRef<'_>) -> u16
+    ensures { result ≡ flags_of (message_value message.now) }
 {
     flag_bit(message.response) * RESPONSE
         + u16::from(message.op_code.0) % HEADER_CODES * OP_CODE
@@ -153,16 +155,16 @@ fn has_long_options(edns: &Option<Edns>) -> bool
     }
 }
 
-/// Whether a section has more items than its count can say, or the OPT more options.
+// Whether a section has more items than its count can say, or the OPT more options.
 #[tactic(auto, unfolding(crate::specs::WrittenAs::has_many))]
-fn has_many(message: &Message) -> bool
-    ensures { result ≡ has_many message.now }
+fn has_many(message: &MessageRef<'_>) -> bool
+    ensures { result ≡ has_many (message_value message.now) }
 {
     MOST < message.queries.len()
         || MOST < message.answers.len()
         || MOST < message.authorities.len()
-        || MOST < message.additionals.len() + edns_count(&message.edns)
-        || has_long_options(&message.edns)
+        || MOST < message.additionals.len() + edns_count(message.edns)
+        || has_long_options(message.edns)
 }
 
 /// How many items each section has, the OPT among the additional records.
@@ -175,24 +177,24 @@ struct Counts {
 }
 
 #[tactic(auto, unfolding(crate::specs::WrittenAs::has_many))]
-fn counts_of(message: &Message) -> Counts
-    requires { has_many message.now ≡ false }
-    ensures queries { result.queries ≡ length message.now.queries }
-    ensures answers { result.answers ≡ length message.now.answers }
-    ensures authorities { result.authorities ≡ length message.now.authorities }
-    ensures additionals { result.additionals ≡ length message.now.additionals + edns_count message.now.edns }
+fn counts_of(message: &MessageRef<'_>) -> Counts
+    requires { has_many (message_value message.now) ≡ false }
+    ensures queries { result.queries ≡ length message.now.queries.now }
+    ensures answers { result.answers ≡ length message.now.answers.now }
+    ensures authorities { result.authorities ≡ length message.now.authorities.now }
+    ensures additionals { result.additionals ≡ length message.now.additionals.now + edns_count message.now.edns.now }
 {
     Counts {
         queries: message.queries.len() as u16,
         answers: message.answers.len() as u16,
         authorities: message.authorities.len() as u16,
-        additionals: (message.additionals.len() + edns_count(&message.edns)) as u16,
+        additionals: (message.additionals.len() + edns_count(message.edns)) as u16,
     }
 }
 
-fn push_header(out: &mut Vec<u8>, message: &Message) -> Result<(), NoMemory>
-    requires { has_many message.now ≡ false }
-    ensures { OnOk result (out.new.items ≡ out.old.items ++ header_bytes message.now) }
+fn push_header(out: &mut Vec<u8>, message: &MessageRef<'_>) -> Result<(), NoMemory>
+    requires { has_many (message_value message.now) ≡ false }
+    ensures { OnOk result (out.new.items ≡ out.old.items ++ header_bytes (message_value message.now)) }
 {
     let counts = counts_of(message);
     push_u16(out, message.id)?;
@@ -202,6 +204,17 @@ fn push_header(out: &mut Vec<u8>, message: &Message) -> Result<(), NoMemory>
     push_u16(out, counts.authorities)?;
     push_u16(out, counts.additionals)?;
     Ok(())
+}
+
+// The records one by one, lent.
+fn lent<'a>(alloc: Global, records: &'a [Record]) -> Result<Vec<&'a Record>, NoMemory>
+    ensures { IfOk result (λ v. map (λ r. r.now) v.items ≡ records.now) }
+{
+    let mut all = Vec::with_capacity(alloc, records.len())?;
+    for record in records {
+        all.push(record)?;
+    }
+    Ok(all)
 }
 
 impl Message {
@@ -238,22 +251,56 @@ impl Message {
         // Where some bytes are this message, what is written is it too.
         ensures again { IfOk result (λ o. IsReadAgain self.now o) }
     {
-        self.encode()
+        let alloc = *self.queries.allocator();
+        let answers = lent(alloc, self.answers.as_slice())?;
+        let authorities = lent(alloc, self.authorities.as_slice())?;
+        let additionals = lent(alloc, self.additionals.as_slice())?;
+        let parts = MessageRef {
+            id: self.id,
+            response: self.response,
+            op_code: self.op_code,
+            authoritative: self.authoritative,
+            truncated: self.truncated,
+            recursion_desired: self.recursion_desired,
+            recursion_available: self.recursion_available,
+            authentic_data: self.authentic_data,
+            checking_disabled: self.checking_disabled,
+            response_code: self.response_code,
+            queries: self.queries.as_slice(),
+            answers: answers.as_slice(),
+            authorities: authorities.as_slice(),
+            additionals: additionals.as_slice(),
+            edns: &self.edns,
+        };
+        parts.to_vec(alloc)
+    }
+}
+
+impl<'a> MessageRef<'a> {
+    /// The message as bytes, as `Message::to_vec` writes it.
+    ///
+    /// `TooLong` comes exactly above 65,535 bytes.
+    pub fn to_vec(&self, alloc: Global) -> Result<Octets, EncodeError>
+        ensures exact { Gives (λ o. o) errors.NoMemory result (encoded (message_value self.now)) }
+        // Where some bytes are this message, what is written is it too.
+        ensures again { IfOk result (λ o. IsReadAgain (message_value self.now) o) }
+    {
+        self.encode(alloc)
     }
 
     #[tactic(auto, unfolding(crate::specs::WrittenAs::encoded, crate::specs::WrittenAs::written))]
-    fn encode(&self) -> Result<Octets, EncodeError>
-        ensures { Gives (λ o. o) errors.NoMemory result (encoded self.now) }
+    fn encode(&self, alloc: Global) -> Result<Octets, EncodeError>
+        ensures { Gives (λ o. o) errors.NoMemory result (encoded (message_value self.now)) }
     {
         if has_many(self) {
             return Err(EncodeError::TooLong);
         }
-        let mut out = Vec::new(*self.queries.allocator());
+        let mut out = Vec::new(alloc);
         push_header(&mut out, self)?;
-        push_questions(&mut out, self.queries.as_slice())?;
-        push_records(&mut out, self.answers.as_slice())?;
-        push_records(&mut out, self.authorities.as_slice())?;
-        push_records(&mut out, self.additionals.as_slice())?;
+        push_questions(&mut out, self.queries)?;
+        push_records(&mut out, self.answers)?;
+        push_records(&mut out, self.authorities)?;
+        push_records(&mut out, self.additionals)?;
         push_edns(&mut out, self)?;
         if MOST < out.len() {
             return Err(EncodeError::TooLong);

@@ -1,3 +1,4 @@
+//! Reading a name that may be compressed (RFC 1035, 4.1.4).
 ghost use Rattle.std.specs.Prelude.{◌≡◌, ◌+◌, ◌<◌, ◌≤◌, ◌^◌, ◌++◌, [], length, drop, slice_range, IfOk, IfErr, OnOk};
 ghost use Rattle.dns_message.specs.Reading.{Reads, FailsWith};
 ghost use Rattle.std.specs.Result.{result_ok};
@@ -11,9 +12,9 @@ use crate::known_names::{KnownNames, Passed};
 use crate::message_bytes::MessageBytes;
 use crate::read_fault::ReadFault;
 use crate::step::{Step, step_at};
-use dns_name::{Name, NoMemory, Octets};
+use dns_record::{Name, NoMemory, Octets};
 
-/// Where a name's bytes end: after its first pointer, or at this place.
+// Where a name's bytes end: after its first pointer, or at this place.
 fn ending_or(ending: Option<usize>, place: usize) -> usize
     ensures { result ≡ ending_or ending place }
 {
@@ -26,7 +27,7 @@ fn ending_or(ending: Option<usize>, place: usize) -> usize
 /// How much room is made for the labels that a pointer leads to; most names need no more.
 const ROOM: usize = 32;
 
-/// Appends the labels before a pointer, with room for those behind it. Before a bare pointer there is none.
+// Appends the labels before a pointer, with room for those behind it. Before a bare pointer there is none.
 #[tactic(auto, using(crate::proofs::NameReading::no_row))]
 fn push_row(bytes: &[u8], start: usize, end: usize, into: &mut Vec<u8>) -> Result<(), NoMemory>
     requires short { length bytes.now < 2 ^ 32 }
@@ -42,7 +43,7 @@ fn push_row(bytes: &[u8], start: usize, end: usize, into: &mut Vec<u8>) -> Resul
     Ok(())
 }
 
-/// Notes a place to which a pointer leads, with how many bytes of labels stand before, where names are kept for it.
+// Notes a place to which a pointer leads, with how many bytes of labels stand before, where names are kept for it.
 fn pass(
     names: &KnownNames,
     passed: &mut Vec<Passed>,
@@ -61,8 +62,8 @@ fn pass(
     Ok(())
 }
 
-/// Appends the wire form of the name at a place, spelled out, and answers the place after its bytes. The labels between two
-/// pointers are copied at once, and the name at a place that is known. After an `Err`, what was appended means nothing.
+// Appends the wire form of the name at a place, spelled out, and answers the place after its bytes. The labels between two
+// pointers are copied at once, and the name at a place that is known. After an `Err`, what was appended means nothing.
 fn push_walked(
     message: &MessageBytes<'_>,
     names: &KnownNames,
@@ -112,8 +113,8 @@ fn push_walked(
     }
 }
 
-/// Appends the wire form of the name at a place, spelled out, answers the place after its bytes, and keeps the name for the places
-/// to which its pointers lead. After an `Err`, what was appended means nothing.
+// Appends the wire form of the name at a place, spelled out, answers the place after its bytes, and keeps the name for the places
+// to which its pointers lead. After an `Err`, what was appended means nothing.
 pub(crate) fn push_spelled(
     message: &MessageBytes<'_>,
     names: &mut KnownNames,
@@ -138,7 +139,7 @@ pub(crate) fn push_spelled(
     Ok(next)
 }
 
-/// The name at a place, and the place after its bytes. `room` is overwritten: the name is spelled there.
+// The name at a place, and the place after its bytes. `room` is overwritten: the name is spelled there.
 pub(crate) fn name_of(
     message: &MessageBytes<'_>,
     names: &mut KnownNames,

@@ -1,3 +1,4 @@
+//! Reading the numbers of a message.
 ghost use Rattle.std.specs.Prelude.{◌≡◌, ◌+◌, ◌<◌, ◌≤◌, ◌^◌, length, IfOk};
 ghost use Rattle.dns_message.specs.Reading.{Reads, u16_field, u32_field};
 
@@ -5,7 +6,7 @@ use crate::decode_error::DecodeKind;
 use crate::read_fault::{ReadFault, fault};
 use dns_rdata::{u16_at, u32_at};
 
-/// The number of two bytes at a place, and the place after it.
+// The number of two bytes at a place, and the place after it.
 #[tactic(auto, unfolding(crate::specs::Reading::u16_field))]
 pub(crate) fn u16_of(bytes: &[u8], at: usize) -> Result<(u16, usize), ReadFault>
     requires short { length bytes.now < 2 ^ 32 }
@@ -19,7 +20,7 @@ pub(crate) fn u16_of(bytes: &[u8], at: usize) -> Result<(u16, usize), ReadFault>
     Ok((u16_at(bytes, at), at + 2))
 }
 
-/// The number of four bytes at a place, and the place after it.
+// The number of four bytes at a place, and the place after it.
 #[tactic(auto, unfolding(crate::specs::Reading::u32_field))]
 pub(crate) fn u32_of(bytes: &[u8], at: usize) -> Result<(u32, usize), ReadFault>
     requires short { length bytes.now < 2 ^ 32 }

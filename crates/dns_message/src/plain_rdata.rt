@@ -1,13 +1,14 @@
+//! Rdata that hold no compressed name, which share the octets of their message.
 ghost use Rattle.std.specs.Prelude.{◌≡◌, ◌+◌, ◌<◌, ◌≤◌, ◌^◌, length, map, slice_range, Some, IfSome, IsTrue};
 ghost use Rattle.dns_message.specs.RdataAt.{field_at, fields_at};
 ghost use Rattle.dns_message.specs.Plain.{EndsAt};
 ghost use Rattle.dns_rdata.specs.Fields.{field_value};
 ghost use Rattle.dns_model.specs.Shapes.{DomainName};
 
-use dns_name::NameRef;
 use dns_rdata::{Field, is_bitmap};
+use dns_record::NameRef;
 
-/// Where the name ends that stands at `pos`, before `stop` and without a pointer.
+// Where the name ends that stands at `pos`, before `stop` and without a pointer.
 fn name_end(bytes: &[u8], pos: usize, stop: usize) -> Option<usize>
     requires rises { pos ≤ stop }
     requires stop { stop ≤ length bytes.now }
@@ -18,7 +19,7 @@ fn name_end(bytes: &[u8], pos: usize, stop: usize) -> Option<usize>
     Some(pos + name.wire().len())
 }
 
-/// So many bytes on, where that is before `stop`.
+// So many bytes on, where that is before `stop`.
 fn end_within(pos: usize, size: usize, stop: usize) -> Option<usize>
     requires { pos ≤ stop }
     ensures { IfSome result (λ next. (next ≡ pos + size) × (next ≤ stop)) }
@@ -30,7 +31,7 @@ fn end_within(pos: usize, size: usize, stop: usize) -> Option<usize>
     }
 }
 
-/// Where a field ends that stands at `pos`, before `stop` and as it is spelled: no pointer is in it.
+// Where a field ends that stands at `pos`, before `stop` and as it is spelled: no pointer is in it.
 #[tactic(auto, unfolding(crate::specs::RdataAt::field_at, crate::specs::RdataAt::octets_at, crate::specs::RdataAt::counted_octets_at, crate::specs::RdataAt::rest_at, crate::specs::RdataAt::bitmap_at))]
 fn field_end(bytes: &[u8], field: Field, pos: usize, stop: usize) -> Option<usize>
     requires rises { pos ≤ stop }
@@ -58,7 +59,7 @@ fn field_end(bytes: &[u8], field: Field, pos: usize, stop: usize) -> Option<usiz
     }
 }
 
-/// Whether the rdata from `at` up to `stop` is exactly these fields, each of them as it is spelled.
+// Whether the rdata from `at` up to `stop` is exactly these fields, each of them as it is spelled.
 pub(crate) fn is_spelled(bytes: &[u8], shape: &[Field], at: usize, stop: usize) -> bool
     requires rises { at ≤ stop }
     requires stop { stop ≤ length bytes.now }

@@ -1,3 +1,4 @@
+//! Writing rdata with names spelled out.
 ghost use Rattle.std.specs.Prelude.{◌≡◌, ◌+◌, ◌<◌, ◌≤◌, ◌^◌, length, map, IfOk};
 ghost use Rattle.dns_model.specs.Types.{has_shapes};
 ghost use Rattle.dns_message.specs.Reading.{Reads};
@@ -13,12 +14,11 @@ use crate::message_bytes::MessageBytes;
 use crate::plain_rdata::is_spelled;
 use crate::rdata_reader::push_field;
 use crate::read_fault::{ReadFault, fault};
-use dns_name::{NoMemory, Octets};
 use dns_rdata::{Field, fields_of};
-use dns_record::{DNSClass, Rdata, RecordType};
+use dns_record::{DNSClass, NoMemory, Octets, Rdata, RecordType};
 
-/// Writes the rdata from `at` up to `stop` into `room`, names spelled out. Answers whether it is exactly these fields; where it
-/// isn't, what was written means nothing.
+// Writes the rdata from `at` up to `stop` into `room`, names spelled out. Answers whether it is exactly these fields; where it
+// isn't, what was written means nothing.
 fn spells_fields(
     message: &MessageBytes<'_>,
     names: &mut KnownNames,
@@ -46,8 +46,8 @@ fn spells_fields(
     Ok(pos == stop)
 }
 
-/// The rdata from `at` up to `stop` in the shape of its type, names spelled out, or `None` where it hasn't that shape. Where it
-/// stands in the message as it is, it is a part of the message.
+// The rdata from `at` up to `stop` in the shape of its type, names spelled out, or `None` where it hasn't that shape. Where it
+// stands in the message as it is, it is a part of the message.
 #[tactic(auto, unfolding(crate::specs::RdataAt::shaped_at))]
 fn shaped_of(
     message: &MessageBytes<'_>,
@@ -77,14 +77,14 @@ fn shaped_of(
     }
 }
 
-/// Whether rdata has its type's shape in a class.
+// Whether rdata has its type's shape in a class.
 fn has_shapes(class: u16) -> bool
     ensures { result ≡ has_shapes class }
 {
     class == DNSClass::IN.0 || class == DNSClass::NONE.0 || class == DNSClass::ANY.0
 }
 
-/// So many bytes as they stand.
+// So many bytes as they stand.
 #[tactic(auto, unfolding(crate::specs::RdataAt::opaque_at))]
 pub(crate) fn opaque_of(
     message: &MessageBytes<'_>,
@@ -103,7 +103,7 @@ pub(crate) fn opaque_of(
     Ok(message.octets.part(at, stop)?)
 }
 
-/// The rdata of so many bytes at a place, by its type and class.
+// The rdata of so many bytes at a place, by its type and class.
 #[tactic(auto, unfolding(crate::specs::RdataAt::rdata_at))]
 pub(crate) fn rdata_of(
     message: &MessageBytes<'_>,

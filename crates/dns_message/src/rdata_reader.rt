@@ -1,3 +1,4 @@
+//! Reading the rdata of a record by its type's fields, names spelled out.
 ghost use Rattle.std.specs.Prelude.{◌≡◌, ◌+◌, ◌<◌, ◌≤◌, ◌^◌, length, IfOk, IfSome};
 ghost use Rattle.dns_message.specs.NameAt.{spelled_at};
 ghost use Rattle.dns_message.specs.RdataAt.{octets_at, counted_octets_at, rest_at, bitmap_at, field_at};
@@ -11,10 +12,10 @@ use crate::decode_error::DecodeKind;
 use crate::known_names::KnownNames;
 use crate::message_bytes::MessageBytes;
 use crate::name_reader::push_spelled;
-use dns_name::NoMemory;
 use dns_rdata::{Field, is_bitmap};
+use dns_record::NoMemory;
 
-/// Appends the bytes from `pos` up to `next`, where they stand before `stop`.
+// Appends the bytes from `pos` up to `next`, where they stand before `stop`.
 #[tactic(auto, unfolding(crate::specs::RdataAt::octets_at))]
 fn push_octets(
     bytes: &[u8],
@@ -39,8 +40,8 @@ fn push_octets(
     Ok(Some(next))
 }
 
-/// Appends a field that stands at `pos` in an rdata which ends at `stop`, a name spelled out. Answers the place after the field,
-/// or `None` where the field doesn't stand there.
+// Appends a field that stands at `pos` in an rdata which ends at `stop`, a name spelled out. Answers the place after the field,
+// or `None` where the field doesn't stand there.
 #[tactic(auto, unfolding(crate::specs::RdataAt::field_at))]
 pub(crate) fn push_field(
     message: &MessageBytes<'_>,

@@ -1,3 +1,4 @@
+//! The faults of readers within a message.
 ghost use Rattle.std.specs.Prelude.{◌≡◌, ◌<◌, ◌^◌};
 ghost use Rattle.dns_message.specs.declared.decode_error.DecodeKind.TheVariants.{NoMemory};
 ghost use Rattle.dns_message.specs.Reading.{fault};
@@ -26,7 +27,7 @@ impl Model for ReadFault {
 }
 
 impl ReadFault {
-    /// What the caller of the crate is told.
+    // What the caller of the crate is told.
     pub(crate) fn shown(self) -> DecodeError
         ensures { result ≡ self }
     {
@@ -37,7 +38,7 @@ impl ReadFault {
     }
 }
 
-/// Want of memory.
+// Out of memory.
 fn no_memory() -> ReadFault
     ensures { result.kind ≡ NoMemory }
 {
@@ -63,15 +64,15 @@ impl<T: Drop> From<AllocFailed<T>> for ReadFault {
     }
 }
 
-impl From<dns_name::NoMemory> for ReadFault {
+impl From<dns_record::NoMemory> for ReadFault {
     ghost from_gives = { λ _ e. e.kind ≡ NoMemory };
 
-    fn from(_error: dns_name::NoMemory) -> ReadFault {
+    fn from(_error: dns_record::NoMemory) -> ReadFault {
         no_memory()
     }
 }
 
-/// A fault at a place.
+// A fault at a place.
 pub(crate) fn fault(kind: DecodeKind, place: usize) -> ReadFault
     requires { place < 2 ^ 32 }
     ensures { result ≡ fault kind place }

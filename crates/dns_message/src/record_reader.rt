@@ -1,3 +1,4 @@
+//! Reading a record (RFC 1035, 4.1.3).
 ghost use Rattle.std.specs.Prelude.{◌≡◌, ◌+◌, ◌<◌, ◌≤◌, ◌^◌, length, IfOk};
 ghost use Rattle.dns_message.specs.Reading.{Reads};
 ghost use Rattle.dns_message.specs.Readable.{IsReadable};
@@ -17,8 +18,7 @@ use crate::number_reader::{u16_of, u32_of};
 use crate::rdata::{opaque_of, rdata_of};
 use crate::read_fault::{ReadFault, fault};
 use dns_model::Proof;
-use dns_name::{Name, Octets};
-use dns_record::{DNSClass, Rdata, Record, RecordType};
+use dns_record::{DNSClass, Name, Octets, Rdata, Record, RecordType};
 
 /// What stands in a record after its owner and type.
 #[derive(Drop)]
@@ -28,7 +28,7 @@ pub(crate) struct RecordFields {
     rdata: Rdata,
 }
 
-/// A record from its class on, and the place after it. Its owner is added last, since it is dear to let go on each way out.
+// A record from its class on, and the place after it. Its owner is added last, since it is dear to let go on each way out.
 #[tactic(auto, unfolding(crate::specs::RecordAt::record_at))]
 fn record_fields_of(
     message: &MessageBytes<'_>,
@@ -52,7 +52,7 @@ fn record_fields_of(
     Ok((RecordFields { class, ttl, rdata }, next + usize::from(size)))
 }
 
-/// The record of an owner and a type with these fields.
+// The record of an owner and a type with these fields.
 fn kept_of(owner: Name, record_type: u16, fields: RecordFields) -> Item
     ensures { result ≡ kept_of owner record_type fields }
 {
@@ -66,7 +66,7 @@ fn kept_of(owner: Name, record_type: u16, fields: RecordFields) -> Item
     })
 }
 
-/// What an OPT's class, ttl and rdata say (RFC 6891, 6.1.2 and 6.1.3).
+// What an OPT's class, ttl and rdata say (RFC 6891, 6.1.2 and 6.1.3).
 fn edns_of(payload: u16, ttl: u32, options: Octets) -> Edns
     ensures { result ≡ edns_of payload ttl options }
 {
@@ -79,7 +79,7 @@ fn edns_of(payload: u16, ttl: u32, options: Octets) -> Edns
     }
 }
 
-/// An OPT from its class on, and the place after it.
+// An OPT from its class on, and the place after it.
 #[tactic(auto, unfolding(crate::specs::RecordAt::opt_at))]
 fn opt_of(message: &MessageBytes<'_>, at: usize) -> Result<(Item, usize), ReadFault>
     requires readable { IsReadable message.now }
@@ -98,7 +98,7 @@ fn opt_of(message: &MessageBytes<'_>, at: usize) -> Result<(Item, usize), ReadFa
     ))
 }
 
-/// A record of a section and the place after it. An OPT is taken where one may stand, and at the root.
+// A record of a section and the place after it. An OPT is taken where one may stand, and at the root.
 #[tactic(auto, unfolding(crate::specs::RecordAt::item_at))]
 pub(crate) fn item_of(
     message: &MessageBytes<'_>,
@@ -117,9 +117,7 @@ pub(crate) fn item_of(
     let (owner, next) = name_of(message, names, room, at)?;
     let (record_type, next) = u16_of(message.bytes, next)?;
     if record_type == RecordType::OPT.0 {
-        let at_root = stands_at_root(&owner);
-        drop(owner);
-        if allow_opt && at_root {
+        if allow_opt && stands_at_root(&owner) {
             return opt_of(message, next);
         }
         return Err(fault(DecodeKind::BadOpt, at));

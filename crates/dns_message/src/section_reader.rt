@@ -1,3 +1,4 @@
+//! Reading the records of a section.
 ghost use Rattle.std.specs.Prelude.{◌≡◌, ◌+◌, ◌<◌, ◌≤◌, ◌^◌, length, IfOk};
 ghost use Rattle.dns_message.specs.Reading.{Reads};
 ghost use Rattle.dns_message.specs.Readable.{IsReadable};
@@ -15,8 +16,8 @@ use dns_record::Record;
 /// A record at the root without rdata (RFC 1035, 4.1.3), so that a count alone takes no memory.
 const SMALLEST_RECORD: usize = 11;
 
-/// So many records of a section, its OPT with the upper bits of the code, and the place after the section. An OPT is taken
-/// where `allow_opt` is set, and once.
+// So many records of a section, its OPT with the upper bits of the code, and the place after the section. An OPT is taken
+// where `allow_opt` is set, and once.
 pub(crate) fn section_of(
     message: &MessageBytes<'_>,
     names: &mut KnownNames,

@@ -1,3 +1,4 @@
+//! The steps of a compressed name: a label, a pointer, or the closing zero byte (RFC 1035, 4.1.4).
 ghost use Rattle.std.specs.Prelude.{◌≡◌, ◌+◌, ◌<◌, ◌≤◌, ◌^◌, length, slice_index, IfOk};
 ghost use Rattle.dns_message.specs.Reading.{Reads};
 ghost use Rattle.dns_message.specs.NameAt.{step_of};
@@ -5,8 +6,8 @@ ghost use Rattle.dns_message.specs.Fitting.{FitsStep};
 
 use crate::decode_error::DecodeKind;
 use crate::read_fault::{ReadFault, fault};
-use dns_name::Name;
 use dns_rdata::u16_at;
+use dns_record::Name;
 
 /// The most bytes of a label (RFC 1035, 2.3.4).
 const MOST_LABEL: u8 = Name::MAX_LABEL_LEN as u8;
@@ -28,7 +29,7 @@ pub(crate) enum Step {
     Pointer(u16),
 }
 
-/// The step at `pos` in a row of labels that began at `start`, with `size` bytes of labels before.
+// The step at `pos` in a row of labels that began at `start`, with `size` bytes of labels before.
 #[tactic(auto, unfolding(crate::specs::NameAt::step_of))]
 pub(crate) fn step_at(
     bytes: &[u8],

@@ -4,6 +4,8 @@
 #![tactic(auto)]
 
 #[cfg(test)]
+mod lent_tests;
+#[cfg(test)]
 mod message_pointer_tests;
 #[cfg(test)]
 mod message_shape_tests;

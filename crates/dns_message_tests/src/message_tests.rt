@@ -43,11 +43,7 @@ fn last_rdata_is(records: &[Record], bytes: &[u8]) -> bool {
 /// Whether a message is written as these bytes, or isn't written by this error.
 pub(crate) fn is_written_as(message: &Message, bytes: &[u8], error: Option<EncodeError>) -> bool {
     match message.to_vec() {
-        Ok(written) => {
-            let held = error.is_none() && written.as_slice() == bytes;
-            drop(written);
-            held
-        }
+        Ok(written) => error.is_none() && written.as_slice() == bytes,
         Err(other) => error == Some(other),
     }
 }
@@ -60,9 +56,7 @@ fn both_are_written_as(
     error: Option<EncodeError>,
 ) -> bool {
     let copy = message.try_clone().expect(rt, "memory");
-    let held = is_written_as(message, bytes, error) && is_written_as(&copy, bytes, error);
-    drop(copy);
-    held
+    is_written_as(message, bytes, error) && is_written_as(&copy, bytes, error)
 }
 
 /// An A record of `a.` and an NS record of `a.` whose rdata is `b.a.`.
@@ -109,9 +103,8 @@ fn has_edns(message: &Message) -> bool {
 
 fn shows(rt: &impl Abort, message: &Message, bytes: &[u8], seen: Seen) -> bool {
     match seen {
-        Seen::Owner(wire) => {
-            matches!(message.answers.last(), Some(record) if is_named(&record.name, wire))
-        }
+        Seen::Owner(wire) =>
+            matches!(message.answers.last(), Some(record) if is_named(&record.name, wire)),
         Seen::Rdata(bytes) => last_rdata_is(&message.answers, bytes),
         Seen::Fault(_, _) => false,
         Seen::Written(written) => both_are_written_as(rt, message, written, None),
@@ -128,14 +121,9 @@ pub(crate) fn is_seen(rt: &impl Abort, alloc: Global, bytes: &[u8], seen: Seen) 
         return false;
     }
     match Message::from_vec(alloc, bytes) {
-        Ok(message) => {
-            let held = shows(rt, &message, bytes, seen);
-            drop(message);
-            held
-        }
-        Err(error) => {
-            matches!(seen, Seen::Fault(kind, place) if error.kind == kind && error.offset == place)
-        }
+        Ok(message) => shows(rt, &message, bytes, seen),
+        Err(error) =>
+            matches!(seen, Seen::Fault(kind, place) if error.kind == kind && error.offset == place),
     }
 }
 
@@ -276,6 +264,5 @@ fn messages_are_read_and_written_or_refused_by_the_first_fault(rt: HostRuntime) 
     check_numbered(&rt, rt.alloc(), "read", all_read());
     let query = Message::query(rt.alloc());
     let held = is_written_as(&query, b"\0\0\0\0\0\0\0\0\0\0\0\0", None);
-    drop(query);
     check_row(&rt, "an empty query", held);
 }

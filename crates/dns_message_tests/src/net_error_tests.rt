@@ -1,11 +1,11 @@
+//! Errors of the network with their texts.
 use crate::net_missing_tests::{denied_by_referral, has_soa};
 use crate::parts::{name, query, response, shows};
 use crate::rows::{Row, check_numbered};
 use dns_handle::{DnsError, IoKind, NetError, NoRecords, Notice, ProtoError};
 use dns_message::{DecodeError, DecodeKind, Message};
 use dns_model::Proof;
-use dns_name::{NoMemory, Text};
-use dns_record::{DNSClass, RecordType, ResponseCode};
+use dns_record::{DNSClass, NoMemory, RecordType, ResponseCode, Text};
 use std::alloc::Global;
 use std::process::Abort;
 
@@ -72,6 +72,9 @@ const SHOWN: &[Shown] = &[
     Shown(Sample::Fixed(Notice::SendQueueFull), Tells::Nothing, "send queue full"),
     Shown(Sample::Fixed(Notice::PolledAfterCompletion), Tells::Nothing, "polled after completion"),
     Shown(Sample::Fixed(Notice::NotAllBytesSent), Tells::Nothing, "not all bytes of message sent"),
+    Shown(Sample::Fixed(Notice::TransferHasTrailingRecords), Tells::Nothing, "invalid zone transfer, contains trailing records"),
+    Shown(Sample::Fixed(Notice::TransferIsIncremental), Tells::Nothing, "invalid zone transfer, expected AXFR, got IXFR"),
+    Shown(Sample::Fixed(Notice::HistoryFull), Tells::Nothing, "history full"),
     Shown(Sample::OwnText, Tells::Nothing, "the pool is closed"),
     Shown(Sample::NoConnections, Tells::Nothing, "no connections available"),
     Shown(Sample::Undecoded(DecodeKind::Short), Tells::Nothing, "protocol error: Short 12"),
@@ -147,9 +150,9 @@ fn error_of(rt: &impl Abort, alloc: Global, sample: Sample) -> NetError {
         Sample::Missing(text, record_type, code) => missing(rt, alloc, text, record_type, code),
         Sample::Referred => denied_by_referral(rt, alloc),
         Sample::Denied => denied(rt, alloc),
-        Sample::OwnText => {
-            NetError::from(Text::from_str(alloc, "the pool is closed").expect(rt, "memory"))
-        }
+        Sample::OwnText => NetError::from(Text::from_str(alloc, "the pool is closed").expect(
+            rt, "memory",
+        )),
         Sample::Foreign => foreign(rt, alloc),
         _ => plain(sample),
     }
@@ -168,12 +171,10 @@ fn is_told(error: &NetError, want: Tells) -> bool {
 
 fn soa_is(error: NetError, want: Tells) -> bool {
     let soa = error.into_soa();
-    let held = match want {
+    match want {
         Tells::Referral => has_soa(&soa, Some(60)),
         _ => soa.is_none(),
-    };
-    drop(soa);
-    held
+    }
 }
 
 /// The error tells this and has no other SOA than it says, and both it and its copy show the text.
@@ -184,7 +185,6 @@ impl Row for Shown {
         let held = is_told(&error, self.1)
             && shows(rt, alloc, &error, self.2)
             && shows(rt, alloc, &copy, self.2);
-        drop(copy);
         soa_is(error, self.1) && held
     }
 }

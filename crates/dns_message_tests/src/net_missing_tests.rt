@@ -1,3 +1,4 @@
+//! Errors without what they might hold.
 use crate::net_negative_tests::{Asked, Became, Held, fill, from_message};
 use crate::parts::is_named;
 use crate::rows::{Row, check_numbered};
@@ -162,9 +163,7 @@ fn became_of(rt: &impl Abort, alloc: Global, row: &Missing) -> Became {
 impl Row for Missing {
     fn holds(&self, rt: &impl Abort, alloc: Global) -> bool {
         let became = became_of(rt, alloc, self);
-        let held = is_missing(&became, self);
-        drop(became);
-        held
+        is_missing(&became, self)
     }
 }
 

@@ -75,9 +75,7 @@ fn outcome_of(became: &Became) -> Outcome {
 
 fn becomes(rt: &impl Abort, alloc: Global, message: Message, want: Outcome) -> bool {
     let became = from_message(rt, alloc, message);
-    let held = outcome_of(&became) == want;
-    drop(became);
-    held
+    outcome_of(&became) == want
 }
 
 const A: u16 = 1;

@@ -1,3 +1,4 @@
+//! Requests: what stands in them, and the case of their names.
 use crate::message_tests::is_written_as;
 use crate::parts::{ask_also, is_named, query};
 use crate::rows::{Row, check_numbered, check_row};
@@ -99,9 +100,7 @@ fn both_are_changed(
     original: &[u8],
 ) -> bool {
     let copy = request.try_clone().expect(rt, "memory");
-    let held = is_changed(request, changed, original) && is_changed(&copy, changed, original);
-    drop(copy);
-    held
+    is_changed(request, changed, original) && is_changed(&copy, changed, original)
 }
 
 /// The first question alone is changed. A second change keeps the question as the first has left it.
@@ -111,7 +110,6 @@ impl Row for Cased {
         let held = both_are_changed(rt, &once, self.3, self.1);
         let twice = changed(rt, once, self.2);
         let still = both_are_changed(rt, &twice, self.1, self.3);
-        drop(twice);
         held && still
     }
 }
@@ -124,9 +122,7 @@ fn stays_without_a_question(rt: &impl Abort, alloc: Global) -> bool {
         original: None,
     };
     let request = changed(rt, nothing, ALL_BITS);
-    let held = request.message.queries.is_empty() && request.original.is_none();
-    drop(request);
-    held
+    request.message.queries.is_empty() && request.original.is_none()
 }
 
 #[test]
@@ -177,9 +173,7 @@ impl Row for Written {
             ..BY_DEFAULT
         };
         let request = request(rt, alloc, query(rt, alloc, ".", 2), options);
-        let held = request.original.is_none() && is_written_as(&request.message, self.4, None);
-        drop(request);
-        held
+        request.original.is_none() && is_written_as(&request.message, self.4, None)
     }
 }
 

@@ -3,8 +3,7 @@ use dns_evidence::Trail;
 use dns_handle::DnsResponse;
 use dns_message::Message;
 use dns_model::{Denial, Proof};
-use dns_name::Name;
-use dns_record::{DNSClass, Query, Rdata, Record, RecordType};
+use dns_record::{DNSClass, Name, Query, Rdata, Record, RecordType};
 use std::alloc::Global;
 use std::fmt::Display;
 use std::process::Abort;
@@ -75,7 +74,5 @@ pub(crate) fn shows<D: Display + Drop>(
     want: &str,
 ) -> bool {
     let text = format!(in alloc; "{shown}").expect(rt, "memory");
-    let held = text.as_str() == want;
-    drop(text);
-    held
+    text.as_str() == want
 }

@@ -1,3 +1,4 @@
+//! The words of protocols.
 use crate::parts::shows;
 use crate::rows::{Row, check_numbered};
 use dns_handle::Protocol;

@@ -25,10 +25,12 @@ below_parts above name h =
     let parts = and_parts (nat_le (length above) (length name)) (ends_with (pointwise nat_eq) (folded name) (folded above)) h in
     let short : length above ≤ length name = grind (arith, nat_tests, parts.0) in
     let k = length name - length above in
-    let same : folded above ≡ folded (drop k name) = (name_eq-Decides above (drop k name)).0 (sym (at_or_above-shorter above name short) ∙ h) in
+    let same : folded above ≡ folded (drop k name) =
+    (name_eq-Decides above (drop k name)).0 (sym (at_or_above-shorter above name short) ∙ h) in
     record {
       front = take k (folded name);
-      whole = sym (take-append-drop k (folded name)) ∙ ap (λ (back : Labels). take k (folded name) ++ back) (drop-map lowered k name ∙ sym same);
+      whole = sym (take-append-drop k (folded name))
+          ∙ ap (λ (back : Labels). take k (folded name) ++ back) (drop-map lowered k name ∙ sym same);
     }
 
 pub below_made : (above name : Labels) → IsBelow above name → at_or_above above name ≡ true
@@ -53,7 +55,8 @@ below_alike_parts above one two same i = record { front = i.front; whole = sym s
 
 -- equal names have the same names above them
 pub below_alike : (above one two : Labels) → name_eq one two ≡ true → at_or_above above one ≡ true → at_or_above above two ≡ true
-below_alike above one two same h = below_made above two (below_alike_parts above one two ((name_eq-Decides one two).0 same) (below_parts above one h))
+below_alike above one two same h =
+    below_made above two (below_alike_parts above one two ((name_eq-Decides one two).0 same) (below_parts above one h))
 
 pub above_itself : (name : Labels) → at_or_above name name ≡ true
 above_itself name = below_made name name (record { front = []; whole = refl })
@@ -88,10 +91,14 @@ pub above_tail : (above : Labels) (label : Label) (name : Labels) → at_or_abov
     → (name_eq above (label ∷ name) ≡ true) ⊎ (at_or_above above name ≡ true)
 above_tail above label name h = let i = below_parts above (label ∷ name) h in tail_parts i.front above label name i.whole
 
-pub above_one_more : (above : Labels) (label : Label) (name : Labels) → at_or_above above name ≡ true → at_or_above above (label ∷ name) ≡ true
+pub above_one_more : (above : Labels) (label : Label) (name : Labels) → at_or_above above name ≡ true
+    → at_or_above above (label ∷ name) ≡ true
 above_one_more above label name h =
     let i = below_parts above name h in
-    below_made above (label ∷ name) (record { front = lowered label ∷ i.front; whole = ap (λ (back : Labels). lowered label ∷ back) i.whole })
+    below_made above (label ∷ name) (record {
+      front = lowered label ∷ i.front;
+      whole = ap (λ (back : Labels). lowered label ∷ back) i.whole;
+    })
 
 -- two lists that end one list, the shorter first
 nested : (front back other more : Labels) → front ++ back ≡ other ++ more → length back ≤ length more → Ends back more
@@ -111,7 +118,8 @@ above_nested one two name h k short =
     let n = nested i.front (folded one) j.front (folded two) (sym i.whole ∙ j.whole) fits in
     below_made one two (record { front = n.front; whole = n.whole })
 
-pub strictly_parts : (above name : Labels) → strictly_above above name ≡ true → (at_or_above above name ≡ true) × (name_eq above name ≡ false)
+pub strictly_parts : (above name : Labels) → strictly_above above name ≡ true
+    → (at_or_above above name ≡ true) × (name_eq above name ≡ false)
 strictly_parts above name h =
     let parts = and_parts (at_or_above above name) (not (name_eq above name)) h in
     (parts.0, not-true (name_eq above name) parts.1)
@@ -124,5 +132,6 @@ and_rest true b h k = k
 and_rest false b h k = absurd (true≢false (sym h))
 
 -- above, and not strictly: the same name
-pub alike_if_not_strictly : (above name : Labels) → at_or_above above name ≡ true → strictly_above above name ≡ false → name_eq above name ≡ true
+pub alike_if_not_strictly : (above name : Labels) → at_or_above above name ≡ true → strictly_above above name ≡ false
+    → name_eq above name ≡ true
 alike_if_not_strictly above name h k = not-false (name_eq above name) (and_rest (at_or_above above name) (not (name_eq above name)) h k)

@@ -25,7 +25,8 @@ unfolding links_hold
 links_hold-join j earlier [] more = ap (λ e. links_hold j e more) (sym (append-nil earlier))
 links_hold-join j earlier (link ∷ links) more =
     ap (λ b. link_holds j earlier link && b) (links_hold-join j (earlier ++ link ∷ []) links more)
-    ∙ ap (λ e. link_holds j earlier link && (links_hold j (earlier ++ link ∷ []) links && links_hold j e more)) (append_assoc earlier (link ∷ []) links)
+    ∙ ap (λ e. link_holds j earlier link && (links_hold j (earlier ++ link ∷ []) links && links_hold j e more))
+    (append_assoc earlier (link ∷ []) links)
     ∙ and_assoc (link_holds j earlier link) (links_hold j (earlier ++ link ∷ []) links) (links_hold j (earlier ++ link ∷ links) more)
 
 -- one more link
@@ -60,8 +61,10 @@ pub justified_extends : (j : Judge) (chain : List LinkValue) (link : LinkValue) 
     → justified j (chain ++ link ∷ []) ≡ true
 justified_extends j chain link held holds =
     let parts = and_parts (is_nonempty chain) (links_hold j [] chain) held in
-    let both : (links_hold j [] chain && link_holds j chain link) ≡ true = and_from (links_hold j [] chain) (link_holds j chain link) parts.1 holds in
-    and_from (is_nonempty (chain ++ link ∷ [])) (links_hold j [] (chain ++ link ∷ [])) (is_nonempty-append chain link) (links_hold-append j [] chain link ∙ both)
+    let both : (links_hold j [] chain && link_holds j chain link) ≡ true =
+    and_from (links_hold j [] chain) (link_holds j chain link) parts.1 holds in
+    and_from (is_nonempty (chain ++ link ∷ [])) (links_hold j [] (chain ++ link ∷ [])) (is_nonempty-append chain link)
+    (links_hold-append j [] chain link ∙ both)
 
 is_nonempty-take : (n : ℕ) (chain : List LinkValue) → 0 < n → is_nonempty chain ≡ true → is_nonempty (take n chain) ≡ true
 is_nonempty-take zero chain some is = absurd (omega arith)
@@ -111,13 +114,15 @@ each_member (x ∷ xs) = (
 -- a link is about a set, taken apart: its owner is the set's, its class and its rdatas too
 about : (rtype_is : Bool) (set : RrSet) (owner : Labels) (class : ℕ) (rdatas : List (List ℕ))
     → (rtype_is && (name_eq set.owner owner && ((set.class == class) && same_rdatas (rdatas_of set.records) rdatas))) ≡ true
-    → (name : Labels) (number : ℕ) (key : List ℕ) → name_eq name set.owner ≡ true → (number == set.class) ≡ true → has_bytes (rdatas_of set.records) key ≡ true
+    → (name : Labels) (number : ℕ) (key : List ℕ) → name_eq name set.owner ≡ true → (number == set.class) ≡ true
+    → has_bytes (rdatas_of set.records) key ≡ true
     → (rtype_is ≡ true) × ((name_eq name owner && ((number == class) && has_bytes rdatas key)) ≡ true)
 about rtype_is set owner class rdatas h name number key is_owner is_class member =
     let one = and_parts rtype_is (name_eq set.owner owner && ((set.class == class) && same_rdatas (rdatas_of set.records) rdatas)) h in
     let two = and_parts (name_eq set.owner owner) ((set.class == class) && same_rdatas (rdatas_of set.records) rdatas) one.1 in
     let three = and_parts (set.class == class) (same_rdatas (rdatas_of set.records) rdatas) two.1 in
-    let within : has_bytes rdatas key ≡ true = ap (λ xs. has_bytes xs key) (sym (rdatas_same (rdatas_of set.records) rdatas three.1)) ∙ member in
+    let within : has_bytes rdatas key ≡ true = ap (λ xs. has_bytes xs key) (sym (rdatas_same (rdatas_of set.records) rdatas three.1))
+    ∙ member in
     let class_is : (number == class) ≡ true = ap (λ n. n == class) (number_same number set.class is_class) ∙ three.0 in (
       one.0,
       and_from (name_eq name owner) ((number == class) && has_bytes rdatas key) (name_trans name set.owner owner is_owner two.0)
@@ -138,23 +143,28 @@ member_shown set (Some (Signed o c rtype rdatas sig key_link k)) name number key
     let rtype_is : (rtype == type_dnskey) ≡ true = ap (λ n. n == type_dnskey) (sym (number_same set.rtype rtype parts.0)) ∙ keys in
     and_from (rtype == type_dnskey) (name_eq name o && ((number == c) && has_bytes rdatas key)) rtype_is parts.1
 
-own_parts : (set : RrSet) → (name_eq set.owner set.owner && ((set.class == set.class) && same_rdatas (rdatas_of set.records) (rdatas_of set.records))) ≡ true
+own_parts : (set : RrSet) → (name_eq set.owner set.owner
+    && ((set.class == set.class) && same_rdatas (rdatas_of set.records) (rdatas_of set.records))) ≡ true
 own_parts set =
-    and_from (name_eq set.owner set.owner) ((set.class == set.class) && same_rdatas (rdatas_of set.records) (rdatas_of set.records)) (name_refl set.owner)
-    (and_from (set.class == set.class) (same_rdatas (rdatas_of set.records) (rdatas_of set.records)) (number_refl set.class) (same_rdatas_refl (rdatas_of set.records)))
+    and_from (name_eq set.owner set.owner) ((set.class == set.class)
+    && same_rdatas (rdatas_of set.records) (rdatas_of set.records)) (name_refl set.owner)
+    (and_from (set.class == set.class) (same_rdatas (rdatas_of set.records) (rdatas_of set.records)) (number_refl set.class)
+    (same_rdatas_refl (rdatas_of set.records)))
 
 -- a signed link that is made of a set is for it
 pub signed_is_for : (set : RrSet) (sig : List ℕ) (key_link : ℕ) (key : List ℕ)
     → link_is_for set (Some (Signed set.owner set.class set.rtype (rdatas_of set.records) sig key_link key)) ≡ true
 signed_is_for set sig key_link key =
-    and_from (set.rtype == set.rtype) (name_eq set.owner set.owner && ((set.class == set.class) && same_rdatas (rdatas_of set.records) (rdatas_of set.records)))
+    and_from (set.rtype == set.rtype) (name_eq set.owner set.owner
+    && ((set.class == set.class) && same_rdatas (rdatas_of set.records) (rdatas_of set.records)))
     (number_refl set.rtype) (own_parts set)
 
 -- a key set's link that is made of a set is for it
 pub keys_are_for : (set : RrSet) (links : List ℕ) → (set.rtype == type_dnskey) ≡ true
     → link_is_for set (Some (KeySet set.owner set.class (rdatas_of set.records) links)) ≡ true
 keys_are_for set links keys =
-    and_from (set.rtype == type_dnskey) (name_eq set.owner set.owner && ((set.class == set.class) && same_rdatas (rdatas_of set.records) (rdatas_of set.records)))
+    and_from (set.rtype == type_dnskey) (name_eq set.owner set.owner
+    && ((set.class == set.class) && same_rdatas (rdatas_of set.records) (rdatas_of set.records)))
     keys (own_parts set)
 
 -- an anchored key's link shows the key

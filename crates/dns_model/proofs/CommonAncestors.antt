@@ -74,12 +74,14 @@ longer_below above one two name h k either = by (nat_lt (length one) (length two
 
 -- ---- only the last labels matter
 
-drop_one : (k : ℕ) (label : Label) (name other : Labels) → length other + suc k ≤ length (label ∷ name) → common_ancestor (label ∷ name) other ≡ common_ancestor name other
+drop_one : (k : ℕ) (label : Label) (name other : Labels) → length other + suc k ≤ length (label ∷ name)
+    → common_ancestor (label ∷ name) other ≡ common_ancestor name other
 unfolding common_ancestor
 drop_one k label name other long =
     ap (λ b. cond b (label ∷ name) (common_ancestor name other)) (sym (at_or_above-longer (label ∷ name) other (omega (arith, long))))
 
-drop_ours : (k : ℕ) (name other : Labels) → length other + k ≤ length name → common_ancestor name other ≡ common_ancestor (drop k name) other
+drop_ours : (k : ℕ) (name other : Labels) → length other + k ≤ length name
+    → common_ancestor name other ≡ common_ancestor (drop k name) other
 drop_ours zero name other long = refl
 drop_ours (suc k) [] other long = absurd (omega (arith, long))
 drop_ours (suc k) (label ∷ name) other long = drop_one k label name other long ∙ drop_ours k name other (omega (arith, long))
@@ -92,7 +94,8 @@ above_dropped k zone name long =
     ∙ ap (name_eq zone) (sym (drop-drop (length (drop k name) - length zone) k name))
     ∙ sym (at_or_above-shorter zone (drop k name) (omega (arith, rest, long)))
 
-drop_theirs : (k : ℕ) (name other : Labels) → length name + k ≤ length other → common_ancestor name other ≡ common_ancestor name (drop k other)
+drop_theirs : (k : ℕ) (name other : Labels) → length name + k ≤ length other
+    → common_ancestor name other ≡ common_ancestor name (drop k other)
 unfolding common_ancestor
 drop_theirs k [] other long = refl
 drop_theirs k (label ∷ name) other long =
@@ -100,13 +103,16 @@ drop_theirs k (label ∷ name) other long =
     ∙ ap (cond (at_or_above (label ∷ name) (drop k other)) (label ∷ name)) (drop_theirs k name other (omega (arith, long)))
 
 -- the common ancestor is that of as many last labels of both
-pub aligned : (name other : Labels) → common_ancestor (drop (length name - length other) name) (drop (length other - length name) other) ≡ common_ancestor name other
+pub aligned : (name other : Labels)
+    → common_ancestor (drop (length name - length other) name) (drop (length other - length name) other) ≡ common_ancestor name other
 aligned name other =
     ⊎_elim
     (λ less. let none : length name - length other ≡ 0 = omega (arith, less) in
-    ap (λ n. common_ancestor (drop n name) (drop (length other - length name) other)) none ∙ sym (drop_theirs (length other - length name) name other (omega (arith, less))))
+    ap (λ n. common_ancestor (drop n name) (drop (length other - length name) other)) none
+    ∙ sym (drop_theirs (length other - length name) name other (omega (arith, less))))
     (λ more. let none : length other - length name ≡ 0 = omega (arith, more) in
-    ap (λ n. common_ancestor (drop (length name - length other) name) (drop n other)) none ∙ sym (drop_ours (length name - length other) name other (omega (arith, more))))
+    ap (λ n. common_ancestor (drop (length name - length other) name) (drop n other)) none
+    ∙ sym (drop_ours (length name - length other) name other (omega (arith, more))))
     (cases_lt (length name) (length other))
 
 -- names with as many labels
@@ -116,9 +122,11 @@ above_aligned one two same =
     at_or_above-shorter one two (omega (arith, same)) ∙ ap (λ n. name_eq one (drop n two)) none
 
 -- unequal names have in common what those above them have
-pub common_of_unequal : (first second : Label) (above beyond : Labels) → length above ≡ length beyond → name_eq (first ∷ above) (second ∷ beyond) ≡ false
+pub common_of_unequal : (first second : Label) (above beyond : Labels) → length above ≡ length beyond
+    → name_eq (first ∷ above) (second ∷ beyond) ≡ false
     → common_ancestor (first ∷ above) (second ∷ beyond) ≡ common_ancestor above beyond
 unfolding common_ancestor
 common_of_unequal first second above beyond same differs =
-    ap (λ b. cond b (first ∷ above) (common_ancestor above (second ∷ beyond))) (above_aligned (first ∷ above) (second ∷ beyond) (omega (arith, same)) ∙ differs)
+    ap (λ b. cond b (first ∷ above) (common_ancestor above (second ∷ beyond)))
+    (above_aligned (first ∷ above) (second ∷ beyond) (omega (arith, same)) ∙ differs)
     ∙ drop_theirs 1 above (second ∷ beyond) (omega (arith, same))

@@ -47,13 +47,16 @@ chain_over owner signer =
     ∷ Signed (letter_a ∷ example ∷ []) 1 1 ((127 ∷ 0 ∷ 0 ∷ 1 ∷ []) ∷ []) (signature_of 1 2 (example ∷ [])) 4 key ∷ []
 
 pub justified_over : justified (judge trusting anchors 1000) (chain_over (example ∷ []) []) ≡ true
-unfolding links_hold link_holds all_shown rrsig_in dnskey_in ds_in name_in labels_in label_in tag_sum ds_digest sha256 first_words schedule rounds compress hash_after digest_bytes
+unfolding links_hold link_holds all_shown rrsig_in dnskey_in ds_in name_in labels_in label_in tag_sum ds_digest sha256
+    first_words schedule rounds compress hash_after digest_bytes
 justified_over = refl
 
 pub no_other_owner : justified (judge trusting anchors 1000) (chain_over (letter_a ∷ []) []) ≡ false
-unfolding links_hold link_holds all_shown rrsig_in dnskey_in ds_in name_in labels_in label_in tag_sum ds_digest sha256 first_words schedule rounds compress hash_after digest_bytes
+unfolding links_hold link_holds all_shown rrsig_in dnskey_in ds_in name_in labels_in label_in tag_sum ds_digest sha256
+    first_words schedule rounds compress hash_after digest_bytes
 no_other_owner = refl
 
 pub no_ds_by_its_own_zone : justified (judge trusting anchors 1000) (chain_over (example ∷ []) (example ∷ [])) ≡ false
-unfolding links_hold link_holds all_shown rrsig_in dnskey_in ds_in name_in labels_in label_in tag_sum ds_digest sha256 first_words schedule rounds compress hash_after digest_bytes
+unfolding links_hold link_holds all_shown rrsig_in dnskey_in ds_in name_in labels_in label_in tag_sum ds_digest sha256
+    first_words schedule rounds compress hash_after digest_bytes
 no_ds_by_its_own_zone = refl

@@ -14,7 +14,8 @@ pub each_of : {X : Type 0} (P : X → Type 0) → ((x : X) → P x) → (xs : Li
 each_of P f [] = tt
 each_of P f (x ∷ xs) = (f x, each_of P f xs)
 
-pub each_both : {X : Type 0} (P Q : X → Type 0) (xs : List X) → AllByRecursion P xs → AllByRecursion Q xs → AllByRecursion (λ x. P x × Q x) xs
+pub each_both : {X : Type 0} (P Q : X → Type 0) (xs : List X) → AllByRecursion P xs → AllByRecursion Q xs
+    → AllByRecursion (λ x. P x × Q x) xs
 each_both P Q [] h k = tt
 each_both P Q (x ∷ xs) h k = ((h.0, k.0), each_both P Q xs h.1 k.1)
 
@@ -38,7 +39,8 @@ pub each_unmap : {X Y : Type 0} (P : Y → Type 0) (f : X → Y) (xs : List X) �
 each_unmap P f [] h = tt
 each_unmap P f (x ∷ xs) h = (h.0, each_unmap P f xs h.1)
 
-each_kept : {X : Type 0} (P : X → Type 0) (b : Bool) (x : X) (xs : List X) → (b ≡ true → P x) → AllByRecursion P xs → AllByRecursion P (cond b (x ∷ xs) xs)
+each_kept : {X : Type 0} (P : X → Type 0) (b : Bool) (x : X) (xs : List X) → (b ≡ true → P x) → AllByRecursion P xs
+    → AllByRecursion P (cond b (x ∷ xs) xs)
 each_kept P true x xs h k = (h refl, k)
 each_kept P false x xs h k = k
 
@@ -105,14 +107,16 @@ pub record IsFound {X : Type 0} (p : X → Bool) (P : X → Type 0) (x : X) : Ty
   pub passes : p x ≡ true
   pub known : P x
 
-found_step : {X : Type 0} (p : X → Bool) (P : X → Type 0) (b : Bool) (x y : X) (rest : Option X) → p x ≡ b → P x → (rest ≡ Some y → IsFound p P y)
+found_step : {X : Type 0} (p : X → Bool) (P : X → Type 0) (b : Bool) (x y : X) (rest : Option X) → p x ≡ b → P x
+    → (rest ≡ Some y → IsFound p P y)
     → cond b (Some x) rest ≡ Some y → IsFound p P y
 found_step p P true x y rest e h later is =
     let same : x ≡ y = cc in
     record { passes = ap p (sym same) ∙ e; known = rw same at h }
 found_step p P false x y rest e h later is = later is
 
-pub find_known : {X : Type 0} (p : X → Bool) (P : X → Type 0) (xs : List X) (y : X) → AllByRecursion P xs → find p xs ≡ Some y → IsFound p P y
+pub find_known : {X : Type 0} (p : X → Bool) (P : X → Type 0) (xs : List X) (y : X) → AllByRecursion P xs → find p xs ≡ Some y
+    → IsFound p P y
 find_known p P [] y h is = cc
 find_known p P (x ∷ xs) y h is = found_step p P (p x) x y (find p xs) refl h.0 (find_known p P xs y h.1) is
 
@@ -152,19 +156,23 @@ apart_kept same false x xs h k = k
 
 pub apart_filter : {X : Type 0} (same : X → X → Bool) (p : X → Bool) (xs : List X) → Apart same xs → Apart same (filter p xs)
 apart_filter same p [] h = tt
-apart_filter same p (x ∷ xs) h = apart_kept same (p x) x (filter p xs) (each_filter (λ y. same x y ≡ false) p xs h.0) (apart_filter same p xs h.1)
+apart_filter same p (x ∷ xs) h =
+    apart_kept same (p x) x (filter p xs) (each_filter (λ y. same x y ≡ false) p xs h.0) (apart_filter same p xs h.1)
 
 pub apart_map : {X Y : Type 0} (same : Y → Y → Bool) (f : X → Y) (xs : List X) → Apart (λ x y. same (f x) (f y)) xs → Apart same (map f xs)
 apart_map same f [] h = tt
 apart_map same f (x ∷ xs) h = (each_map (λ y. same (f x) y ≡ false) f xs h.0, apart_map same f xs h.1)
 
-pub apart_unmap : {X Y : Type 0} (same : Y → Y → Bool) (f : X → Y) (xs : List X) → Apart same (map f xs) → Apart (λ x y. same (f x) (f y)) xs
+pub apart_unmap : {X Y : Type 0} (same : Y → Y → Bool) (f : X → Y) (xs : List X) → Apart same (map f xs)
+    → Apart (λ x y. same (f x) (f y)) xs
 apart_unmap same f [] h = tt
 apart_unmap same f (x ∷ xs) h = (each_unmap (λ y. same (f x) y ≡ false) f xs h.0, apart_unmap same f xs h.1)
 
-pub apart_agree : {X : Type 0} (same alike : X → X → Bool) (xs : List X) → ((x y : X) → alike x y ≡ same x y) → Apart same xs → Apart alike xs
+pub apart_agree : {X : Type 0} (same alike : X → X → Bool) (xs : List X) → ((x y : X) → alike x y ≡ same x y) → Apart same xs
+    → Apart alike xs
 apart_agree same alike [] agree h = tt
-apart_agree same alike (x ∷ xs) agree h = (each_more (λ y. same x y ≡ false) (λ y. alike x y ≡ false) (λ y e. agree x y ∙ e) xs h.0, apart_agree same alike xs agree h.1)
+apart_agree same alike (x ∷ xs) agree h =
+    (each_more (λ y. same x y ≡ false) (λ y. alike x y ≡ false) (λ y e. agree x y ∙ e) xs h.0, apart_agree same alike xs agree h.1)
 
 pub apart_append : {X : Type 0} (same : X → X → Bool) (xs ys : List X) → AllByRecursion (λ x. AllByRecursion (λ y. same x y ≡ false) ys) xs
     → Apart same xs → Apart same ys → Apart same (xs ++ ys)

@@ -108,7 +108,8 @@ unfolding ns_in name_in labels_in label_in
 target_with_a_byte_more = refl
 
 -- NS and SOA in window 0
-pub bits_of_apex : map (bitmap_has (0 ∷ 1 ∷ 34 ∷ [])) (1 ∷ 2 ∷ 5 ∷ 6 ∷ 7 ∷ 8 ∷ 258 ∷ []) ≡ false ∷ true ∷ false ∷ true ∷ false ∷ false ∷ false ∷ []
+pub bits_of_apex : map (bitmap_has (0 ∷ 1 ∷ 34 ∷ [])) (1 ∷ 2 ∷ 5 ∷ 6 ∷ 7 ∷ 8 ∷ 258 ∷ [])
+    ≡ false ∷ true ∷ false ∷ true ∷ false ∷ false ∷ false ∷ []
 unfolding bitmap_has windows_in window_in
 bits_of_apex = refl
 
@@ -151,7 +152,8 @@ next_name_stays = refl
 
 -- in NAPTR the three texts stay, and the name is lowered
 pub lowered_replacement :
-    canonical_form 35 (0 ∷ 1 ∷ 0 ∷ 2 ∷ 1 ∷ 83 ∷ 0 ∷ 2 ∷ 65 ∷ 66 ∷ 1 ∷ 65 ∷ 0 ∷ []) ≡ 0 ∷ 1 ∷ 0 ∷ 2 ∷ 1 ∷ 83 ∷ 0 ∷ 2 ∷ 65 ∷ 66 ∷ 1 ∷ 97 ∷ 0 ∷ []
+    canonical_form 35 (0 ∷ 1 ∷ 0 ∷ 2 ∷ 1 ∷ 83 ∷ 0 ∷ 2 ∷ 65 ∷ 66 ∷ 1 ∷ 65 ∷ 0 ∷ [])
+    ≡ 0 ∷ 1 ∷ 0 ∷ 2 ∷ 1 ∷ 83 ∷ 0 ∷ 2 ∷ 65 ∷ 66 ∷ 1 ∷ 97 ∷ 0 ∷ []
 unfolding canonical_form is_lowered_type parts_in shape_of counted_in name_in labels_in label_in
 lowered_replacement = refl
 

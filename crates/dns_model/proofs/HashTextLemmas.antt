@@ -172,9 +172,11 @@ bytes_written (a ∷ b ∷ c ∷ d ∷ e ∷ f ∷ g ∷ h ∷ rest) symbols who
     let parts = eight_of a b c d e f g h rest symbols in
     let n : ℕ = number_from_digits 32 (map symbol_bits eight) in
     let below = all_below eight parts.0 in
-    ap (λ m. map symbol (groups_of_five m) ++ base32hex (base32hex_bytes rest)) (number_of_bytes n (number_lt 32 (map symbol_bits eight) below))
+    ap (λ m. map symbol (groups_of_five m) ++ base32hex (base32hex_bytes rest))
+    (number_of_bytes n (number_lt 32 (map symbol_bits eight) below))
     ∙ ap (λ (l : List ℕ). map symbol l ++ base32hex (base32hex_bytes rest))
-    (groups_of_number (symbol_bits a) (symbol_bits b) (symbol_bits c) (symbol_bits d) (symbol_bits e) (symbol_bits f) (symbol_bits g) (symbol_bits h) below)
+    (groups_of_number (symbol_bits a) (symbol_bits b) (symbol_bits c) (symbol_bits d) (symbol_bits e) (symbol_bits f)
+    (symbol_bits g) (symbol_bits h) below)
     ∙ ap (λ (l : List ℕ). l ++ base32hex (base32hex_bytes rest)) (all_back eight parts.0)
     ∙ ap (λ (l : List ℕ). map to_ascii_lowercase eight ++ l) (bytes_written rest parts.1 (omega (arith, whole)))
   where
@@ -198,7 +200,8 @@ step_of_256 m n x y h k = grind (arith, nat_tests, h, k)
 digits_order : (base : ℕ)
     → ((m n x y : ℕ) → x < base → y < base → nat_cmp (m * base + x) (n * base + y) ≡ ordering_then (nat_cmp m n) (nat_cmp x y))
     → (xs ys : List ℕ) → length xs ≡ length ys → AllBelowBase base xs → AllBelowBase base ys → (m n : ℕ)
-    → nat_cmp (number_from_digits_after base m xs) (number_from_digits_after base n ys) ≡ ordering_then (nat_cmp m n) (slice_cmp nat_cmp xs ys)
+    → nat_cmp (number_from_digits_after base m xs) (number_from_digits_after base n ys)
+    ≡ ordering_then (nat_cmp m n) (slice_cmp nat_cmp xs ys)
 digits_order base step [] [] same h k m n = sym (then_Equal (nat_cmp m n))
 digits_order base step [] (y ∷ ys) same h k m n = absurd (omega (arith, same))
 digits_order base step (x ∷ xs) [] same h k m n = absurd (omega (arith, same))
@@ -226,7 +229,8 @@ text_order (a ∷ b ∷ c ∷ d ∷ e ∷ one) (p ∷ q ∷ r ∷ s ∷ t ∷ tw
     let h : AllBelowBase 256 first = (below.0, (below.1.0, (below.1.1.0, (below.1.1.1.0, (below.1.1.1.1.0, tt))))) in
     let k : AllBelowBase 256 second = (under.0, (under.1.0, (under.1.1.0, (under.1.1.1.0, (under.1.1.1.1.0, tt))))) in
     let fronts : slice_cmp nat_cmp (map symbol (groups_of_five m)) (map symbol (groups_of_five n)) ≡ slice_cmp nat_cmp first second =
-    groups_order m n (number_below a b c d e one below) (number_below p q r s t two under) ∙ digits_order 256 step_of_256 first second refl h k 0 0 in
+    groups_order m n (number_below a b c d e one below) (number_below p q r s t two under)
+    ∙ digits_order 256 step_of_256 first second refl h k 0 0 in
     let rests = text_order one two below.1.1.1.1.1 under.1.1.1.1.1 (omega (arith, same)) (omega (arith, whole)) in
     cmp-append nat_cmp (map symbol (groups_of_five m)) (map symbol (groups_of_five n)) (base32hex one) (base32hex two) refl
     ∙ ap (λ o. ordering_then o (slice_cmp nat_cmp (base32hex one) (base32hex two))) fronts

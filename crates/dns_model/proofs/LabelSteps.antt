@@ -53,7 +53,8 @@ first_label (l ∷ name) good label rest is some =
     let fine = is_name-above l name good in
     (rw (← above) (IsWire-wire name fine), rw (← same, ← above, labels_of-wire name fine) refl)
 
-pub wire_split : (bytes label rest : List ℕ) → IsWire bytes → label_in bytes ≡ Some (label, rest) → 0 < length label → IsSplit bytes label rest
+pub wire_split : (bytes label rest : List ℕ) → IsWire bytes → label_in bytes ≡ Some (label, rest) → 0 < length label
+    → IsSplit bytes label rest
 wire_split bytes label rest form is some =
     let read : label_in (wire (labels_of bytes)) ≡ Some (label, rest) = ap label_in (wire-labels_of bytes form) ∙ is in
     let both = first_label (labels_of bytes) (is_name-labels_of bytes form) label rest read some in
@@ -75,7 +76,8 @@ wire_root bytes [] rest form is none =
 wire_root bytes (c ∷ label) rest form is none = absurd (omega arith)
 
 label_read : (name : Labels) → is_name name ≡ true → label_in (wire name) ≡ None → ⊥
-label_read [] good is = let read : ◌≡◌ {A = Option (Label × List ℕ)} (Some ([], [])) None = sym (label_in-label [] [] (omega arith)) ∙ is in cc
+label_read [] good is = let read : ◌≡◌ {A = Option (Label × List ℕ)} (Some ([], [])) None = sym (label_in-label [] [] (omega arith))
+    ∙ is in cc
 label_read (l ∷ name) good is =
     let size = label_size l (is_label-first l name good) in
     let read : ◌≡◌ {A = Option (Label × List ℕ)} (Some (l, wire name)) None = sym (label_in-label l (wire name) size.1) ∙ is in
@@ -116,10 +118,12 @@ parent-drop (label ∷ name) (suc n) =
 
 -- ---- at or above
 
-ends_below : (zone name : Labels) → ends_with (pointwise nat_eq) (folded name) (folded zone) ≡ name_eq zone (drop (length name - length zone) name)
+ends_below : (zone name : Labels)
+    → ends_with (pointwise nat_eq) (folded name) (folded zone) ≡ name_eq zone (drop (length name - length zone) name)
 ends_below zone name = rw (length-map name lowered, length-map zone lowered, drop-map lowered (length name - length zone) name) refl
 
-pub at_or_above-shorter : (zone name : Labels) → length zone ≤ length name → at_or_above zone name ≡ name_eq zone (drop (length name - length zone) name)
+pub at_or_above-shorter : (zone name : Labels) → length zone ≤ length name
+    → at_or_above zone name ≡ name_eq zone (drop (length name - length zone) name)
 at_or_above-shorter zone name small =
     let fits : nat_le (length zone) (length name) ≡ true = grind (arith, nat_tests) in
     rw (fits, ends_below zone name) refl

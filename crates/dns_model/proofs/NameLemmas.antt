@@ -30,7 +30,12 @@ map-wire (label ∷ name) good =
     let parts = and_parts (is_label label) (list_all is_label name) good in
     let halves = and_parts (nat_lt 0 (length label)) (nat_le (length label) 63) parts.0 in
     let small : length label ≤ 63 = grind (arith, nat_tests, halves.1) in
-    rw (lower_length (length label) small, map-append to_ascii_lowercase label (wire name), map-wire name parts.1, length-map label to_ascii_lowercase) refl
+    rw (
+      lower_length (length label) small,
+      map-append to_ascii_lowercase label (wire name),
+      map-wire name parts.1,
+      length-map label to_ascii_lowercase,
+    ) refl
 
 list_all-folded : (name : Labels) → list_all is_label (folded name) ≡ list_all is_label name
 list_all-folded [] = refl
@@ -39,7 +44,13 @@ list_all-folded (label ∷ name) = rw (length-map label to_ascii_lowercase, list
 pub length-wire-folded : (name : Labels) → length (wire (folded name)) ≡ length (wire name)
 length-wire-folded [] = refl
 length-wire-folded (label ∷ name) =
-    omega (arith, length-wire-folded name, length-append label (wire name), length-append (lowered label) (wire (folded name)), length-map label to_ascii_lowercase)
+    omega (
+      arith,
+      length-wire-folded name,
+      length-append label (wire name),
+      length-append (lowered label) (wire (folded name)),
+      length-map label to_ascii_lowercase,
+    )
 
 -- a name that is folded is a name
 pub is_name-folded : (name : Labels) → is_name (folded name) ≡ is_name name
@@ -82,10 +93,12 @@ name_equiv = on_equiv folded (lists_equiv nat_list_eq_equiv)
 -- ---- what is fed to a hasher
 
 pub name_alike : Alike name_eq name_input
-name_alike = on_Alike folded (same_Alike (λ name. flat_map fed.u8 (wire name)) (λ a b. slice_eq-Decides bytes_eq-Decides a b (pointwise (pointwise nat_eq) a b) refl))
+name_alike = on_Alike folded (same_Alike (λ name. flat_map fed.u8 (wire name))
+    (λ a b. slice_eq-Decides bytes_eq-Decides a b (pointwise (pointwise nat_eq) a b) refl))
 
 -- two names have the same bytes where their wire forms have
-pub same_bytes : (a b : Labels) (r : Bool) → is_name a ≡ true → is_name b ≡ true → r ≡ pointwise nat_eq (wire a) (wire b) → IsTrue r ↔ (a ≡ b)
+pub same_bytes : (a b : Labels) (r : Bool) → is_name a ≡ true → is_name b ≡ true → r ≡ pointwise nat_eq (wire a) (wire b)
+    → IsTrue r ↔ (a ≡ b)
 same_bytes a b r p q is =
     let d = slice_eq-Decides Decides-eqb (wire a) (wire b) r is in
     (λ h. wire_injective a b p q (d.0 h), λ h. d.1 (ap wire h))
@@ -96,9 +109,14 @@ pub fed_more : {S : Type 0} (write : S → List ℕ → S) (s t : S) (bytes : Li
     → write t (to_ascii_lowercase byte ∷ []) ≡ fold write s (flat_map fed.u8 (map to_ascii_lowercase (take (i + 1) bytes)))
 fed_more write s t bytes i byte lt is so_far =
     let front = take i bytes in
-    let fed_one : flat_map fed.u8 (map to_ascii_lowercase (take (i + 1) bytes)) ≡ flat_map fed.u8 (map to_ascii_lowercase (take i bytes)) ++ fed.u8 (to_ascii_lowercase byte) =
+    let fed_one : flat_map fed.u8 (map to_ascii_lowercase (take (i + 1) bytes)) ≡ flat_map fed.u8 (map to_ascii_lowercase (take i bytes))
+    ++ fed.u8 (to_ascii_lowercase byte) =
     ap (λ (l : List ℕ). flat_map fed.u8 (map to_ascii_lowercase l)) (take_more bytes i byte lt)
     ∙ ap (λ (b : ℕ). flat_map fed.u8 (map to_ascii_lowercase (take i bytes ++ b ∷ []))) (sym is)
     ∙ ap (flat_map fed.u8) (map-append to_ascii_lowercase (take i bytes) (byte ∷ []))
     ∙ flat_map-append fed.u8 (map to_ascii_lowercase (take i bytes)) (to_ascii_lowercase byte ∷ []) in
-    rw (fed_one, fold-append write s (flat_map fed.u8 (map to_ascii_lowercase (take i bytes))) (fed.u8 (to_ascii_lowercase byte)), ← so_far) refl
+    rw (
+      fed_one,
+      fold-append write s (flat_map fed.u8 (map to_ascii_lowercase (take i bytes))) (fed.u8 (to_ascii_lowercase byte)),
+      ← so_far,
+    ) refl

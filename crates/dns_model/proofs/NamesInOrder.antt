@@ -75,7 +75,8 @@ less_back Less h = refl
 less_back Equal h = refl
 less_back Greater h = cc
 
-pub less_past : {K : Type 0} (R : K → K → Ordering) → IsTotalOrder R → (x y z : K) (o : Ordering) → R x y ≡ o → is_lt o ≡ false → is_lt (R x z) ≡ true → is_lt (R y z) ≡ true
+pub less_past : {K : Type 0} (R : K → K → Ordering) → IsTotalOrder R → (x y z : K) (o : Ordering) → R x y ≡ o → is_lt o ≡ false
+    → is_lt (R x z) ≡ true → is_lt (R y z) ≡ true
 less_past R t x y z Less is differs holds = cc
 less_past R t x y z Equal is differs holds = sym (ap is_lt (t.congr x y z is)) ∙ holds
 less_past R t x y z Greater is differs holds =

@@ -9,10 +9,14 @@ use Rattle.std.proofs.lemmas.Bool.Decides.{nat_tests, same_from_decides}
 use Rattle.std.proofs.lemmas.Cmp.{on_total, lists_total, nat_list_cmp_total}
 use Rattle.std.proofs.lemmas.List.{reverse-append, reverse-reverse, length-reverse, length-map, take-append-drop, length-drop, length-take-le, map-append, append-nil}
 use Rattle.std.proofs.lemmas.Slice.Eq.{slice_eq-Decides, bytes_eq-Decides}
-use Rattle.dns_model.specs.Names.{Label, Labels, lowered, folded, name_eq, name_cmp}
+use Rattle.dns_model.specs.Names.{Label, Labels, lowered, folded, labels_eq, labels_cmp, name_eq, name_cmp}
+
+-- labels, whose case counts, are in a total order
+pub labels_total : IsTotalOrder labels_cmp
+labels_total = on_total (λ (n : Labels). reverse n) (lists_total nat_list_cmp_total)
 
 pub name_total : IsTotalOrder name_cmp
-name_total = on_total (λ (n : Labels). reverse (folded n)) (lists_total nat_list_cmp_total)
+name_total = on_total folded labels_total
 
 pub nat_ties : (x y : ℕ) → nat_eq x y ≡ eq_by_cmp nat_cmp x y
 nat_ties x y = grind (arith, nat_tests)
@@ -21,21 +25,25 @@ nat_ties x y = grind (arith, nat_tests)
 pub bytes_ties : (a b : List ℕ) → pointwise nat_eq a b ≡ eq_by_cmp (slice_cmp nat_cmp) a b
 bytes_ties a b = lists_ties nat_cmp nat_ties a b
 
-lists_Decides : (a b : Labels) → Decides (pointwise (pointwise nat_eq) a b) (a ≡ b)
-lists_Decides a b = slice_eq-Decides bytes_eq-Decides a b (pointwise (pointwise nat_eq) a b) refl
+-- the test of equal labels decides whether they are one
+pub labels_Decides : (a b : Labels) → Decides (labels_eq a b) (a ≡ b)
+labels_Decides a b = slice_eq-Decides bytes_eq-Decides a b (labels_eq a b) refl
 
 -- lists that are equal read backwards are equal
-reversed_Decides : (a b : Labels) → Decides (pointwise (pointwise nat_eq) (reverse a) (reverse b)) (a ≡ b)
+reversed_Decides : (a b : Labels) → Decides (labels_eq (reverse a) (reverse b)) (a ≡ b)
 reversed_Decides a b =
-    let d = lists_Decides (reverse a) (reverse b) in
+    let d = labels_Decides (reverse a) (reverse b) in
     (λ h. sym (reverse-reverse a) ∙ ap reverse (d.0 h) ∙ reverse-reverse b, λ h. d.1 (ap reverse h))
 
--- names are equal exactly where the order does not tell them apart
+-- labels are equal exactly where the order does not tell them apart
+pub labels_ties : (a b : Labels) → labels_eq a b ≡ is_eq (labels_cmp a b)
+labels_ties a b =
+    same_from_decides (labels_eq a b) (labels_eq (reverse a) (reverse b)) (labels_Decides a b) (reversed_Decides a b)
+    ∙ lists_ties (slice_cmp nat_cmp) (lists_ties nat_cmp nat_ties) (reverse a) (reverse b)
+
+-- and so are names
 pub name_ties : (a b : Labels) → name_eq a b ≡ is_eq (name_cmp a b)
-name_ties a b =
-    same_from_decides (name_eq a b) (pointwise (pointwise nat_eq) (reverse (folded a)) (reverse (folded b)))
-    (lists_Decides (folded a) (folded b)) (reversed_Decides (folded a) (folded b))
-    ∙ lists_ties (slice_cmp nat_cmp) (lists_ties nat_cmp nat_ties) (reverse (folded a)) (reverse (folded b))
+name_ties a b = labels_ties (folded a) (folded b)
 
 -- ---- from the leaf on
 
@@ -67,7 +75,8 @@ name_cmp-cons x y a b same =
     let long : length (reverse (folded a)) ≡ length (reverse (folded b)) =
     rw (length-reverse (folded a), length-reverse (folded b), length-map a lowered, length-map b lowered) same in
     let whole = cmp-append (slice_cmp nat_cmp) (reverse (folded a)) (reverse (folded b)) (lowered x ∷ []) (lowered y ∷ []) long in
-    let last : slice_cmp (slice_cmp nat_cmp) (lowered x ∷ []) (lowered y ∷ []) ≡ slice_cmp nat_cmp (lowered x) (lowered y) = then_Equal (slice_cmp nat_cmp (lowered x) (lowered y)) in
+    let last : slice_cmp (slice_cmp nat_cmp) (lowered x ∷ []) (lowered y ∷ []) ≡ slice_cmp nat_cmp (lowered x) (lowered y) =
+    then_Equal (slice_cmp nat_cmp (lowered x) (lowered y)) in
     ap (λ (n : Labels). slice_cmp (slice_cmp nat_cmp) n (reverse (folded (y ∷ b)))) left
     ∙ ap (λ (n : Labels). slice_cmp (slice_cmp nat_cmp) (reverse (folded a) ++ lowered x ∷ []) n) right
     ∙ whole ∙ ap (ordering_then (name_cmp a b)) last
@@ -90,22 +99,27 @@ some_reversed : (front : Labels) → 0 < length front → 0 < length (reverse (f
 some_reversed front some = rw (length-reverse (folded front), length-map front lowered) some
 
 -- more labels on the left come after
-cmp-front_left : (front a b : Labels) → length a ≡ length b → 0 < length front → name_cmp (front ++ a) b ≡ ordering_then (name_cmp a b) Greater
+cmp-front_left : (front a b : Labels) → length a ≡ length b → 0 < length front
+    → name_cmp (front ++ a) b ≡ ordering_then (name_cmp a b) Greater
 cmp-front_left front a b same some =
     ap (λ (n : Labels). slice_cmp (slice_cmp nat_cmp) n (reverse (folded b))) (reversed-append front a)
-    ∙ ap (λ (n : Labels). slice_cmp (slice_cmp nat_cmp) (reverse (folded a) ++ reverse (folded front)) n) (sym (append-nil (reverse (folded b))))
+    ∙ ap (λ (n : Labels). slice_cmp (slice_cmp nat_cmp) (reverse (folded a) ++ reverse (folded front)) n)
+    (sym (append-nil (reverse (folded b))))
     ∙ cmp-append (slice_cmp nat_cmp) (reverse (folded a)) (reverse (folded b)) (reverse (folded front)) [] (same_reversed a b same)
     ∙ ap (ordering_then (name_cmp a b)) (past_end (reverse (folded front)) (some_reversed front some))
 
 -- more labels on the right come after
-cmp-front_right : (front a b : Labels) → length a ≡ length b → 0 < length front → name_cmp a (front ++ b) ≡ ordering_then (name_cmp a b) Less
+cmp-front_right : (front a b : Labels) → length a ≡ length b → 0 < length front
+    → name_cmp a (front ++ b) ≡ ordering_then (name_cmp a b) Less
 cmp-front_right front a b same some =
     ap (λ (n : Labels). slice_cmp (slice_cmp nat_cmp) (reverse (folded a)) n) (reversed-append front b)
-    ∙ ap (λ (n : Labels). slice_cmp (slice_cmp nat_cmp) n (reverse (folded b) ++ reverse (folded front))) (sym (append-nil (reverse (folded a))))
+    ∙ ap (λ (n : Labels). slice_cmp (slice_cmp nat_cmp) n (reverse (folded b) ++ reverse (folded front)))
+    (sym (append-nil (reverse (folded a))))
     ∙ cmp-append (slice_cmp nat_cmp) (reverse (folded a)) (reverse (folded b)) [] (reverse (folded front)) (same_reversed a b same)
     ∙ ap (ordering_then (name_cmp a b)) (before_end (reverse (folded front)) (some_reversed front some))
 
-pub name_cmp-longer : (a b : Labels) → length b < length a → name_cmp a b ≡ ordering_then (name_cmp (drop (length a - length b) a) b) Greater
+pub name_cmp-longer : (a b : Labels) → length b < length a
+    → name_cmp a b ≡ ordering_then (name_cmp (drop (length a - length b) a) b) Greater
 name_cmp-longer a b more =
     let long : length (drop (length a - length b) a) ≡ length b = omega (arith, length-drop (length a - length b) a) in
     let some : 0 < length (take (length a - length b) a) = omega (arith, length-take-le (length a - length b) a (omega arith)) in

@@ -128,11 +128,13 @@ each_listed : (section : List Rr) → AllByRecursion (λ r. is_nonempty (rdatas_
 each_listed [] = tt
 each_listed (x ∷ xs) = (
   listed_step (same_set x x) x (filter (same_set x) xs) (same_set_refl x),
-  each_more (λ r. is_nonempty (rdatas_of (filter (same_set r) xs)) ≡ true) (λ r. is_nonempty (rdatas_of (filter (same_set r) (x ∷ xs))) ≡ true)
+  each_more (λ r. is_nonempty (rdatas_of (filter (same_set r) xs)) ≡ true)
+      (λ r. is_nonempty (rdatas_of (filter (same_set r) (x ∷ xs))) ≡ true)
       (λ r. listed_later (same_set r x) x (filter (same_set r) xs)) xs (each_listed xs),
 )
 
-proper : (section : List Rr) (r : Rr) → (not (is_signature r) ≡ true) × (is_nonempty (rdatas_of (filter (same_set r) section)) ≡ true) → IsProper (set_of section r)
+proper : (section : List Rr) (r : Rr) → (not (is_signature r) ≡ true) × (is_nonempty (rdatas_of (filter (same_set r) section)) ≡ true)
+    → IsProper (set_of section r)
 proper section r h = record {
   plain = not-true (is_signature r) h.0;
   listed = h.1;
@@ -145,24 +147,28 @@ each_plain_leader : (P : Rr → Type 0) (section : List Rr) → AllByRecursion P
 each_plain_leader P section h =
     let Plain = λ (r : Rr). not (is_signature r) ≡ true in
     each_leader (λ r. Plain r × P r) (unsigned_part section)
-    (each_both Plain P (unsigned_part section) (each_passes (λ r. not (is_signature r)) section) (each_filter P (λ r. not (is_signature r)) section h))
+    (each_both Plain P (unsigned_part section) (each_passes (λ r. not (is_signature r)) section)
+    (each_filter P (λ r. not (is_signature r)) section h))
 
 pub proper_sets : (section : List Rr) → AllByRecursion IsProper (sets_of section)
 unfolding sets_of
 proper_sets section =
     let P = λ (r : Rr). is_nonempty (rdatas_of (filter (same_set r) section)) ≡ true in
     each_map IsProper (set_of section) (leaders (unsigned_part section))
-    (each_more (λ r. (not (is_signature r) ≡ true) × P r) (λ r. IsProper (set_of section r)) (proper section) (leaders (unsigned_part section))
+    (each_more (λ r. (not (is_signature r) ≡ true) × P r) (λ r. IsProper (set_of section r)) (proper section)
+    (leaders (unsigned_part section))
     (each_plain_leader P section (each_listed section)))
 
-each_placed : (P : PlacedSet → Type 0) (told : Told) → ((section : Section) → AllByRecursion (λ set. P (in_section section set)) (sets_of (section_of told section)))
+each_placed : (P : PlacedSet → Type 0) (told : Told)
+    → ((section : Section) → AllByRecursion (λ set. P (in_section section set)) (sets_of (section_of told section)))
     → AllByRecursion P (placed_sets told)
 each_placed P told h =
     let one = map (in_section Answer) (sets_of told.answers) in
     let two = map (in_section Authority) (sets_of told.authorities) in
     let three = map (in_section Additional) (sets_of told.additionals) in
     each_append P (one ++ two) three
-    (each_append P one two (each_map P (in_section Answer) (sets_of told.answers) (h Answer)) (each_map P (in_section Authority) (sets_of told.authorities) (h Authority)))
+    (each_append P one two (each_map P (in_section Answer) (sets_of told.answers) (h Answer))
+    (each_map P (in_section Authority) (sets_of told.authorities) (h Authority)))
     (each_map P (in_section Additional) (sets_of told.additionals) (h Additional))
 
 -- what is shown of each set of a message is shown of those of a section
@@ -171,14 +177,17 @@ pub placed_each : (P : PlacedSet → Type 0) (told : Told) (section : Section) �
 placed_each P told Answer h =
     each_unmap P (in_section Answer) (sets_of told.answers)
     (each_front P (map (in_section Answer) (sets_of told.answers)) (map (in_section Authority) (sets_of told.authorities))
-    (each_front P (map (in_section Answer) (sets_of told.answers) ++ map (in_section Authority) (sets_of told.authorities)) (map (in_section Additional) (sets_of told.additionals)) h))
+    (each_front P (map (in_section Answer) (sets_of told.answers) ++ map (in_section Authority) (sets_of told.authorities))
+    (map (in_section Additional) (sets_of told.additionals)) h))
 placed_each P told Authority h =
     each_unmap P (in_section Authority) (sets_of told.authorities)
     (each_back P (map (in_section Answer) (sets_of told.answers)) (map (in_section Authority) (sets_of told.authorities))
-    (each_front P (map (in_section Answer) (sets_of told.answers) ++ map (in_section Authority) (sets_of told.authorities)) (map (in_section Additional) (sets_of told.additionals)) h))
+    (each_front P (map (in_section Answer) (sets_of told.answers) ++ map (in_section Authority) (sets_of told.authorities))
+    (map (in_section Additional) (sets_of told.additionals)) h))
 placed_each P told Additional h =
     each_unmap P (in_section Additional) (sets_of told.additionals)
-    (each_back P (map (in_section Answer) (sets_of told.answers) ++ map (in_section Authority) (sets_of told.authorities)) (map (in_section Additional) (sets_of told.additionals)) h)
+    (each_back P (map (in_section Answer) (sets_of told.answers) ++ map (in_section Authority) (sets_of told.authorities))
+    (map (in_section Additional) (sets_of told.additionals)) h)
 
 pub proper_placed : (told : Told) → AllByRecursion (λ p. IsProper p.set) (placed_sets told)
 proper_placed told = each_placed (λ p. IsProper p.set) told (λ section. proper_sets (section_of told section))
@@ -205,7 +214,8 @@ pub begins : (section : List Rr) → AllByRecursion (BeginsIn section) (sets_of 
 unfolding sets_of
 begins section =
     each_map (BeginsIn section) (set_of section) (leaders (unsigned_part section))
-    (each_of (λ r. BeginsIn section (set_of section r)) (λ r. record { head = head-filter (same_set r) section }) (leaders (unsigned_part section)))
+    (each_of (λ r. BeginsIn section (set_of section r)) (λ r. record { head = head-filter (same_set r) section })
+    (leaders (unsigned_part section)))
 
 pub begins_placed : (told : Told) → AllByRecursion (λ p. BeginsIn (section_of told p.section) p.set) (placed_sets told)
 begins_placed told = each_placed (λ p. BeginsIn (section_of told p.section) p.set) told (λ section. begins (section_of told section))
@@ -251,7 +261,8 @@ across one two xs ys differ =
     each_map (λ q. same_place (in_section one x) q ≡ false) (in_section two) ys
     (each_of (λ y. same_place (in_section one x) (in_section two y) ≡ false) (λ y. ap (λ b. b && same_key x y) differ) ys)) xs)
 
-within : (section : Section) (xs : List RrSet) → section_eq section section ≡ true → Apart same_key xs → Apart same_place (map (in_section section) xs)
+within : (section : Section) (xs : List RrSet) → section_eq section section ≡ true → Apart same_key xs
+    → Apart same_place (map (in_section section) xs)
 within section xs same h =
     apart_map same_place (in_section section) xs
     (apart_agree same_key (λ x y. same_place (in_section section x) (in_section section y)) xs (λ x y. ap (λ b. b && same_key x y) same) h)
@@ -266,13 +277,15 @@ placed_apart told =
     (across Answer Additional (sets_of told.answers) (sets_of told.additionals) refl)
     (across Authority Additional (sets_of told.authorities) (sets_of told.additionals) refl))
     (apart_append same_place one two (across Answer Authority (sets_of told.answers) (sets_of told.authorities) refl)
-    (within Answer (sets_of told.answers) refl (sets_apart told.answers)) (within Authority (sets_of told.authorities) refl (sets_apart told.authorities)))
+    (within Answer (sets_of told.answers) refl (sets_apart told.answers))
+    (within Authority (sets_of told.authorities) refl (sets_apart told.authorities)))
     (within Additional (sets_of told.additionals) refl (sets_apart told.additionals))
 
 -- ---- each record in one set
 
 pub same_set_back : (a b : Rr) → same_set a b ≡ same_set b a
-same_set_back a b = ap (λ x. x && (a.rtype == b.rtype)) (name_equiv.symm a.owner b.owner) ∙ ap (λ x. name_eq b.owner a.owner && x) (number_back a.rtype b.rtype)
+same_set_back a b = ap (λ x. x && (a.rtype == b.rtype)) (name_equiv.symm a.owner b.owner)
+    ∙ ap (λ x. name_eq b.owner a.owner && x) (number_back a.rtype b.rtype)
 
 left_out : (x r : Rr) → same_set x r ≡ true → (l : Rr) → not (same_set x l) ≡ true → same_set l r ≡ false
 left_out x r h l out =
@@ -281,7 +294,8 @@ left_out x r h l out =
     let not_both : same_set x l ≡ false = not-true (same_set x l) out in
     cc (both, not_both))
 
-kept_step : (r x : Rr) (b : Bool) (ls ks : List Rr) → (b ≡ false → same_set x r ≡ false) → filter (λ l. same_set l r) ks ≡ filter (λ l. same_set l r) ls
+kept_step : (r x : Rr) (b : Bool) (ls ks : List Rr) → (b ≡ false → same_set x r ≡ false)
+    → filter (λ l. same_set l r) ks ≡ filter (λ l. same_set l r) ls
     → filter (λ l. same_set l r) (cond b (x ∷ ks) ks) ≡ filter (λ l. same_set l r) (x ∷ ls)
 kept_step r x true ls ks out e = ap (λ ys. cond (same_set x r) (x ∷ ys) ys) e
 kept_step r x false ls ks out e = e ∙ sym (ap (λ b. cond b (x ∷ filter (λ l. same_set l r) ls) (filter (λ l. same_set l r) ls)) (out refl))
@@ -324,7 +338,8 @@ each_one_leader (x ∷ xs) = (
 )
 
 -- each record that isn't a signature is of exactly one set of its section
-pub each_one_set : (section : List Rr) → AllByRecursion (λ r. length (filter (λ set. is_of set r) (sets_of section)) ≡ 1) (unsigned_part section)
+pub each_one_set : (section : List Rr)
+    → AllByRecursion (λ r. length (filter (λ set. is_of set r) (sets_of section)) ≡ 1) (unsigned_part section)
 unfolding sets_of
 each_one_set section =
     let ls = leaders (unsigned_part section) in
@@ -375,7 +390,8 @@ leaders-map f k (r ∷ rs) =
 set_of-map : (f : Rr → Rr) → KeepsKey f → (section : List Rr) (r : Rr) → set_of (map f section) (f r) ≡ on_set f (set_of section r)
 set_of-map f k section r =
     let records : filter (same_set (f r)) (map f section) ≡ map f (filter (same_set r) section) =
-    filter-map (same_set (f r)) f section ∙ ap (map f) (filter_agree (λ s. same_set (f r) (f s)) (same_set r) (same_set-kept f k r) section) in
+    filter-map (same_set (f r)) f section
+    ∙ ap (map f) (filter_agree (λ s. same_set (f r) (f s)) (same_set r) (same_set-kept f k r) section) in
     let signatures : filter (covers (f r)) (map f section) ≡ map f (filter (covers r) section) =
     filter-map (covers (f r)) f section ∙ ap (map f) (filter_agree (λ s. covers (f r) (f s)) (covers r) (covers-kept f k r) section) in
     rw (records, signatures, k.owner r, k.rtype r, k.class r) refl
@@ -394,4 +410,5 @@ sets_of-map f k section =
 
 pub rdatas_of-map : (f : Rr → Rr) → KeepsKey f → (records : List Rr) → rdatas_of (map f records) ≡ rdatas_of records
 rdatas_of-map f k records =
-    map-map (λ r. r.rdata) f records ∙ map_agree (λ r. (f r).rdata) (λ r. r.rdata) records (each_of (λ r. (f r).rdata ≡ r.rdata) k.rdata records)
+    map-map (λ r. r.rdata) f records
+    ∙ map_agree (λ r. (f r).rdata) (λ r. r.rdata) records (each_of (λ r. (f r).rdata ≡ r.rdata) k.rdata records)

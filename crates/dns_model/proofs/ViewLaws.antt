@@ -47,7 +47,8 @@ sig_has_shape rdata =
     (signed_by rdata (name_in (drop 18 rdata)))
 
 -- a bitmap at the end
-tested : {X : Type 0} (b : Bool) (x : X) (p : Part) → is_some (if b then Some x else None) ≡ is_some (after_part (if b then Some (p, []) else None) (parts_in []))
+tested : {X : Type 0} (b : Bool) (x : X) (p : Part)
+    → is_some (if b then Some x else None) ≡ is_some (after_part (if b then Some (p, []) else None) (parts_in []))
 unfolding parts_in
 tested true x p = refl
 tested false x p = refl
@@ -56,7 +57,8 @@ listed_after : (n : Option (Labels × List ℕ)) → is_some (nsec_from n) ≡ i
 unfolding parts_in
 listed_after None = refl
 listed_after (Some (name, rest)) =
-    tested (is_bitmap rest) (record { next = name; types = rest }) (Plain rest) ∙ sym (with_part-keeps (Named name) (parts_in (TypeBitmap ∷ []) rest))
+    tested (is_bitmap rest) (record { next = name; types = rest }) (Plain rest)
+    ∙ sym (with_part-keeps (Named name) (parts_in (TypeBitmap ∷ []) rest))
 
 pub nsec_has_shape : (rdata : List ℕ) → is_some (nsec_in rdata) ≡ has_shape 47 rdata
 unfolding nsec_in parts_in shape_of
@@ -119,7 +121,8 @@ mailbox_after : (mname : Labels) (n : Option (Labels × List ℕ))
     → is_some (soa_after_mname mname n) ≡ is_some (after_part (named_front n) (parts_in (Octets 20 ∷ [])))
 unfolding parts_in
 mailbox_after mname None = refl
-mailbox_after mname (Some (rname, rest)) = twenty_after mname rname rest ∙ sym (with_part-keeps (Named rname) (parts_in (Octets 20 ∷ []) rest))
+mailbox_after mname (Some (rname, rest)) = twenty_after mname rname rest
+    ∙ sym (with_part-keeps (Named rname) (parts_in (Octets 20 ∷ []) rest))
 
 master_after : (n : Option (Labels × List ℕ))
     → is_some (soa_from n) ≡ is_some (after_part (named_front n) (parts_in (DomainName ∷ Octets 20 ∷ [])))

@@ -27,7 +27,8 @@ star_below label (next ∷ name) other good =
     cond_both (at_or_above (next ∷ name) other) (next ∷ name) (common_ancestor name other) (λ n. is_name (star n) ≡ true)
     (λ h. star_fits label (next ∷ name) good) (λ h. star_below next name other (is_name-above label (next ∷ name) good))
 
-pub star_of_common : (name other : Labels) → is_name name ≡ true → at_or_above name other ≡ false → is_name (star (common_ancestor name other)) ≡ true
+pub star_of_common : (name other : Labels) → is_name name ≡ true → at_or_above name other ≡ false
+    → is_name (star (common_ancestor name other)) ≡ true
 unfolding common_ancestor
 star_of_common [] other good differs = refl
 star_of_common (label ∷ name) other good differs =

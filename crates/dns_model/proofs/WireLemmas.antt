@@ -38,7 +38,8 @@ pub record IsLabelIn (bytes label rest : List ℕ) : Type 0 where
   pub small : length label ≤ 63
 
 label_in_parts : (size : ℕ) (bytes label rest : List ℕ) (fits : Bool) → fits ≡ (nat_le size 63 && nat_le size (length bytes))
-    → cond {A = Option (Label × List ℕ)} fits (Some (take size bytes, drop size bytes)) None ≡ Some (label, rest) → IsLabelIn (size ∷ bytes) label rest
+    → cond {A = Option (Label × List ℕ)} fits (Some (take size bytes, drop size bytes)) None ≡ Some (label, rest)
+    → IsLabelIn (size ∷ bytes) label rest
 label_in_parts size bytes label rest false is h = cc
 label_in_parts size bytes label rest true is h =
     let parts = and_parts (nat_le size 63) (nat_le size (length bytes)) (sym is) in
@@ -132,10 +133,12 @@ joined_inverse bytes c label after more name rest ih is one =
     let some : nat_lt 0 (length (c ∷ label)) ≡ true = grind (arith, nat_tests) in
     let small : nat_le (length (c ∷ label)) 63 ≡ true = grind (arith, nat_tests, stood.small) in
     let tail : after ≡ wire one.tail ++ rest = all.whole in
-    let assoc : (c ∷ label) ++ wire one.tail ++ rest ≡ (c ∷ label) ++ (wire one.tail ++ rest) = append_assoc (c ∷ label) (wire one.tail) rest in
+    let assoc : (c ∷ label) ++ wire one.tail ++ rest ≡ (c ∷ label) ++ (wire one.tail ++ rest) =
+    append_assoc (c ∷ label) (wire one.tail) rest in
     let written : wire name ≡ wire ((c ∷ label) ∷ one.tail) = ap wire one.is in
     record {
-      whole = stood.whole ∙ ap (λ (w : List ℕ). length (c ∷ label) ∷ ((c ∷ label) ++ w)) tail ∙ ap (λ (w : List ℕ). length (c ∷ label) ∷ w) (sym assoc) ∙ ap (λ (w : List ℕ). w ++ rest) (sym written);
+      whole = stood.whole ∙ ap (λ (w : List ℕ). length (c ∷ label) ∷ ((c ∷ label) ++ w)) tail
+          ∙ ap (λ (w : List ℕ). length (c ∷ label) ∷ w) (sym assoc) ∙ ap (λ (w : List ℕ). w ++ rest) (sym written);
       good = rw (one.is, some, small, all.good) refl;
     }
 
@@ -151,7 +154,8 @@ after_label_inverse bound bytes (Some ([], after)) name rest ih is h =
 after_label_inverse bound bytes (Some (c ∷ label, after)) name rest ih is h =
     joined_inverse bytes c label after _ name rest (ih after) is (with_front_label_inverse (c ∷ label) (labels_in bound after) name rest h)
 
-pub labels_in_inverse : (bound bytes : List ℕ) (name : Labels) (rest : List ℕ) → labels_in bound bytes ≡ Some (name, rest) → IsNameIn bytes name rest
+pub labels_in_inverse : (bound bytes : List ℕ) (name : Labels) (rest : List ℕ) → labels_in bound bytes ≡ Some (name, rest)
+    → IsNameIn bytes name rest
 unfolding labels_in
 labels_in_inverse [] bytes name rest h = cc
 labels_in_inverse (b ∷ bound) bytes name rest h =

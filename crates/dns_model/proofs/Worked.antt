@@ -170,35 +170,43 @@ abbrev pub chain_by : List ℕ → List LinkValue
 chain_by k = Anchored [] 1 k ∷ KeySet [] 1 (k ∷ []) (0 ∷ []) ∷ Signed [] 1 2 (name_a ∷ []) signature 1 k ∷ []
 
 pub justified_at_1000 : justified (judge verifier anchors 1000) (chain_by key) ≡ true
-unfolding links_hold link_holds all_shown rrsig_in dnskey_in name_in labels_in label_in tag_sum signed_bytes rising_once insert_once canonical_form is_lowered_type parts_in shape_of
+unfolding links_hold link_holds all_shown rrsig_in dnskey_in name_in labels_in label_in tag_sum signed_bytes rising_once
+    insert_once canonical_form is_lowered_type parts_in shape_of
 justified_at_1000 = refl
 
 pub justified_at_its_end : justified (judge verifier anchors 2000) (chain_by key) ≡ true
-unfolding links_hold link_holds all_shown rrsig_in dnskey_in name_in labels_in label_in tag_sum signed_bytes rising_once insert_once canonical_form is_lowered_type parts_in shape_of
+unfolding links_hold link_holds all_shown rrsig_in dnskey_in name_in labels_in label_in tag_sum signed_bytes rising_once
+    insert_once canonical_form is_lowered_type parts_in shape_of
 justified_at_its_end = refl
 
 pub not_justified_after_its_end : justified (judge verifier anchors 2001) (chain_by key) ≡ false
-unfolding links_hold link_holds all_shown rrsig_in dnskey_in name_in labels_in label_in tag_sum signed_bytes rising_once insert_once canonical_form is_lowered_type parts_in shape_of
+unfolding links_hold link_holds all_shown rrsig_in dnskey_in name_in labels_in label_in tag_sum signed_bytes rising_once
+    insert_once canonical_form is_lowered_type parts_in shape_of
 not_justified_after_its_end = refl
 
 pub not_justified_before_its_start : justified (judge verifier anchors 899) (chain_by key) ≡ false
-unfolding links_hold link_holds all_shown rrsig_in dnskey_in name_in labels_in label_in tag_sum signed_bytes rising_once insert_once canonical_form is_lowered_type parts_in shape_of
+unfolding links_hold link_holds all_shown rrsig_in dnskey_in name_in labels_in label_in tag_sum signed_bytes rising_once
+    insert_once canonical_form is_lowered_type parts_in shape_of
 not_justified_before_its_start = refl
 
 pub not_justified_by_another_key : justified (judge verifier anchors 1000) (chain_by other_key) ≡ false
-unfolding links_hold link_holds all_shown rrsig_in dnskey_in name_in labels_in label_in tag_sum signed_bytes rising_once insert_once canonical_form is_lowered_type parts_in shape_of
+unfolding links_hold link_holds all_shown rrsig_in dnskey_in name_in labels_in label_in tag_sum signed_bytes rising_once
+    insert_once canonical_form is_lowered_type parts_in shape_of
 not_justified_by_another_key = refl
 
 pub not_justified_by_a_revoked_key : justified (judge verifier anchors 1000) (chain_by revoked_key) ≡ false
-unfolding links_hold link_holds all_shown rrsig_in dnskey_in name_in labels_in label_in tag_sum signed_bytes rising_once insert_once canonical_form is_lowered_type parts_in shape_of
+unfolding links_hold link_holds all_shown rrsig_in dnskey_in name_in labels_in label_in tag_sum signed_bytes rising_once
+    insert_once canonical_form is_lowered_type parts_in shape_of
 not_justified_by_a_revoked_key = refl
 
 pub not_justified_without_an_anchor : justified (judge verifier [] 1000) (chain_by key) ≡ false
-unfolding links_hold link_holds all_shown rrsig_in dnskey_in name_in labels_in label_in tag_sum signed_bytes rising_once insert_once canonical_form is_lowered_type parts_in shape_of
+unfolding links_hold link_holds all_shown rrsig_in dnskey_in name_in labels_in label_in tag_sum signed_bytes rising_once
+    insert_once canonical_form is_lowered_type parts_in shape_of
 not_justified_without_an_anchor = refl
 
 pub accepted_at_any_time : accepted_alone verifier (chain_by key) ≡ true
-unfolding links_hold link_holds all_shown rrsig_in dnskey_in name_in labels_in label_in tag_sum signed_bytes rising_once insert_once canonical_form is_lowered_type parts_in shape_of
+unfolding links_hold link_holds all_shown rrsig_in dnskey_in name_in labels_in label_in tag_sum signed_bytes rising_once
+    insert_once canonical_form is_lowered_type parts_in shape_of
 accepted_at_any_time = refl
 
 pub no_links : justified (judge verifier anchors 1000) [] ≡ false
@@ -220,11 +228,15 @@ pub another_class : justified (judge verifier anchors 1000) (Anchored [] 1 key �
 unfolding links_hold link_holds all_shown dnskey_in
 another_class = refl
 
-pub no_rdata : justified (judge verifier anchors 1000) (Anchored [] 1 key ∷ KeySet [] 1 (key ∷ []) (0 ∷ []) ∷ Signed [] 1 2 [] signature 1 key ∷ []) ≡ false
-unfolding links_hold link_holds all_shown rrsig_in dnskey_in name_in labels_in label_in tag_sum signed_bytes rising_once insert_once canonical_form is_lowered_type parts_in shape_of
+pub no_rdata : justified (judge verifier anchors 1000)
+    (Anchored [] 1 key ∷ KeySet [] 1 (key ∷ []) (0 ∷ []) ∷ Signed [] 1 2 [] signature 1 key ∷ []) ≡ false
+unfolding links_hold link_holds all_shown rrsig_in dnskey_in name_in labels_in label_in tag_sum signed_bytes rising_once
+    insert_once canonical_form is_lowered_type parts_in shape_of
 no_rdata = refl
 
 -- an anchored key alone signs no other set than its own
-pub a_key_that_is_no_set : justified (judge verifier anchors 1000) (Anchored [] 1 key ∷ Signed [] 1 2 (name_a ∷ []) signature 0 key ∷ []) ≡ false
-unfolding links_hold link_holds all_shown rrsig_in dnskey_in name_in labels_in label_in tag_sum signed_bytes rising_once insert_once canonical_form is_lowered_type parts_in shape_of
+pub a_key_that_is_no_set : justified (judge verifier anchors 1000) (Anchored [] 1 key ∷ Signed [] 1 2 (name_a ∷ []) signature 0 key ∷ [])
+    ≡ false
+unfolding links_hold link_holds all_shown rrsig_in dnskey_in name_in labels_in label_in tag_sum signed_bytes rising_once
+    insert_once canonical_form is_lowered_type parts_in shape_of
 a_key_that_is_no_set = refl

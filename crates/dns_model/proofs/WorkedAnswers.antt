@@ -48,7 +48,8 @@ pub ends_at_no_other_class : ends_at (chain_by key) (record set_of_root { class 
 unfolding last_link
 ends_at_no_other_class = refl
 
-pub ends_at_no_longer_set : ends_at (chain_by key) (record set_of_root { records = record_of 2 1000 name_a Secure ∷ record_of 2 1000 name_a Secure ∷ [] }) ≡ false
+pub ends_at_no_longer_set : ends_at (chain_by key)
+    (record set_of_root { records = record_of 2 1000 name_a Secure ∷ record_of 2 1000 name_a Secure ∷ [] }) ≡ false
 unfolding last_link
 ends_at_no_longer_set = refl
 
@@ -135,7 +136,8 @@ unfolding sets_of leaders rrsig_in name_in labels_in label_in last_link
 not_with_two_ttls s = absurd (true≢false (sym (ap (λ n. n == 1000) (s.answers.1.0.secure refl).1)))
 
 pub not_without_a_chain :
-    Sound (judge verifier anchors 1000) 1000 told_records (answer_of (record_of 2 1000 name_a Secure ∷ record_of 46 1000 signature Secure ∷ []) []) → ⊥
+    Sound (judge verifier anchors 1000) 1000 told_records
+    (answer_of (record_of 2 1000 name_a Secure ∷ record_of 46 1000 signature Secure ∷ []) []) → ⊥
 unfolding sets_of leaders
 not_without_a_chain s = s.chains
 
@@ -166,13 +168,17 @@ not_with_another_rdata s = absurd (true≢false (sym (ap (bytes_eq name_a) s.ans
 
 -- a Bogus set keeps its ttl, and has no chain
 pub sound_bogus :
-    Sound (judge verifier anchors 2001) 2001 told_records (answer_of (record_of 2 3600 name_a Bogus ∷ record_of 46 3600 signature Indeterminate ∷ []) [])
+    Sound (judge verifier anchors 2001) 2001 told_records
+    (answer_of (record_of 2 3600 name_a Bogus ∷ record_of 46 3600 signature Indeterminate ∷ []) [])
 unfolding sets_of leaders rrsig_in name_in labels_in label_in
 sound_bogus = record {
   code = refl;
   answers = (
     record { owner = refl; rtype = refl; class = refl; rdata = refl; plain = λ no. refl; secure = λ yes. absurd (true≢false (sym yes)) },
-    (record { owner = refl; rtype = refl; class = refl; rdata = refl; plain = λ no. refl; secure = λ yes. absurd (true≢false (sym yes)) }, tt),
+    (
+      record { owner = refl; rtype = refl; class = refl; rdata = refl; plain = λ no. refl; secure = λ yes. absurd (true≢false (sym yes)) },
+      tt,
+    ),
   );
   authorities = tt;
   additionals = tt;
@@ -190,13 +196,15 @@ sound_bogus = record {
 -- the root's NS set with its signature told twice
 abbrev pub told_twice : Told
 told_twice = record told_records {
-  answers = record_of 2 3600 name_a Indeterminate ∷ record_of 46 3600 signature Indeterminate ∷ record_of 46 3600 signature Indeterminate ∷ [];
+  answers = record_of 2 3600 name_a Indeterminate ∷ record_of 46 3600 signature Indeterminate ∷ record_of 46 3600 signature
+      Indeterminate ∷ [];
 }
 
 -- the copy keeps its ttl and has no mark
 pub sound_with_a_copy :
     Sound (judge verifier anchors 1000) 1000 told_twice
-    (answer_of (record_of 2 1000 name_a Secure ∷ record_of 46 1000 signature Secure ∷ record_of 46 3600 signature Indeterminate ∷ []) (chain_by key ∷ []))
+    (answer_of (record_of 2 1000 name_a Secure ∷ record_of 46 1000 signature Secure ∷ record_of 46 3600 signature Indeterminate ∷ [])
+    (chain_by key ∷ []))
 unfolding sets_of leaders rrsig_in name_in labels_in label_in last_link
 sound_with_a_copy = record {
   code = refl;
@@ -210,8 +218,25 @@ sound_with_a_copy = record {
       secure = λ yes. (λ signs. absurd (true≢false (sym signs)), refl);
     },
     (
-      record { owner = refl; rtype = refl; class = refl; rdata = refl; plain = λ no. absurd (true≢false no); secure = λ yes. (λ signs. refl, refl) },
-      (record { owner = refl; rtype = refl; class = refl; rdata = refl; plain = λ no. refl; secure = λ yes. absurd (true≢false (sym yes)) }, tt),
+      record {
+        owner = refl;
+        rtype = refl;
+        class = refl;
+        rdata = refl;
+        plain = λ no. absurd (true≢false no);
+        secure = λ yes. (λ signs. refl, refl);
+      },
+      (
+        record {
+          owner = refl;
+          rtype = refl;
+          class = refl;
+          rdata = refl;
+          plain = λ no. refl;
+          secure = λ yes. absurd (true≢false (sym yes));
+        },
+        tt,
+      ),
     ),
   );
   authorities = tt;
@@ -227,7 +252,8 @@ sound_with_a_copy = record {
 
 pub not_with_a_secure_copy :
     Sound (judge verifier anchors 1000) 1000 told_twice
-    (answer_of (record_of 2 1000 name_a Secure ∷ record_of 46 1000 signature Secure ∷ record_of 46 1000 signature Secure ∷ []) (chain_by key ∷ [])) → ⊥
+    (answer_of (record_of 2 1000 name_a Secure ∷ record_of 46 1000 signature Secure ∷ record_of 46 1000 signature Secure ∷ [])
+    (chain_by key ∷ [])) → ⊥
 unfolding sets_of leaders rrsig_in name_in labels_in label_in
 not_with_a_secure_copy s =
     let two : 2 ≤ 1 = s.deciders_of_answers.0 in

@@ -21,13 +21,21 @@ lowered label = map to_ascii_lowercase label
 abbrev pub folded : Labels → Labels
 folded name = map lowered name
 
+-- the same labels, byte for byte
+abbrev pub labels_eq : Labels → Labels → Bool
+labels_eq = pointwise (pointwise nat_eq)
+
+-- label by label from the root, each as its bytes; a missing label sorts first
+abbrev pub labels_cmp : Labels → Labels → Ordering
+labels_cmp = on reverse (slice_cmp (slice_cmp nat_cmp))
+
 -- names compare with A to Z folded
 abbrev pub name_eq : Labels → Labels → Bool
-name_eq = on folded (pointwise (pointwise nat_eq))
+name_eq = on folded labels_eq
 
--- canonical order: label by label from the root, as lower-cased bytes; a missing label sorts first
+-- canonical order: that of the lower-cased labels
 abbrev pub name_cmp : Labels → Labels → Ordering
-name_cmp = on (λ n. reverse (folded n)) (slice_cmp (slice_cmp nat_cmp))
+name_cmp = on folded labels_cmp
 
 -- the first name comes before the second
 abbrev pub before : Labels → Labels → Bool

@@ -2,6 +2,7 @@
 use Rattle.std.proofs.Common.{inl, inr, ◌≡◌, ℕ, suc, ◌≤◌, ◌<◌, Bool, true, false, List, [], ◌∷◌, ◌++◌, length, drop, Option, None, Some, Result, Ok, Err, refl, sym, ap, ◌∙◌, arith, append-nil, ◌⊎◌}
 use Rattle.std.specs.Prelude.{nat_lt, nat_le, is_ok, slice_set, IsSome, if◌then◌else◌}
 use Rattle.std.proofs.lemmas.Bool.{false≢true}
+use Rattle.std.proofs.lemmas.Bool.Decides.{nat_tests}
 use Rattle.dns_model.specs.Records.{MessageValue}
 use Rattle.dns_message.specs.WrittenAs.{encoded, written}
 use Rattle.dns_message.specs.declared.encode_error.EncodeError.{EncodeError}
@@ -42,6 +43,22 @@ long-case m bytes false is = cc
 pub encoded_long : (m : MessageValue) (bytes : List ℕ) → encoded m ≡ Ok bytes → 2 ≤ length bytes
 unfolding encoded
 encoded_long m bytes is = long-case m bytes (nat_le (length (written m)) 65535) is
+
+short-case : (m : MessageValue) (bytes : List ℕ) (b : Bool) → nat_le (length (written m)) 65535 ≡ b
+    → (if b then Ok (written m) else Err encoding.TooLong) ≡ Ok bytes → length bytes ≤ 65535
+short-case m bytes true fits is =
+    let same : written m ≡ bytes = bytes-inj (written m) bytes is in
+    let short : length (written m) ≤ 65535 = grind (arith, nat_tests) in
+    omega (arith, short, ap (λ (xs : List ℕ). length xs) same)
+  where
+    bytes-inj : (xs ys : List ℕ) → encoded_as xs ≡ encoded_as ys → xs ≡ ys
+    bytes-inj xs ys h = cc
+short-case m bytes false fits is = cc
+
+-- and 65,535 at most
+pub encoded_short : (m : MessageValue) (bytes : List ℕ) → encoded m ≡ Ok bytes → length bytes ≤ 65535
+unfolding encoded
+encoded_short m bytes is = short-case m bytes (nat_le (length (written m)) 65535) refl is
 
 -- ---- a request under an id
 

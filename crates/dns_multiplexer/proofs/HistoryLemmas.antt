@@ -177,7 +177,8 @@ accepted-queue settings state (Some bytes) k is = queue-case (nat_lt settings.bu
 pub accepted-case : (settings : Settings) (state : State) (request : Option (List ℕ)) (drawn : List ℕ) (k : ℕ)
     (busy taken : Bool)
     → is_taken_id state.requests (last_drawn drawn) ≡ taken
-    → Ok k ≡ (if busy then Err Busy else if taken then Err (Message IdSpaceExhausted) else queue_reply settings state request) → Accepted settings state drawn k
+    → Ok k ≡ (if busy then Err Busy else if taken then Err (Message IdSpaceExhausted) else queue_reply settings state request)
+    → Accepted settings state drawn k
 accepted-case settings state request drawn k true taken is h = cc
 accepted-case settings state request drawn k false true is h = cc
 accepted-case settings state request drawn k false false is h = record
@@ -264,7 +265,9 @@ module _ (settings : Settings) (start : List SerialMessageValue) (before : List 
       let none : untaken before k (queued settings.timeout before k) ≡ [] = (rw fresh refl) ∙ empty in
       untaken-more settings.timeout k it before (agrees.taken k)
       ∙ ap (λ xs. drop 0 xs ++ gained settings.timeout k it before) none
-      ∙ nothing-gained (live settings.timeout before k && nat_lt (length (untaken before k (queued settings.timeout before k))) most_waiting) (brought (id_in (sending before k)) it) refl
+      ∙ nothing-gained (live settings.timeout before k
+      && nat_lt (length (untaken before k (queued settings.timeout before k))) most_waiting)
+      (brought (id_in (sending before k)) it) refl
 
   pub nothing-yet : waiting settings.timeout (it ∷ before) k ≡ []
   nothing-yet =
@@ -331,7 +334,8 @@ pub agrees-next : (settings : Settings) (start : List SerialMessageValue) (befor
     → Agrees settings start (e ∷ before) (after settings state e)
 agrees-next settings start before state (Send request moment drawn took (Ok k)) agrees answered =
     agrees-sent settings start before state agrees request moment drawn took k
-    (accepted-case settings state request drawn k (is_busy settings state) (is_taken_id state.requests (last_drawn drawn)) refl answered.2) answered
+    (accepted-case settings state request drawn k (is_busy settings state) (is_taken_id state.requests (last_drawn drawn))
+    refl answered.2) answered
 agrees-next settings start before state (Send request moment drawn took (Err error)) agrees
     answered = agrees-other settings start before state agrees (Send request moment drawn took (Err error)) refl
     answered

@@ -200,13 +200,15 @@ module _ (t number : ℕ) (e : Event) (before : List Event) where
       over = cancels_end t number s.moment s.later gone
 
       gone-case : (b : Bool) → (if b || true then [] else untaken (e ∷ before) number (queued t (e ∷ before) number))
-          ≡ (if b then [] else drop (one_if (has_taken number e)) (waiting t before number) ++ gain e (life_told t number (Some s)) (waiting t before number))
+          ≡ (if b then [] else drop (one_if (has_taken number e)) (waiting t before number)
+          ++ gain e (life_told t number (Some s)) (waiting t before number))
       gone-case true = refl
       gone-case false = rw (is, gone, over) (sym (drop-nothing (has_taken number e)))
   waits-sent s is false kept fits = kept-case (is_cancel_of number e)
     where
       kept-case : (b : Bool) → (if b || false then [] else untaken (e ∷ before) number (queued t (e ∷ before) number))
-          ≡ (if b then [] else drop (one_if (has_taken number e)) (waiting t before number) ++ gain e (life_told t number (Some s)) (waiting t before number))
+          ≡ (if b then [] else drop (one_if (has_taken number e)) (waiting t before number)
+          ++ gain e (life_told t number (Some s)) (waiting t before number))
       kept-case true = refl
       kept-case false =
           let there : waiting t before number ≡ untaken before number (queued t before number) = rw (is, kept) refl in

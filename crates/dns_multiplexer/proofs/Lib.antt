@@ -1,3 +1,4 @@
+pub mod BroughtLemmas
 pub mod CoreLemmas
 pub mod HistoryLemmas
 pub mod HistoryWordLemmas

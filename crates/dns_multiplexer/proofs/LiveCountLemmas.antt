@@ -150,7 +150,8 @@ module _ (g : Queues) (count id : ℕ) (holder : Holder) (es : List (ℕ × Hold
 
   pub one-more-live : live_count (requests_of more g count) ≡ live_count (requests_of less g count) + 1
   one-more-live =
-      ap live_count (changed-map (request_at less g) (request_at more g) revived holder.number count (λ n low. at-number n (cases_eq holder.number n)))
+      ap live_count (changed-map (request_at less g) (request_at more g) revived holder.number count
+      (λ n low. at-number n (cases_eq holder.number n)))
       ∙ live-changed holder.number revived (requests_of less g count) (request_at less g (0 + holder.number))
       (get-range (request_at less g) holder.number 0 count below)
       (ap (λ n. is_some (request_at less g n).life) (zero-add holder.number) ∙ less-life holder.number (g holder.number) queued) refl
@@ -160,7 +161,8 @@ module _ (g : Queues) (count id : ℕ) (holder : Holder) (es : List (ℕ × Hold
   tail-held i h (inr apart) is = more-other i apart ∙ is
 
 pub entries-live : (g : Queues) (count : ℕ) (es : List (ℕ × Holder)) → IsDistinct same_id (keys_of es)
-    → ((id : ℕ) (holder : Holder) → lookup (same_id id) es ≡ Some holder → (holder.number < count) × (id_of_queue (g holder.number) ≡ Some id))
+    → ((id : ℕ) (holder : Holder) → lookup (same_id id) es ≡ Some holder
+    → (holder.number < count) × (id_of_queue (g holder.number) ≡ Some id))
     → live_count (requests_of (λ i. lookup (same_id i) es) g count) ≡ length es
 entries-live g count [] distinct held = unlive (request_at (λ i. None) g) 0 count (λ n. empty-life n (g n))
   where

@@ -79,11 +79,21 @@ take-here t number (Some request) reply is = take-case request.waiting refl (is_
         → r ≡ first_or_end b request.waiting
         → Moved t number (Take number r) (Some request) (Some (without_first request))
     take-case [] none true r h = rw (h, none)
-        (record { life = same-life t number (Take number Pending) request.life (λ moment. refl); waiting = sym (gain-none (Take number Pending) request.life [] (λ id. refl)) })
+        (record {
+          life = same-life t number (Take number Pending) request.life (λ moment. refl);
+          waiting = sym (gain-none (Take number Pending) request.life [] (λ id. refl));
+        })
     take-case [] none false r h = rw (h, none)
-        (record { life = same-life t number (Take number Ended) request.life (λ moment. refl); waiting = sym (gain-none (Take number Ended) request.life [] (λ id. refl)) })
+        (record {
+          life = same-life t number (Take number Ended) request.life (λ moment. refl);
+          waiting = sym (gain-none (Take number Ended) request.life [] (λ id. refl));
+        })
     take-case (x ∷ xs) some b r h = rw (h, some)
-        (record { life = same-life t number (Take number (Item x)) request.life (λ moment. refl); waiting = rw (eq-eqb number number refl, gain-none (Take number (Item x)) request.life (x ∷ xs) (λ id. refl)) (sym (append-nil xs)) })
+        (record {
+          life = same-life t number (Take number (Item x)) request.life (λ moment. refl);
+          waiting = rw (eq-eqb number number refl, gain-none (Take number (Item x)) request.life (x ∷ xs) (λ id. refl))
+              (sym (append-nil xs));
+        })
 
 pub take-other : (t number k : ℕ) (old : Option Request) (reply : TakenValue) → (k ≡ number → ⊥)
     → Moved t number (Take k reply) old old
@@ -215,7 +225,8 @@ full-gain None items xs full = refl
 full-gain (Some life) items xs full = rw full refl
 
 module _ (t number : ℕ) (bytes : List ℕ) (requests : List Request)
-    (apart : (id m n : ℕ) → lives_under id (life_of (slice_get requests m)) ≡ true → lives_under id (life_of (slice_get requests n)) ≡ true → m ≡ n) where
+    (apart : (id m n : ℕ) → lives_under id (life_of (slice_get requests m)) ≡ true
+    → lives_under id (life_of (slice_get requests n)) ≡ true → m ≡ n) where
   -- nothing changes, and nothing is brought
   pub arrive-quiet : (reply : Arrival)
       → gain (Arrive bytes reply) (life_of (slice_get requests number)) (waiting_of (slice_get requests number)) ≡ []
@@ -229,7 +240,8 @@ module _ (t number : ℕ) (bytes : List ℕ) (requests : List Request)
       → gain (Arrive bytes reply) (life_of (slice_get requests number)) (waiting_of (slice_get requests number)) ≡ []
   passed-by message is k lives other reply =
       rw is (other-gain (life_of (slice_get requests number)) (waiting_of (slice_get requests number)) message
-      (false_from_ne_true (lives_under message.id (life_of (slice_get requests number))) (λ own. other (apart message.id k number lives own))))
+      (false_from_ne_true (lives_under message.id (life_of (slice_get requests number)))
+      (λ own. other (apart message.id k number lives own))))
 
   pub with-item-moved : (message : MessageValue) (reply : Arrival) → message_at bytes ≡ Ok message
       → (old : Option Request) → lives_under message.id (life_of old) ≡ true → has_room (waiting_of old) ≡ true
@@ -260,7 +272,8 @@ module _ (t number : ℕ) (bytes : List ℕ) (requests : List Request)
       (slice_get (after_arrival (Ok message) (reply_at requests p) requests) number)
   arrive-decoded message is None none =
       arrive-quiet Stranger
-      (rw is (other-gain (life_of (slice_get requests number)) (waiting_of (slice_get requests number)) message (unfound message.id 0 requests none number)))
+      (rw is (other-gain (life_of (slice_get requests number)) (waiting_of (slice_get requests number)) message
+      (unfound message.id 0 requests none number)))
   arrive-decoded message is (Some k) some =
       let found = found_at message.id k 0 requests some in
       let place : found.place ≡ k = omega (arith, found.at) in
@@ -274,7 +287,8 @@ module _ (t number : ℕ) (bytes : List ℕ) (requests : List Request)
       → Moved t number (Arrive bytes reply) (slice_get requests number)
       (slice_get (after_arrival read reply requests) number)
   arrive-moved outbound reply (Err error) is answered =
-      rw answered (arrive-quiet (Undecodable error) (nothing-gained (is_some (life_of (slice_get requests number)) && has_room (waiting_of (slice_get requests number))) _
+      rw answered (arrive-quiet (Undecodable error) (nothing-gained (is_some (life_of (slice_get requests number))
+      && has_room (waiting_of (slice_get requests number))) _
       (rw is (undecoded (option_map (λ l. l.id) (life_of (slice_get requests number))) error))))
   arrive-moved outbound reply (Ok message) is answered =
       rw (answered, position_is (has_id message.id) requests) (arrive-decoded message is _ refl)
@@ -295,7 +309,8 @@ moved-other settings state (Send request moment drawn took (Ok k)) number other 
 moved-other settings state (Send request moment drawn took (Err error)) number other nay apart answered =
     quiet settings.timeout number (Send request moment drawn took (Err error)) (slice_get state.requests number)
     (λ m. refl) refl refl
-    (gain-none (Send request moment drawn took (Err error)) (life_at state number) (waiting_of (slice_get state.requests number)) (λ id. refl))
+    (gain-none (Send request moment drawn took (Err error)) (life_at state number) (waiting_of (slice_get state.requests number))
+    (λ id. refl))
 moved-other settings state (Arrive bytes reply) number other nay apart answered =
     arrive-moved settings.timeout number bytes state.requests apart state.outbound reply (message_at bytes) refl
     answered
@@ -344,7 +359,8 @@ module _ (settings : Settings) (start : List SerialMessageValue) (before : List 
       moved.waiting
       ∙ ap (λ life. waits_after number e life (waiting_of (slice_get state.requests number))) (agrees.life number)
       ∙ ap (waits_after number e (life_told settings.timeout number (sending before number))) (agrees.waiting number)
-      ∙ sym (waits-later settings.timeout number e before (sending before number) other refl (unsent-waits (sending before number) refl) (agrees.taken number))
+      ∙ sym (waits-later settings.timeout number e before (sending before number) other refl
+      (unsent-waits (sending before number) refl) (agrees.taken number))
 
 -- which numbers were given out
 pub given-later : (e : Event) (s : Option Sending) → is_some (option_map (with_later e) s) ≡ is_some s

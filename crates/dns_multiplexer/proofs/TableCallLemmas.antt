@@ -57,7 +57,8 @@ pub unadded_table : (f new_f : Holders) (g new_g : Queues) (count : ℕ) → IsT
     → IsUnadded f g count new_f new_g → requests_of new_f new_g count ≡ requests_of f g count
 unadded_table f new_f g new_g count table unadded =
     map-range (request_at new_f new_g) (request_at f g) 0 count
-    (λ n low high. ap (request_in new_f n) (unadded_queue f new_f g new_g count n table unadded) ∙ same-request f new_f n unadded.held (g n))
+    (λ n low high. ap (request_in new_f n) (unadded_queue f new_f g new_g count n table unadded)
+    ∙ same-request f new_f n unadded.held (g n))
 
 -- ---- maps
 

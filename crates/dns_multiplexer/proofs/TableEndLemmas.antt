@@ -1,14 +1,16 @@
 -- Requests in two maps: one more comes, one ends, those end that are too old, and all end.
-use Rattle.std.proofs.Common.{[], inl, inr, zero-add, ◌≡◌, ℕ, ◌+◌, ◌<◌, Bool, true, false, cond, ◌∷◌, ◌++◌, map, Option, None, Some, refl, sym, ap, ◌∙◌, arith, if◌then◌else◌, ◌⊎◌}
+use Rattle.std.proofs.Common.{[], inl, inr, zero, suc, zero-add, ◌≡◌, ℕ, ◌+◌, ◌<◌, List, Bool, true, false, cond, ◌∷◌, ◌++◌, map, Option, None, Some, refl, sym, ap, ◌∙◌, arith, if◌then◌else◌, ◌⊎◌}
 use Rattle.std.specs.Prelude.{◌==◌, is_some, nat_lt}
+use Rattle.std.specs.List.{range_with_len}
 use Rattle.std.specs.Option.{option_map}
 use Rattle.std.proofs.lemmas.Bool.{eqb-false, eq-eqb, ne_eqb, cond-true, cond-false, cases_eq}
 use Rattle.std.proofs.lemmas.List.FromFn.{map-range_with_len_more}
 use Rattle.dns_handle.specs.declared.io_kind.IoKind.{IoKind}
 use Rattle.dns_multiplexer.specs.declared.request_table.Holder.{Holder}
 use Rattle.dns_multiplexer.specs.Messages.{failed_by}
-use Rattle.dns_multiplexer.specs.Machine.{has_room, changed_at, cancelled, ticked, still_living, closed, sent_under, is_taken_id}
-use Rattle.dns_multiplexer.specs.Tables.{ItemQueueValue, life_under, request_in, request_at, requests_of, id_of_queue, IsTable, QueueChanged, pushed, IsAdded, FailsAll, still_held}
+use Rattle.dns_multiplexer.specs.Brought.{closed_by, brought_by_close}
+use Rattle.dns_multiplexer.specs.Machine.{Request, has_room, changed_at, cancelled, ticked, still_living, closed, sent_under, is_taken_id}
+use Rattle.dns_multiplexer.specs.Tables.{ItemQueueValue, life_under, request_in, request_at, requests_of, events_in, id_of_queue, IsTable, QueueChanged, pushed, IsAdded, FailsAll, still_held}
 use Rattle.dns_multiplexer.proofs.ListLemmas.{map-range, changed-map, all_changed, alike_changed}
 use Rattle.dns_multiplexer.proofs.TableLemmas.{Holders, Queues, table_changed, pushed_id, none-holder, some-id, taken_id}
 
@@ -66,8 +68,12 @@ pub cancelled_is_table : (f new_f : Holders) (g new_g : Queues) (count number : 
     → ((n : ℕ) → new_g n ≡ (if number == n then None else g n)) → IsTable f g count → IsTable new_f new_g count
 cancelled_is_table f new_f g new_g count number held away queued table = record {
   held = λ id holder is.
-      let was = still-there f new_f number id holder (held id) is in
-      ((table.held id holder was).0, ap id_of_queue (queued holder.number ∙ cond-false (number == holder.number) None (g holder.number) (ne_eqb number holder.number (away id holder is))) ∙ (table.held id holder was).1);
+      let was = still-there f new_f number id holder (held id) is in (
+        (table.held id holder was).0,
+        ap id_of_queue (queued holder.number
+            ∙ cond-false (number == holder.number) None (g holder.number) (ne_eqb number holder.number (away id holder is)))
+            ∙ (table.held id holder was).1,
+      );
   known = λ n above. queued n ∙ ap (λ q. if number == n then None else q) (table.known n above)
       ∙ both-none (number == n);
 }
@@ -144,10 +150,17 @@ added_table f new_f g new_g count id holder table free number added =
     others : (n : ℕ) → n < count → request_at new_f new_g n ≡ request_at f g n
     others n below =
         ap (request_in new_f n)
-        (added.queued n ∙ cond-false (holder.number == n) _ (g n) (ne_eqb holder.number n (λ h. omega (arith, below, number, h)))) ∙ same-request n below (g n)
+        (added.queued n ∙ cond-false (holder.number == n) _ (g n) (ne_eqb holder.number n (λ h. omega (arith, below, number, h))))
+        ∙ same-request n below (g n)
 
     newest : request_at new_f new_g count ≡ sent_under id holder.moment
-    newest = rw (added.queued count, eq-eqb holder.number count number, added.held id, eq-eqb id id refl, eq-eqb holder.number count number) refl
+    newest = rw (
+      added.queued count,
+      eq-eqb holder.number count number,
+      added.held id,
+      eq-eqb id id refl,
+      eq-eqb holder.number count number,
+    ) refl
 
 pub added_is_table : (f new_f : Holders) (g new_g : Queues) (count id : ℕ) (holder : Holder)
     → IsTable f g count → holder.number ≡ count
@@ -167,20 +180,28 @@ added_is_table f new_f g new_g count id holder table number added = record {
     held-case i h (inl same) is =
         let it : holder ≡ h = holder-inj holder h
         (sym (added.held i ∙ cond-true (id == i) (Some holder) (f i) (eq-eqb id i same)) ∙ is) in
-        let at : h.number ≡ count = sym (ap (λ x. x.number) it) ∙ number in
-        (omega (arith, at), ap id_of_queue (added.queued h.number ∙ cond-true (holder.number == h.number) _ (g h.number) (eq-eqb holder.number h.number (ap (λ x. x.number) it))) ∙ ap Some same)
+        let at : h.number ≡ count = sym (ap (λ x. x.number) it) ∙ number in (
+          omega (arith, at),
+          ap id_of_queue (added.queued h.number
+              ∙ cond-true (holder.number == h.number) _ (g h.number) (eq-eqb holder.number h.number (ap (λ x. x.number) it)))
+              ∙ ap Some same,
+        )
     held-case i h (inr apart) is =
         let was : f i ≡ Some h = sym
         (added.held i ∙ cond-false (id == i) (Some holder) (f i) (ne_eqb id i apart)) ∙ is in
-        let old = table.held i h was in
-        (omega (arith, old.0), ap id_of_queue (added.queued h.number ∙ cond-false (holder.number == h.number) _ (g h.number) (ne_eqb holder.number h.number (λ e. omega (arith, old.0, number, e)))) ∙ old.1)
+        let old = table.held i h was in (
+          omega (arith, old.0),
+          ap id_of_queue (added.queued h.number
+              ∙ cond-false (holder.number == h.number) _ (g h.number)
+              (ne_eqb holder.number h.number (λ e. omega (arith, old.0, number, e)))) ∙ old.1,
+        )
 
 -- ---- all requests end
 
 -- the first holder is taken away, and its request gets the fault
-module _ (fault : IoKind) (f new_f : Holders) (g new_g : Queues) (id : ℕ) (holder : Holder) (is : f id ≡ Some holder)
+module _ (fault : IoKind) (event : ℕ) (f new_f : Holders) (g new_g : Queues) (id : ℕ) (holder : Holder) (is : f id ≡ Some holder)
     (held : (i : ℕ) → new_f i ≡ (if id == i then None else f i))
-    (pushes : QueueChanged g new_g holder.number (pushed (failed_by fault))) where
+    (pushes : QueueChanged g new_g holder.number (pushed (failed_by fault) event)) where
   -- lives of other requests under other ids stay
   pub fail-life : (i n : ℕ) → (holder.number ≡ n → ⊥) → (d : (id ≡ i) ⊎ (id ≡ i → ⊥))
       → life_under i n (new_f i) ≡ life_under i n (f i)
@@ -192,14 +213,14 @@ module _ (fault : IoKind) (f new_f : Holders) (g new_g : Queues) (id : ℕ) (hol
   fail-other n apart (Some q) = rw (fail-life q.id n apart (cases_eq id q.id)) refl
 
   pub here-case : (n : ℕ) → holder.number ≡ n → (q : ItemQueueValue) → q.id ≡ id → (b : Bool) → has_room q.items ≡ b
-      → closed fault (request_in new_f n (Some (pushed (failed_by fault) q))) ≡ closed fault (request_in f n (Some q))
+      → closed fault (request_in new_f n (Some (pushed (failed_by fault) event q))) ≡ closed fault (request_in f n (Some q))
   here-case n same q own true room = rw
       (room, own, held id, eq-eqb id id refl, is, eq-eqb holder.number n same, room) refl
   here-case n same q own false full = rw
       (full, own, held id, eq-eqb id id refl, is, eq-eqb holder.number n same, full) refl
 
   pub fail-here : (n : ℕ) → holder.number ≡ n → (q : Option ItemQueueValue) → id_of_queue q ≡ Some id
-      → closed fault (request_in new_f n (option_map (pushed (failed_by fault)) q)) ≡ closed fault (request_in f n q)
+      → closed fault (request_in new_f n (option_map (pushed (failed_by fault) event) q)) ≡ closed fault (request_in f n q)
   fail-here n same None known = cc
   fail-here n same (Some q) known = here-case n same q (some-id q.id id known) _ refl
 
@@ -207,17 +228,44 @@ module _ (fault : IoKind) (f new_f : Holders) (g new_g : Queues) (id : ℕ) (hol
       → closed fault (request_at new_f new_g n) ≡ closed fault (request_at f g n)
   fail-request count n table (inl same) =
       ap (λ q. closed fault (request_in new_f n q))
-      (pushes n ∙ cond-true (holder.number == n) (option_map (pushed (failed_by fault)) (g n)) (g n) (eq-eqb holder.number n same))
+      (pushes n ∙ cond-true (holder.number == n) (option_map (pushed (failed_by fault) event) (g n)) (g n) (eq-eqb holder.number n same))
       ∙ fail-here n same (g n) (ap (λ m. id_of_queue (g m)) (sym same) ∙ (table.held id holder is).1)
   fail-request count n table (inr apart) =
       ap (λ q. closed fault (request_in new_f n q))
-      (pushes n ∙ cond-false (holder.number == n) (option_map (pushed (failed_by fault)) (g n)) (g n) (ne_eqb holder.number n apart))
+      (pushes n ∙ cond-false (holder.number == n) (option_map (pushed (failed_by fault) event) (g n)) (g n) (ne_eqb holder.number n apart))
       ∙ ap (closed fault) (fail-other n apart (g n))
 
   pub fail-requests : (count : ℕ) → IsTable f g count
       → map (closed fault) (requests_of new_f new_g count) ≡ map (closed fault) (requests_of f g count)
   fail-requests count table = alike_changed (request_at new_f new_g) (request_at f g) (closed fault) count
       (λ n. fail-request count n table (cases_eq holder.number n))
+
+  -- the events are what they will be once all have ended
+  pub brought-case : (n : ℕ) → holder.number ≡ n → (q : ItemQueueValue) → q.id ≡ id → (b : Bool) → has_room q.items ≡ b
+      → closed_by event (request_in new_f n (Some (pushed (failed_by fault) event q))) (events_in (Some (pushed (failed_by fault) event q)))
+      ≡ closed_by event (request_in f n (Some q)) q.events
+  brought-case n same q own true room = rw
+      (room, own, held id, eq-eqb id id refl, is, eq-eqb holder.number n same) refl
+  brought-case n same q own false full = rw
+      (full, own, held id, eq-eqb id id refl, is, eq-eqb holder.number n same) refl
+
+  pub brought-here : (n : ℕ) → holder.number ≡ n → (q : Option ItemQueueValue) → id_of_queue q ≡ Some id
+      → closed_by event (request_in new_f n (option_map (pushed (failed_by fault) event) q))
+      (events_in (option_map (pushed (failed_by fault) event) q))
+      ≡ closed_by event (request_in f n q) (events_in q)
+  brought-here n same None known = cc
+  brought-here n same (Some q) known = brought-case n same q (some-id q.id id known) _ refl
+
+  pub fail-brought : (count n : ℕ) → IsTable f g count → (d : (holder.number ≡ n) ⊎ (holder.number ≡ n → ⊥))
+      → closed_by event (request_at new_f new_g n) (events_in (new_g n)) ≡ closed_by event (request_at f g n) (events_in (g n))
+  fail-brought count n table (inl same) =
+      ap (λ q. closed_by event (request_in new_f n q) (events_in q))
+      (pushes n ∙ cond-true (holder.number == n) (option_map (pushed (failed_by fault) event) (g n)) (g n) (eq-eqb holder.number n same))
+      ∙ brought-here n same (g n) (ap (λ m. id_of_queue (g m)) (sym same) ∙ (table.held id holder is).1)
+  fail-brought count n table (inr apart) =
+      ap (λ q. closed_by event (request_in new_f n q) (events_in q))
+      (pushes n ∙ cond-false (holder.number == n) (option_map (pushed (failed_by fault) event) (g n)) (g n) (ne_eqb holder.number n apart))
+      ∙ ap (λ r. closed_by event r (events_in (g n))) (fail-other n apart (g n))
 
   pub fail-held : (i : ℕ) (h : Holder) (d : (id ≡ i) ⊎ (id ≡ i → ⊥)) → new_f i ≡ Some h → f i ≡ Some h
   fail-held i h (inl same) has = absurd
@@ -226,28 +274,32 @@ module _ (fault : IoKind) (f new_f : Holders) (g new_g : Queues) (id : ℕ) (hol
 
   pub fail-table : (count : ℕ) → IsTable f g count → IsTable new_f new_g count
   fail-table count table =
-      let kept = table_changed f g new_g count holder.number (pushed (failed_by fault))
-      (pushed_id (failed_by fault)) pushes table in
+      let kept = table_changed f g new_g count holder.number (pushed (failed_by fault) event)
+      (pushed_id (failed_by fault) event) pushes table in
       record { held = λ i h has. kept.held i h (fail-held i h (cases_eq id i) has); known = kept.known }
 
 -- as far as it has come
-pub record Failing (fault : IoKind) (f : Holders) (g : Queues) (new_f : Holders) (new_g : Queues) : Type 0 where
+pub record Failing (fault : IoKind) (event : ℕ) (f : Holders) (g : Queues) (new_f : Holders) (new_g : Queues) : Type 0 where
   pub table : (count : ℕ) → IsTable f g count → IsTable new_f new_g count
   pub alike : (count : ℕ) → IsTable f g count
       → map (closed fault) (requests_of new_f new_g count) ≡ map (closed fault) (requests_of f g count)
+  pub brought : (count n : ℕ) → IsTable f g count
+      → closed_by event (request_at new_f new_g n) (events_in (new_g n)) ≡ closed_by event (request_at f g n) (events_in (g n))
 
-pub failing_none : (fault : IoKind) (f : Holders) (g : Queues) → Failing fault f g f g
-failing_none fault f g = record { table = λ count table. table; alike = λ count table. refl }
+pub failing_none : (fault : IoKind) (event : ℕ) (f : Holders) (g : Queues) → Failing fault event f g f g
+failing_none fault event f g = record { table = λ count table. table; alike = λ count table. refl; brought = λ count n table. refl }
 
-pub failing_more : (fault : IoKind) (f : Holders) (g : Queues) (mid_f new_f : Holders) (mid_g new_g : Queues)
-    (id : ℕ) (holder : Holder) → Failing fault f g mid_f mid_g
+pub failing_more : (fault : IoKind) (event : ℕ) (f : Holders) (g : Queues) (mid_f new_f : Holders) (mid_g new_g : Queues)
+    (id : ℕ) (holder : Holder) → Failing fault event f g mid_f mid_g
     → mid_f id ≡ Some holder → ((i : ℕ) → new_f i ≡ (if id == i then None else mid_f i))
-    → QueueChanged mid_g new_g holder.number (pushed (failed_by fault)) → Failing fault f g new_f new_g
-failing_more fault f g mid_f new_f mid_g new_g id holder failing is held pushes = record {
-  table = λ count table. fail-table fault mid_f new_f mid_g new_g id holder is held pushes count
+    → QueueChanged mid_g new_g holder.number (pushed (failed_by fault) event) → Failing fault event f g new_f new_g
+failing_more fault event f g mid_f new_f mid_g new_g id holder failing is held pushes = record {
+  table = λ count table. fail-table fault event mid_f new_f mid_g new_g id holder is held pushes count
       (failing.table count table);
-  alike = λ count table. fail-requests fault mid_f new_f mid_g new_g id holder is held pushes count
+  alike = λ count table. fail-requests fault event mid_f new_f mid_g new_g id holder is held pushes count
       (failing.table count table) ∙ failing.alike count table;
+  brought = λ count n table. fail-brought fault event mid_f new_f mid_g new_g id holder is held pushes count n
+      (failing.table count table) (cases_eq holder.number n) ∙ failing.brought count n table;
 }
 
 -- with no holder left, each request has ended
@@ -256,11 +308,27 @@ pub all-over : (fault : IoKind) (f : Holders) (n : ℕ) (q : Option ItemQueueVal
 all-over fault f n None none = refl
 all-over fault f n (Some q) none = rw (none q.id) refl
 
-pub failed_all : (fault : IoKind) (f : Holders) (g : Queues) (new_f : Holders) (new_g : Queues)
-    → Failing fault f g new_f new_g → ((i : ℕ) → new_f i ≡ None) → FailsAll fault f g new_f new_g
-failed_all fault f g new_f new_g failing none = record {
+pub brought-over : (event : ℕ) (f : Holders) (n : ℕ) (q : Option ItemQueueValue) → ((i : ℕ) → f i ≡ None)
+    → events_in q ≡ closed_by event (request_in f n q) (events_in q)
+brought-over event f n None none = refl
+brought-over event f n (Some q) none = rw (none q.id) refl
+
+pub closed-range : (event : ℕ) (F : ℕ → Request) (G : ℕ → List ℕ) (a c : ℕ)
+    → brought_by_close event (map F (range_with_len a c)) (map G (range_with_len a c))
+    ≡ map (λ n. closed_by event (F n) (G n)) (range_with_len a c)
+unfolding brought_by_close
+closed-range event F G a zero = refl
+closed-range event F G a (suc c) = ap (λ rest. closed_by event (F a) (G a) ∷ rest) (closed-range event F G (a + 1) c)
+
+pub failed_all : (fault : IoKind) (event : ℕ) (f : Holders) (g : Queues) (new_f : Holders) (new_g : Queues)
+    → Failing fault event f g new_f new_g → ((i : ℕ) → new_f i ≡ None) → FailsAll fault event f g new_f new_g
+failed_all fault event f g new_f new_g failing none = record {
   table = failing.table;
   closed = λ count table.
       all_changed (request_at new_f new_g) (request_at new_f new_g) (closed fault) count
       (λ n. all-over fault new_f n (new_g n) none) ∙ failing.alike count table;
+  brought = λ count table.
+      map-range (λ n. events_in (new_g n)) (λ n. closed_by event (request_at f g n) (events_in (g n))) 0 count
+      (λ n low high. brought-over event new_f n (new_g n) none ∙ failing.brought count n table)
+      ∙ sym (closed-range event (request_at f g) (λ n. events_in (g n)) 0 count);
 }

@@ -69,54 +69,59 @@ pub table_changed : (f : Holders) (g h : Queues) (count number : ℕ) (change : 
     → ((q : ItemQueueValue) → (change q).id ≡ q.id)
     → QueueChanged g h number change → IsTable f g count → IsTable f h count
 table_changed f g h count number change same changed table = record {
-  held = λ id holder is. ((table.held id holder is).0, ap id_of_queue (changed holder.number) ∙ kept-id change same (g holder.number) (number == holder.number) ∙ (table.held id holder is).1);
+  held = λ id holder is. (
+    (table.held id holder is).0,
+    ap id_of_queue (changed holder.number)
+        ∙ kept-id change same (g holder.number) (number == holder.number) ∙ (table.held id holder is).1,
+  );
   known = λ n above. changed n ∙ ap (λ q. if number == n then option_map change q else q) (table.known n above)
       ∙ none-changed change (number == n);
 }
 
 -- ---- an item is put behind the others, or the first is taken
 
-pub push-case : (item : Reply) (q : ItemQueueValue) (b : Bool) → has_room q.items ≡ b → (pushed item q).id ≡ q.id
-push-case item q true room = rw room refl
-push-case item q false room = rw room refl
+pub push-case : (item : Reply) (event : ℕ) (q : ItemQueueValue) (b : Bool) → has_room q.items ≡ b
+    → (pushed item event q).id ≡ q.id
+push-case item event q true room = rw room refl
+push-case item event q false room = rw room refl
 
-pub pushed_id : (item : Reply) (q : ItemQueueValue) → (pushed item q).id ≡ q.id
-pushed_id item q = push-case item q _ refl
+pub pushed_id : (item : Reply) (event : ℕ) (q : ItemQueueValue) → (pushed item event q).id ≡ q.id
+pushed_id item event q = push-case item event q _ refl
 
 -- an item that a queue takes waits for its request
-pub pushed_table : (f : Holders) (g h : Queues) (count number : ℕ) (item : Reply)
-    → QueueChanged g h number (pushed item) → takes_item (g number) ≡ true
+pub pushed_table : (f : Holders) (g h : Queues) (count number : ℕ) (item : Reply) (event : ℕ)
+    → QueueChanged g h number (pushed item event) → takes_item (g number) ≡ true
     → requests_of f h count ≡ changed_at number (with_item item) (requests_of f g count)
-pushed_table f g h count number item changed takes =
+pushed_table f g h count number item event changed takes =
     changed-map (request_at f g) (request_at f h) (with_item item) number count
     (λ n below. ap (request_in f n) (changed n) ∙ at-number n (number == n) refl)
   where
     at-queue : (n : ℕ) (q : Option ItemQueueValue) → takes_item q ≡ true
-        → request_in f n (option_map (pushed item) q) ≡ with_item item (request_in f n q)
+        → request_in f n (option_map (pushed item event) q) ≡ with_item item (request_in f n q)
     at-queue n None takes = cc
     at-queue n (Some q) takes = rw takes refl
 
     at-number : (n : ℕ) (b : Bool) → (number == n) ≡ b
-        → request_in f n (if b then option_map (pushed item) (g n) else g n) ≡ cond b
+        → request_in f n (if b then option_map (pushed item event) (g n) else g n) ≡ cond b
         (with_item item (request_at f g n)) (request_at f g n)
     at-number n true same = at-queue n (g n) (ap (λ m. takes_item (g m)) (sym (eqb-true number n same)) ∙ takes)
     at-number n false same = refl
 
 -- one that it doesn't take leaves all as they were
-pub unpushed_table : (f : Holders) (g h : Queues) (count number : ℕ) (item : Reply)
-    → QueueChanged g h number (pushed item) → takes_item (g number) ≡ false
+pub unpushed_table : (f : Holders) (g h : Queues) (count number : ℕ) (item : Reply) (event : ℕ)
+    → QueueChanged g h number (pushed item event) → takes_item (g number) ≡ false
     → requests_of f h count ≡ requests_of f g count
-unpushed_table f g h count number item changed full =
+unpushed_table f g h count number item event changed full =
     map-range (request_at f h) (request_at f g) 0 count
     (λ n low high. ap (request_in f n) (changed n) ∙ at-number n (number == n) refl)
   where
     at-queue : (n : ℕ) (q : Option ItemQueueValue) → takes_item q ≡ false
-        → request_in f n (option_map (pushed item) q) ≡ request_in f n q
+        → request_in f n (option_map (pushed item event) q) ≡ request_in f n q
     at-queue n None full = refl
     at-queue n (Some q) full = rw full refl
 
     at-number : (n : ℕ) (b : Bool) → (number == n) ≡ b
-        → request_in f n (if b then option_map (pushed item) (g n) else g n) ≡ request_at f g n
+        → request_in f n (if b then option_map (pushed item event) (g n) else g n) ≡ request_at f g n
     at-number n true same = at-queue n (g n) (ap (λ m. takes_item (g m)) (sym (eqb-true number n same)) ∙ full)
     at-number n false same = refl
 

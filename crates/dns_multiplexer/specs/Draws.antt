@@ -3,6 +3,7 @@ use Rattle.std.specs.Prelude.{ℕ, ◌≡◌, ◌⊎◌, ◌^◌, pos, Bool, tru
 use Rattle.std.specs.Result.{result_ok}
 use Rattle.rand_core.specs.Stream.{Stream, next_u32}
 use Rattle.rand.specs.Draw.{Gives, next_u16}
+use Rattle.rand.specs.contracts.rngs.StdRngSeedableRng.TheImpl as seeding
 use Rattle.rand.specs.Uniform.{DrawsBetween, canon}
 use Rattle.dns_handle.specs.Errors as seen
 use Rattle.dns_handle.specs.Errors.{ErrorValue}
@@ -17,6 +18,7 @@ use Rattle.dns_handle.specs.Requests.{RequestValue}
 use Rattle.dns_multiplexer.specs.declared.arrival.Arrival.{Arrival}
 use Rattle.dns_multiplexer.specs.declared.arrival.Arrival.TheVariants.{Undecodable}
 use Rattle.dns_multiplexer.specs.Messages.{SerialMessageValue, with_id}
+use Rattle.dns_multiplexer.specs.declared.draws.RandDraws.{RandDraws}
 use Rattle.dns_multiplexer.specs.Events.{Event, Send, Pop, last_drawn}
 use Rattle.dns_multiplexer.specs.Machine.{Settings, State, IsAnswered, after, are_drawn, queue_reply}
 
@@ -29,6 +31,10 @@ Drawn {R} draw from (id ∷ ids) to = (mid : R) × draw from id mid × Drawn dra
 pub record ListDrawsValue : Type 0 where
   pub ids : List ℕ
   pub ports : List ℕ
+
+-- the generator of a seed
+abbrev pub seeded_draws : ℕ → RandDraws
+seeded_draws seed = record { generator = seeding.ghosts.of_seed (seeding.ghosts.seed_of_u64 seed) }
 
 -- numbers in a list, of which the first is drawn next; none left gives the number in their place
 abbrev pub first_or : ℕ → List ℕ → ℕ
@@ -96,7 +102,7 @@ abbrev pub unreadable_by : {E : Type 0} → DecodeKind → DecodeError → Resul
 unreadable_by kinds.NoMemory error told = IsErr told
 unreadable_by _ error told = told ≡ Ok (Undecodable error)
 
--- bytes that are no message; want of memory says nothing of them
+-- bytes that are no message; where memory ran out that isn't known
 abbrev pub IsUnreadable : {E : Type 0} → DecodeError → Result Arrival E → Type 0
 IsUnreadable error told = unreadable_by error.kind error told
 

@@ -1,3 +1,4 @@
+-- What contracts of this crate name, by subject.
 pub mod Draws
 pub mod Events
 pub mod History
@@ -7,5 +8,6 @@ pub mod Messages
 pub mod Multiplexers
 pub mod Queues
 pub mod Runs
+pub mod Brought
 pub mod Tables
 pub mod Views

@@ -10,11 +10,23 @@ use Rattle.dns_multiplexer.specs.declared.request_table.Holder.{Holder}
 use Rattle.dns_multiplexer.specs.declared.arrival.Arrival.{Arrival}
 use Rattle.dns_multiplexer.specs.declared.arrival.Arrival.TheVariants.{Queued}
 use Rattle.dns_multiplexer.specs.Machine.{Life, Request, has_room, changed_at, with_item, closed}
+use Rattle.dns_multiplexer.specs.Brought.{with_event, brought_by_close}
 
--- the items that wait for a request, with its id
+-- an item, with the number of the event that brought it
+pub record BroughtValue : Type 0 where
+  pub item : Reply
+  pub event : ℕ
+
+-- the items that wait for a request, and the events that brought them, with its id
 pub record ItemQueueValue : Type 0 where
   pub id : ℕ
   pub items : List Reply
+  pub events : List ℕ
+
+-- the requests, and of each the events that brought what waits for it
+pub record TableValue : Type 0 where
+  pub requests : List Request
+  pub brought : List (List ℕ)
 
 -- the live request with an id, if it is the one of a number
 abbrev pub life_under : ℕ → ℕ → Option Holder → Option Life
@@ -34,6 +46,14 @@ request_at holders queues number = request_in holders number (queues number)
 -- the requests of two maps, in the order of their numbers
 abbrev pub requests_of : (ℕ → Option Holder) → (ℕ → Option ItemQueueValue) → ℕ → List Request
 requests_of holders queues count = map (request_at holders queues) (range_with_len 0 count)
+
+abbrev pub events_in : Option ItemQueueValue → List ℕ
+events_in None = []
+events_in (Some queue) = queue.events
+
+-- the events of each request, in the order of their numbers
+abbrev pub events_of : (ℕ → Option ItemQueueValue) → ℕ → List (List ℕ)
+events_of queues count = map (λ number. events_in (queues number)) (range_with_len 0 count)
 
 abbrev pub id_of_queue : Option ItemQueueValue → Option ℕ
 id_of_queue queue = option_map (λ q. q.id) queue
@@ -60,15 +80,20 @@ abbrev pub takes_item : Option ItemQueueValue → Bool
 takes_item None = false
 takes_item (Some queue) = has_room queue.items
 
-abbrev pub pushed : Reply → ItemQueueValue → ItemQueueValue
-pushed item queue = if has_room queue.items then record queue { items = queue.items ++ item ∷ [] } else queue
+abbrev pub pushed : Reply → ℕ → ItemQueueValue → ItemQueueValue
+pushed item event queue =
+    if has_room queue.items then record queue { items = queue.items ++ item ∷ []; events = with_event event queue.events } else queue
 
 abbrev pub first_item : Option ItemQueueValue → Option Reply
 first_item None = None
 first_item (Some queue) = slice_get queue.items 0
 
+abbrev pub first_event : Option ItemQueueValue → Option ℕ
+first_event None = None
+first_event (Some queue) = slice_get queue.events 0
+
 abbrev pub without_item : ItemQueueValue → ItemQueueValue
-without_item queue = record queue { items = drop 1 queue.items }
+without_item queue = record queue { items = drop 1 queue.items; events = drop 1 queue.events }
 
 -- a response that was queued waits for its request
 abbrev pub after_queued : Arrival → ResponseValue → List Request → List Request
@@ -79,7 +104,7 @@ after_queued _ response requests = requests
 pub record IsAdded (holders : ℕ → Option Holder) (queues : ℕ → Option ItemQueueValue) (id : ℕ) (holder : Holder)
     (new_holders : ℕ → Option Holder) (new_queues : ℕ → Option ItemQueueValue) : Type 0 where
   pub held : (i : ℕ) → new_holders i ≡ (if id == i then Some holder else holders i)
-  pub queued : (n : ℕ) → new_queues n ≡ (if holder.number == n then Some (record { id = id; items = [] }) else queues n)
+  pub queued : (n : ℕ) → new_queues n ≡ (if holder.number == n then Some (record { id = id; items = []; events = [] }) else queues n)
 
 -- nothing has changed, but that nothing waits under the number
 pub record IsUnadded (holders : ℕ → Option Holder) (queues : ℕ → Option ItemQueueValue) (number : ℕ)
@@ -89,8 +114,10 @@ pub record IsUnadded (holders : ℕ → Option Holder) (queues : ℕ → Option 
   pub gone : (new_queues number ≡ queues number) ⊎ (new_queues number ≡ None)
 
 -- no request is live any more, and each that was has the fault, where it had room
-pub record FailsAll (fault : IoKind) (holders : ℕ → Option Holder) (queues : ℕ → Option ItemQueueValue)
+pub record FailsAll (fault : IoKind) (event : ℕ) (holders : ℕ → Option Holder) (queues : ℕ → Option ItemQueueValue)
     (new_holders : ℕ → Option Holder) (new_queues : ℕ → Option ItemQueueValue) : Type 0 where
   pub table : (count : ℕ) → IsTable holders queues count → IsTable new_holders new_queues count
   pub closed : (count : ℕ) → IsTable holders queues count
       → requests_of new_holders new_queues count ≡ map (closed fault) (requests_of holders queues count)
+  pub brought : (count : ℕ) → IsTable holders queues count
+      → events_of new_queues count ≡ brought_by_close event (requests_of holders queues count) (events_of queues count)

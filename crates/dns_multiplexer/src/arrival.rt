@@ -1,3 +1,4 @@
+//! What becomes of bytes that came.
 use crate::RequestId;
 use dns_message::DecodeError;
 

@@ -1,3 +1,4 @@
+//! Generators of ids and ports.
 ghost use Rattle.std.specs.Prelude.{◌≡◌, ◌≤◌, ℕ, drop, All};
 ghost use Rattle.dns_multiplexer.specs.Draws.{IsPortDraw, first_or};
 

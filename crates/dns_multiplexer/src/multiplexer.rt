@@ -1,16 +1,20 @@
+//! `DnsMultiplexer`, a core with its generator of ids.
 ghost use Rattle.std.specs.Prelude.{◌≡◌};
 
-use crate::multiplexer_core::MultiplexerCore;
+use crate::multiplexer_core::{MultiplexerCore, encoded_request};
 use crate::stream_handle::{BufDnsStreamHandle, StreamReceiver};
 use crate::{Arrival, DnsRequestSender, Draws, RequestId, SerialMessage, Taken};
 use dns_handle::{DnsRequest, IoKind, NetError};
-use dns_name::NoMemory;
+use dns_record::{NoMemory, Octets};
 use std::alloc::Global;
 use std::net::SocketAddr;
 
+/// The number of each event, since nobody asks which event brought an item.
+const UNNUMBERED: u64 = 0;
+
 /// Sends many requests over one connection, and hands each response to its request by the id (RFC 1035, 4.1.1; RFC 7766,
 /// 6.2.1). It reads no socket and no clock: bytes that came are handed to `arrive`, what is to be sent is taken from
-/// `pop_outbound`, and `tick` tells the time.
+/// `pop_outbound`, and `tick` says what time it is.
 ///
 /// What waits for a request that ended is kept until it was taken, and its room until a `take` has answered `Ended`, or a
 /// `cancel`.
@@ -27,7 +31,22 @@ impl<R: Draws + Drop> DnsMultiplexer<R> {
     ghost use Rattle.dns_multiplexer.specs.Multiplexers.{machine_of, draws_of};
 
     /// No request yet; requests end after 5,000 milliseconds, and 32 are live at most. What waits in the queue already is
-    /// sent first. Messages go to the handle's address; the server is told again.
+    /// sent first. Messages go to the handle's address, whatever the server is.
+    ///
+    /// ```
+    /// fn first_message(
+    ///     alloc: Global,
+    ///     server: SocketAddr,
+    ///     request: &DnsRequest,
+    ///     now_ms: u64,
+    /// ) -> Result<Option<SerialMessage>, NetError> {
+    ///     let (handle, queue) = BufDnsStreamHandle::new(alloc, server);
+    ///     let draws = RandDraws::from_seed(now_ms);
+    ///     let mut multiplexer = DnsMultiplexer::new(alloc, server, handle, queue, draws);
+    ///     multiplexer.send_message(alloc, request, now_ms)?;
+    ///     Ok(multiplexer.pop_outbound())
+    /// }
+    /// ```
     pub fn new(
         alloc: Global,
         _server: SocketAddr,
@@ -64,8 +83,17 @@ impl<R: Draws + Drop> DnsMultiplexer<R> {
             ≡ record (machine_of self) { settings = with_maximum max (machine_of self).settings } }
         ensures draws { draws_of result ≡ draws_of self }
     {
-        self.core.set_maximum(max);
+        self.core.set_max_active_requests(max);
         self
+    }
+
+    /// The core and the generator by themselves, for those who keep them apart.
+    pub fn into_parts(self) -> (MultiplexerCore, R)
+        ensures core { result.0.machine ≡ machine_of self }
+        ensures draws { result.1 ≡ draws_of self }
+    {
+        let DnsMultiplexer { core, draws } = self;
+        (core, draws)
     }
 
     /// Takes the next message that is to be sent out of the queue. None exactly where none waits. It takes no memory.
@@ -92,7 +120,8 @@ impl<R: Draws + Drop> DnsRequestSender for DnsMultiplexer<R> {
         request: &DnsRequest,
         now_ms: u64,
     ) -> Result<RequestId, NetError> {
-        self.core.send(alloc, &mut self.draws, request, now_ms)
+        let encoded = encoded_request(request)?;
+        self.core.send(alloc, &mut self.draws, encoded, now_ms)
     }
 
     fn shutdown(&mut self) {
@@ -104,11 +133,13 @@ impl<R: Draws + Drop> DnsRequestSender for DnsMultiplexer<R> {
     }
 
     fn arrive(&mut self, alloc: Global, bytes: &[u8]) -> Result<Arrival, NoMemory> {
-        self.core.arrive(alloc, bytes)
+        let bytes = Octets::from_slice(alloc, bytes)?;
+        self.core.arrive(alloc, bytes, UNNUMBERED)
     }
 
     fn take(&mut self, id: RequestId) -> Taken {
-        self.core.take(id)
+        let (taken, _) = self.core.take(id);
+        taken
     }
 
     fn cancel(&mut self, id: RequestId) {
@@ -120,6 +151,6 @@ impl<R: Draws + Drop> DnsRequestSender for DnsMultiplexer<R> {
     }
 
     fn close(&mut self, fault: IoKind) {
-        self.core.close(fault);
+        self.core.close(fault, UNNUMBERED);
     }
 }

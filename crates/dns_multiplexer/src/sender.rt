@@ -1,3 +1,4 @@
+//! The trait of what sends many requests over one connection.
 ghost use Rattle.std.specs.Prelude.{◌≡◌, ◌<◌, ◌^◌, ℕ, List, [], false, true, length, IfOk, OnErr};
 ghost use Rattle.dns_multiplexer.specs.Views.{sent_of, taken_of};
 ghost use Rattle.dns_multiplexer.specs.Events.{Arrive, Take, Cancel, Tick, Close};
@@ -5,7 +6,7 @@ ghost use Rattle.dns_multiplexer.specs.Draws.{CoreValue, IsSend, Plays, request_
 
 use crate::{Arrival, RequestId, Taken};
 use dns_handle::{DnsRequest, IoKind, NetError};
-use dns_name::NoMemory;
+use dns_record::NoMemory;
 use std::alloc::Global;
 
 /// What sends many requests over one connection, and keeps for each what comes for it.
@@ -16,11 +17,11 @@ pub trait DnsRequestSender {
     /// The sender before some draws of ids, the ids, and the sender after.
     ghost drew: { Self → List ℕ → Self → Type 0 };
 
-    /// Sends a request at a moment, in milliseconds, under an id that no live request has. In this order: `Busy` exactly where
+    /// Sends a request at a time, in milliseconds, under an id that no live request has. In this order: `Busy` exactly where
     /// as many requests are live as may; that the id space is exhausted exactly where 100 ids that were drawn are all live
     /// requests'; `TooLong` exactly where the request has more than 65,535 bytes; that the queue is full exactly where one
-    /// more than its size waits. A refusal adds no request, and ids that were drawn stay drawn. Want of memory is free, and
-    /// comes after 2^64 - 1 accepted sends too.
+    /// more than its size waits. A refusal adds no request, and ids that were drawn stay drawn. Memory may run out, and
+    /// it is said to after 2^64 - 1 accepted sends too.
     fn send_message(
         &mut self,
         alloc: Global,
@@ -42,7 +43,21 @@ pub trait DnsRequestSender {
         ensures { result ≡ (machine self.now).is_shutdown };
 
     /// Hands bytes that came to the live request that has their id, whatever else they say (RFC 1035, 4.1.1). The only error
-    /// is want of memory, after which nothing has changed.
+    /// is that memory ran out, after which nothing has changed.
+    ///
+    /// ```
+    /// fn received<S: DnsRequestSender>(
+    ///     alloc: Global,
+    ///     sender: &mut S,
+    ///     id: RequestId,
+    ///     bytes: &[u8],
+    /// ) -> Result<Taken, NoMemory> {
+    ///     if bytes.len() <= 65_535 {
+    ///         sender.arrive(alloc, bytes)?;
+    ///     }
+    ///     Ok(sender.take(id))
+    /// }
+    /// ```
     fn arrive(&mut self, alloc: Global, bytes: &[u8]) -> Result<Arrival, NoMemory>
         requires { length bytes.now < 2 ^ 32 }
         ensures arrived { IfOk result (λ a. Plays (machine self.old).settings (machine self.old).state
@@ -65,7 +80,7 @@ pub trait DnsRequestSender {
         ensures kept { machine self.new ≡ record (machine self.old) { state = (machine self.new).state } }
         ensures draws { drew self.old [] self.new };
 
-    /// Ends each request that was sent the timeout before a moment, in milliseconds, or earlier; what waits for it stays. It
+    /// Ends each request that was sent the timeout before a time, in milliseconds, or earlier; what waits for it stays. It
     /// takes no memory.
     fn tick(&mut self, now_ms: u64)
         ensures ticked { Plays (machine self.old).settings (machine self.old).state

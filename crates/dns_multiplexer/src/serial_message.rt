@@ -1,4 +1,5 @@
-use dns_name::Octets;
+//! Messages on their way out.
+use dns_record::Octets;
 use std::marker::Model;
 use std::net::SocketAddr;
 

@@ -1,3 +1,4 @@
+//! Queues of messages that are to be sent (RFC 1035, 4.2.2).
 ghost use Rattle.std.specs.Prelude.{◌≡◌, ◌≢◌, ◌∷◌, ◌++◌, ℕ, List, [], length, drop, slice_get, nat_le, option_copied, OnOk, OnErr, IfErr};
 ghost use Rattle.dns_handle.specs.declared.error.NetError.TheVariants.{NoMemory};
 ghost use Rattle.std.specs.declared.net.socket_addr.SocketAddr.{SocketAddr};
@@ -59,7 +60,7 @@ impl StreamReceiver {
         let _ = self.messages.pop_back();
     }
 
-    /// Puts a message at the end.
+    // Puts a message at the end.
     fn put(&mut self, message: SerialMessage) -> Result<(), NetError>
         ensures ok { OnOk result (self.new ≡ self.old ++ message ∷ []) }
         ensures err { OnErr result (self.new ≡ self.old) }

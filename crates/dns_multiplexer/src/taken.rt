@@ -1,3 +1,4 @@
+//! What a request has for the one who sent it.
 use dns_handle::{DnsResponse, NetError};
 
 /// What a request has for the one who sent it.

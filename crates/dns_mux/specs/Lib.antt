@@ -1,3 +1,4 @@
+-- What contracts of this crate name, by subject.
 pub mod FirstAnswers
 pub mod Receivers
 pub mod RequestQueues

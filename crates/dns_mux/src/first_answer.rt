@@ -1,3 +1,4 @@
+//! The first item of a stream, as a future.
 ghost use Rattle.std.specs.Prelude.{◌≡◌, Some, None, IsSome, IfSome, IsSomeAnd};
 ghost use Rattle.futures.specs.Task.{Covers, Keeps};
 ghost use Rattle.futures.specs.Poll.{IfReady, OnPending};
@@ -11,6 +12,16 @@ use std::fmt;
 /// A stream of what comes for a request, as a future of what comes first.
 pub trait FirstAnswer: Stream<Item = Result<DnsResponse, NetError>> {
     /// The first item of the stream; what comes after it is dropped. A stream that ends without an item is `Timeout`.
+    ///
+    /// ```
+    /// fn poll_first(
+    ///     stream: DnsResponseStream,
+    ///     cx: &mut Context<'_>,
+    /// ) -> Poll<Result<DnsResponse, NetError>> {
+    ///     let mut first = stream.first_answer();
+    ///     first.poll(cx)
+    /// }
+    /// ```
     final fn first_answer(self) -> FirstAnswerFuture<Self>
     where
         Self: Sized,

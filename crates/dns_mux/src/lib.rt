@@ -10,8 +10,9 @@ mod response_stream;
 
 pub use dns_multiplexer::{
     Arrival, BufDnsStreamHandle, DnsMultiplexer, DnsRequestSender, DnsStreamHandle, Draws,
-    ListDraws, RandDraws, RequestId, SerialMessage, StreamReceiver, Taken, calls_are_events,
-    replies_are_what_histories_say, states_are_what_histories_say,
+    ListDraws, MultiplexerCore, RandDraws, RequestId, SerialMessage, StreamReceiver, Taken,
+    calls_are_events, encoded_request, replies_are_what_histories_say,
+    states_are_what_histories_say,
 };
 pub use first_answer::{FirstAnswer, FirstAnswerFuture};
 pub use request_queue::{BufDnsRequestStreamHandle, OneshotDnsRequest};

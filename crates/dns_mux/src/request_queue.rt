@@ -1,3 +1,4 @@
+//! Requests on their way from those who send to what sends for them.
 ghost use Rattle.std.specs.Prelude.{◌≡◌, [], slice_get, drop};
 
 use crate::DnsResponseReceiver;
@@ -45,6 +46,14 @@ impl BufDnsRequestStreamHandle {
     ghost use Rattle.dns_mux.specs.RequestQueues.{IsQueued};
 
     /// An empty queue, whose first request gets slot 0.
+    ///
+    /// ```
+    /// fn first_queued(alloc: Global, request: DnsRequest) -> Result<Option<u64>, NetError> {
+    ///     let mut queue = BufDnsRequestStreamHandle::new(alloc);
+    ///     queue.send(request)?;
+    ///     Ok(queue.pop().map(|first| first.slot))
+    /// }
+    /// ```
     pub fn new(alloc: Global) -> BufDnsRequestStreamHandle
         ensures { result ≡ record { waiting = []; slots = 0 } }
     {
@@ -55,17 +64,15 @@ impl BufDnsRequestStreamHandle {
     }
 
     /// Puts a request behind the others, and answers the receiver of its slot. `Busy` comes exactly where 33 wait; the only
-    /// other error is want of memory, which comes after 2^64 - 1 requests too. After an error the queue is as it was.
+    /// other error is `NoMemory`, which comes after 2^64 - 1 requests too. After an error the queue is as it was.
     pub fn send(&mut self, request: DnsRequest) -> Result<DnsResponseReceiver, NetError>
         ensures { IsQueued self.old request self.new result }
     {
         if self.requests.len() >= MOST_WAITING {
-            drop(request);
             return Err(NetError::Busy);
         }
         let slot = self.slots;
         let Some(slots) = slot.checked_add(1) else {
-            drop(request);
             return Err(NetError::NoMemory);
         };
         self.requests

@@ -1,3 +1,4 @@
+//! What a request that was put into a queue has come to.
 ghost use Rattle.std.specs.Prelude.{◌≡◌, ◌∷◌, [], ⊤, slice_get, drop, IfSome, OnSome};
 ghost use Rattle.futures.specs.Task.{Covers, Keeps};
 ghost use Rattle.futures.specs.Poll.{IfReady, OnPending};
@@ -9,7 +10,6 @@ use crate::DnsResponseStream;
 use dns_handle::{DnsResponse, NetError};
 use futures::Stream;
 use futures::task::{Context, Poll};
-use std::mem;
 
 /// What a request that was put into a queue has come to. A poll of it is pending, and asks to be polled again, until it is
 /// settled; then it polls the stream, or gives the error once and ends.
@@ -24,19 +24,17 @@ pub enum DnsResponseReceiver {
 }
 
 impl DnsResponseReceiver {
-    /// Tells what a request that waits has come to. What is settled already stays as it is.
+    /// Says what a request that waits has come to. What is settled already stays as it is.
     pub fn settle(&mut self, made: Result<DnsResponseStream, NetError>)
         ensures { self.new ≡ settled made self.old }
     {
-        let DnsResponseReceiver::Receiver(_) = self else {
-            drop(made);
+        if !matches!(self, DnsResponseReceiver::Receiver(_)) {
             return;
-        };
-        let settled = match made {
+        }
+        *self = match made {
             Ok(stream) => DnsResponseReceiver::Received(stream),
             Err(error) => DnsResponseReceiver::Err(Some(error)),
         };
-        drop(mem::replace(self, settled));
     }
 }
 

@@ -1,3 +1,4 @@
+//! What comes for a request, as a stream.
 ghost use Rattle.std.specs.Prelude.{◌≡◌, ◌∷◌, [], ⊤, slice_get, drop, map, option_map, None, IfSome, OnSome};
 ghost use Rattle.dns_handle.specs.Replies.{reply_of};
 ghost use Rattle.dns_mux.specs.Streams.{before_timeout, in_front, is_timeout, poll_of};
@@ -73,17 +74,14 @@ impl DnsResponseStream {
         }
     }
 
-    /// Takes the next item out.
+    // Takes the next item out.
     #[tactic(auto, using(crate::proofs::StreamLemmas::front_none, crate::proofs::StreamLemmas::front_over, crate::proofs::StreamLemmas::front_goes))]
     fn pop(&mut self) -> Option<Item>
         ensures first { option_map reply_of result ≡ slice_get self.old 0 }
         ensures rest { self.new ≡ drop 1 self.old }
     {
-        let Some(item) = next_of(&mut self.first, &mut self.rest) else {
-            return None;
-        };
+        let item = next_of(&mut self.first, &mut self.rest)?;
         if is_timeout(&item) {
-            drop(item);
             self.rest.clear();
             return None;
         }

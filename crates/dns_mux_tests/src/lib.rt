@@ -5,7 +5,11 @@
 #![tactic(auto)]
 
 #[cfg(test)]
+mod core_tests;
+#[cfg(test)]
 mod draw_tests;
+#[cfg(test)]
+mod example_tests;
 #[cfg(test)]
 mod heard;
 #[cfg(test)]

@@ -3,7 +3,7 @@ ghost use Rattle.std.specs.Prelude.{◌≡◌, ◌∷◌, []};
 use crate::heard::{Heard, heard_made};
 use crate::parts::{check, server};
 use dns_mux::{BufDnsStreamHandle, DnsStreamHandle, SerialMessage, StreamReceiver};
-use dns_name::Octets;
+use dns_record::Octets;
 use std::alloc::Global;
 use std::process::Abort;
 
@@ -26,9 +26,7 @@ fn sent(
     byte: u8,
 ) -> Heard {
     let sent = handle.send(queue, message(rt, alloc, byte));
-    let heard = heard_made(&sent);
-    drop(sent);
-    heard
+    heard_made(&sent)
 }
 
 fn byte_of(message: Option<&SerialMessage>) -> Option<u8> {
@@ -42,9 +40,7 @@ fn byte_of(message: Option<&SerialMessage>) -> Option<u8> {
 fn is_first(queue: &mut StreamReceiver, byte: u8) -> bool {
     let seen = byte_of(queue.peek());
     let first = queue.pop();
-    let held = seen == Some(byte) && byte_of(first.as_ref()) == Some(byte);
-    drop(first);
-    held
+    seen == Some(byte) && byte_of(first.as_ref()) == Some(byte)
 }
 
 /// Whether a queue takes the first messages of some, and refuses the others since it is full.
@@ -81,9 +77,7 @@ fn is_in_order(queue: &mut StreamReceiver, count: u8) -> bool {
 fn holds(rt: &impl Abort, alloc: Global, row: &(usize, u8, u8)) -> bool {
     let (mut handle, mut queue) = BufDnsStreamHandle::with_buffer_size(alloc, server(), row.0);
     let filled = is_filled(rt, alloc, &mut handle, &mut queue, row);
-    let held = filled && is_in_order(&mut queue, row.2);
-    drop(queue);
-    held
+    filled && is_in_order(&mut queue, row.2)
 }
 
 /// The size, how many are put in, how many are taken.

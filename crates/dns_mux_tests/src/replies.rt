@@ -3,8 +3,7 @@ use dns_evidence::Trail;
 use dns_handle::{DnsError, DnsResponse, IoKind, NetError, Notice};
 use dns_message::Message;
 use dns_model::Denial;
-use dns_name::Name;
-use dns_record::{DNSClass, Query, RecordType};
+use dns_record::{DNSClass, Name, Query, RecordType};
 use std::alloc::Global;
 use std::process::Abort;
 

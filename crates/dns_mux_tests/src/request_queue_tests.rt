@@ -14,24 +14,20 @@ enum Told {
 /// What the queue tells of one request more.
 fn send(alloc: Global, queue: &mut BufDnsRequestStreamHandle) -> Told {
     let sent = queue.send(query(alloc));
-    let told = match &sent {
+    match &sent {
         Ok(DnsResponseReceiver::Receiver(slot)) => Told::Slot(*slot),
         Err(NetError::Busy) => Told::Busy,
         _ => Told::Other,
-    };
-    drop(sent);
-    told
+    }
 }
 
 /// The slot of the request that waited longest, which leaves the queue.
 fn first_slot(queue: &mut BufDnsRequestStreamHandle) -> Option<u64> {
     let waiting = queue.pop();
-    let slot = match &waiting {
+    match &waiting {
         Some(first) => Some(first.slot),
         None => None,
-    };
-    drop(waiting);
-    slot
+    }
 }
 
 /// Whether so many requests get the first slots.
@@ -56,6 +52,5 @@ fn a_queue_takes_33_requests(rt: HostRuntime) {
     let alloc = rt.alloc();
     let mut queue = BufDnsRequestStreamHandle::new(alloc);
     let held = fills(alloc, &mut queue, 33) && is_full(alloc, &mut queue, 33);
-    drop(queue);
     check(&rt, "33 requests", held);
 }

@@ -129,9 +129,7 @@ fn request(rt: &impl Abort, alloc: Global) -> DnsRequest {
 /// What a send answers.
 fn send(rt: &impl Abort, alloc: Global, retry: &mut RetryDnsHandle<Recorded>) -> Said {
     let reply = retry.send(alloc, request(rt, alloc), 0);
-    let said = said_by(&reply);
-    drop(reply);
-    said
+    said_by(&reply)
 }
 
 /// Whether a send answers the row's last reply, and the next one what the client gives behind it.
@@ -139,16 +137,13 @@ fn is_sent(rt: &impl Abort, alloc: Global, row: &Row) -> bool {
     let mut retry = retrying(rt, alloc, row);
     let last = send(rt, alloc, &mut retry);
     let next = send(rt, alloc, &mut retry);
-    drop(retry);
     Some(last) == row.replies.last().copied() && next == NEXT
 }
 
 /// What a poll answers, if it does.
 fn poll_once(sending: &mut RetrySend<Recorded>, task: &MockTask) -> Option<Said> {
     let poll = task.poll(sending);
-    let said = said_in(&poll);
-    drop(poll);
-    said
+    said_in(&poll)
 }
 
 /// Whether so many polls answer nothing.
@@ -172,9 +167,7 @@ fn is_polled(sending: &mut RetrySend<Recorded>, row: &Row, task: &MockTask) -> b
 fn polls(rt: &impl Abort, alloc: Global, row: &Row, task: &MockTask) -> bool {
     let request = request(rt, alloc);
     let mut sending = retrying(rt, alloc, row).send_polled(alloc, request, 0);
-    let held = is_polled(&mut sending, row, task);
-    drop(sending);
-    held
+    is_polled(&mut sending, row, task)
 }
 
 impl Waiting for Row {

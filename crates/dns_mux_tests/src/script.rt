@@ -6,8 +6,7 @@ use dns_mux::{
     Arrival, BufDnsStreamHandle, DnsMultiplexer, DnsRequestSender, ListDraws, RequestId,
     SerialMessage, Taken,
 };
-use dns_name::{Name, Octets};
-use dns_record::{DNSClass, Rdata, Record, RecordType};
+use dns_record::{DNSClass, Name, Octets, Rdata, Record, RecordType};
 use std::alloc::Global;
 use std::process::Abort;
 
@@ -81,10 +80,7 @@ fn is_sent(
 ) -> bool {
     check(rt, "a multiplexer that isn't shut down", !mux.is_shutdown());
     let sent = mux.send_message(alloc, &request, now);
-    drop(request);
-    let held = is_told(&sent, told);
-    drop(sent);
-    held
+    is_told(&sent, told)
 }
 
 /// The id of a message, if there is one.
@@ -97,9 +93,7 @@ fn id_of(message: Option<&SerialMessage>) -> Option<u16> {
 
 fn is_popped(mux: &mut DnsMultiplexer<ListDraws>, id: Option<u16>) -> bool {
     let message = mux.pop_outbound();
-    let held = message.is_some() == id.is_some() && id_of(message.as_ref()) == id;
-    drop(message);
-    held
+    message.is_some() == id.is_some() && id_of(message.as_ref()) == id
 }
 
 fn heard_taken(taken: &Taken) -> Heard {
@@ -113,9 +107,7 @@ fn heard_taken(taken: &Taken) -> Heard {
 /// What waits for the request.
 fn taken(mux: &mut DnsMultiplexer<ListDraws>, number: u64) -> Heard {
     let taken = mux.take(RequestId(number));
-    let heard = heard_taken(&taken);
-    drop(taken);
-    heard
+    heard_taken(&taken)
 }
 
 /// Where bytes that come wait.
@@ -136,10 +128,7 @@ fn is_echoed(
     number: u64,
 ) -> bool {
     let message = mux.pop_outbound().expect(rt, "a message");
-    let held = arrived(rt, alloc, mux, message.bytes.as_slice())
-        == Arrival::Queued(RequestId(number));
-    drop(message);
-    held
+    arrived(rt, alloc, mux, message.bytes.as_slice()) == Arrival::Queued(RequestId(number))
 }
 
 fn plays(rt: &impl Abort, alloc: Global, mux: &mut DnsMultiplexer<ListDraws>, step: &Step) -> bool {
@@ -194,7 +183,5 @@ fn multiplexer(rt: &impl Abort, alloc: Global, script: &Script) -> DnsMultiplexe
 /// The first step that was answered otherwise, counted from 0; as many as there are where none was.
 pub(crate) fn steps_played(rt: &impl Abort, alloc: Global, script: &Script) -> usize {
     let mut mux = multiplexer(rt, alloc, script);
-    let played = steps_of(rt, alloc, &mut mux, script.steps);
-    drop(mux);
-    played
+    steps_of(rt, alloc, &mut mux, script.steps)
 }

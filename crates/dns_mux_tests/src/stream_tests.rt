@@ -133,9 +133,7 @@ fn settled(rt: &impl Abort, alloc: Global, made: &Made) -> Result<DnsResponseStr
 
 fn poll_once(receiver: &mut DnsResponseReceiver, task: &MockTask) -> Given {
     let poll = task.enter(|cx| receiver.poll_next(cx));
-    let given = came(&poll);
-    drop(poll);
-    given
+    came(&poll)
 }
 
 /// Whether polls of a receiver give these.
@@ -162,7 +160,6 @@ fn is_streamed(rt: &impl Abort, alloc: Global, row: &Row, task: &MockTask) -> bo
     let waits = gives(&mut receiver, &[Given::Pending, Given::Pending], task);
     receiver.settle(settled(rt, alloc, &row.made));
     let held = stays_settled(&mut receiver, row.polls, task);
-    drop(receiver);
     waits && held
 }
 
@@ -170,18 +167,13 @@ fn is_streamed(rt: &impl Abort, alloc: Global, row: &Row, task: &MockTask) -> bo
 fn first_twice(receiver: DnsResponseReceiver, task: &MockTask) -> [Option<Said>; 2] {
     let mut first = receiver.first_answer();
     let once = task.poll(&mut first);
-    let said = match &once {
+    match &once {
         Poll::Ready(answer) => {
             let again = task.poll(&mut first);
-            let said = [Some(said_by(answer)), said_in(&again)];
-            drop(again);
-            said
+            [Some(said_by(answer)), said_in(&again)]
         }
         Poll::Pending => [None, None],
-    };
-    drop(once);
-    drop(first);
-    said
+    }
 }
 
 fn is_answered(rt: &impl Abort, alloc: Global, row: &Row, task: &MockTask) -> bool {

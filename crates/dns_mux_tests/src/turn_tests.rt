@@ -132,9 +132,7 @@ fn faults_of(said: Said) -> u64 {
 
 /// The reply says this.
 fn is_reply(reply: Result<DnsResponse, NetError>, said: Said) -> bool {
-    let held = said_by(&reply) == said && faults_after(7, &reply) == faults_of(said);
-    drop(reply);
-    held
+    said_by(&reply) == said && faults_after(7, &reply) == faults_of(said)
 }
 
 /// Whether the question, when it is sent, is answered so.
@@ -183,9 +181,7 @@ fn handle(alloc: Global, by_turn: bool) -> Recorded {
 
 fn holds(rt: &impl Abort, alloc: Global, script: &Script) -> bool {
     let mut handle = handle(alloc, script.0);
-    let held = all_go(rt, alloc, &mut handle, script.1);
-    drop(handle);
-    held
+    all_go(rt, alloc, &mut handle, script.1)
 }
 
 #[test]

@@ -31,5 +31,4 @@ pub(crate) fn check_waiting<W: Waiting>(
     for row in rows {
         check(rt, row.0, row.1.holds(rt, rt.alloc(), &task));
     }
-    drop(task);
 }

@@ -1,5 +1,5 @@
 //! Handles under the names that a caller looks for: errors, requests, responses with their chains and trails, handles, and
-//! `Recorded`, a handle that tells its replies; `RetryDnsHandle`, which sends again after an error; whether a verifier accepts a
+//! `Recorded`, a handle whose replies are known beforehand; `RetryDnsHandle`, which sends again after an error; whether a verifier accepts a
 //! chain by itself; and what a caller needs to name beside them.
 #![tactic(auto)]
 
@@ -14,7 +14,8 @@ pub use dns_handle::{
 };
 pub use dns_message::{DecodeError, DecodeKind, Edns, Message};
 pub use dns_model::{Answered, AskRef, Denial, MarkOrigin, Proof, Section};
-pub use dns_name::{Name, NoMemory, Octets};
-pub use dns_record::{DNSClass, OpCode, Query, Record, RecordSet, RecordType, ResponseCode};
+pub use dns_record::{
+    DNSClass, Name, NoMemory, Octets, OpCode, Query, Record, RecordSet, RecordType, ResponseCode,
+};
 pub use dns_recorded::Recorded;
 pub use dns_retry::{RetryDnsHandle, RetrySend};

@@ -11,13 +11,14 @@ use Rattle.dns_rules.specs.MarkedSets.{MarkedSet}
 use Rattle.dns_rules.specs.ChainedSets.{ChainedSet, bare}
 use Rattle.dns_rules.specs.Delegations.{is_insecure}
 use Rattle.dns_rules.specs.Marking.{is_about}
-use Rattle.dns_grouping.specs.declared.set_places.SetPlaces.{SetPlaces}
-use Rattle.dns_grouping.specs.SetPlaces.{place_of, is_placed, ArePlacedIn}
-use Rattle.dns_grouping.proofs.PlaceLemmas.{is_absent}
+use Rattle.dns_outcome.specs.declared.set_places.SetPlaces.{SetPlaces}
+use Rattle.dns_outcome.specs.SetPlaces.{place_of, is_placed, ArePlacedIn}
+use Rattle.dns_outcome.proofs.PlaceLemmas.{is_absent}
 use Rattle.dns_rules.proofs.BareLemmas.{bare_at}
-use Rattle.dns_grouping.proofs.MarkSteps.{set_at}
+use Rattle.dns_outcome.proofs.MarkSteps.{set_at}
 
-pub place_within : (p : SetPlaces) (section : Section) (sets : List ChainedSet) (owner : Labels) (rtype n : ℕ) → ArePlacedIn p section (bare sets)
+pub place_within : (p : SetPlaces) (section : Section) (sets : List ChainedSet) (owner : Labels) (rtype n : ℕ)
+    → ArePlacedIn p section (bare sets)
     → Some n ≡ place_of p owner rtype → n < length sets
 place_within p section sets owner rtype n are is =
     subst (λ m. n < m) (length-map sets (λ c. c.judged)) (set_at p section (bare sets) owner rtype n are is).within
@@ -25,7 +26,8 @@ place_within p section sets owner rtype n are is =
 abbrev is_insecure_found : Option MarkedSet → Bool
 is_insecure_found found = option_map_or (λ judged. is_insecure judged.mark) found false
 
-pub insecure_at : (p : SetPlaces) (section : Section) (sets : List ChainedSet) (r : Rr) (n : ℕ) (x : ChainedSet) → ArePlacedIn p section (bare sets)
+pub insecure_at : (p : SetPlaces) (section : Section) (sets : List ChainedSet) (r : Rr) (n : ℕ) (x : ChainedSet)
+    → ArePlacedIn p section (bare sets)
     → Some n ≡ place_of p r.owner (set_rtype r) → x ≡ get_or sets n x
     → is_insecure x.judged.mark ≡ option_map_or (λ judged. is_insecure judged.mark) (find (is_about section r) (bare sets)) false
 insecure_at p section sets r n x are is read =
@@ -37,4 +39,5 @@ pub insecure_none : (p : SetPlaces) (section : Section) (sets : List ChainedSet)
     → None ≡ place_of p r.owner (set_rtype r)
     → false ≡ option_map_or (λ judged. is_insecure judged.mark) (find (is_about section r) (bare sets)) false
 insecure_none p section sets r are is =
-    ap is_insecure_found (sym (is_absent (is_placed section r.owner (set_rtype r)) (bare sets) (sym (are.each r.owner (set_rtype r)) ∙ sym is)).missing)
+    ap is_insecure_found (sym (is_absent (is_placed section r.owner (set_rtype r)) (bare sets) (sym (are.each r.owner (set_rtype r))
+    ∙ sym is)).missing)

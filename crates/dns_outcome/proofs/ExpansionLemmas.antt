@@ -30,11 +30,13 @@ read_step : (ns : List ℕ) (o : Option ℕ) → least (ns ++ cons_option o []) 
 read_step ns None = ap least (append-nil ns) ∙ none_fewer (least ns)
 read_step ns (Some n) = least-push ns n
 
-one_step : (ns : List ℕ) (x : MarkedSet) (b : Bool) → least (ns ++ filter_map decider_labels (cond b (x ∷ []) [])) ≡ fewer (least ns) (cond b (decider_labels x) None)
+one_step : (ns : List ℕ) (x : MarkedSet) (b : Bool)
+    → least (ns ++ filter_map decider_labels (cond b (x ∷ []) [])) ≡ fewer (least ns) (cond b (decider_labels x) None)
 one_step ns x true = read_step ns (decider_labels x)
 one_step ns x false = read_step ns None
 
-pub fewest-push : (q : Question) (sets : List MarkedSet) (x : MarkedSet) → fewest q (sets ++ x ∷ []) ≡ fewer (fewest q sets) (expanded_labels q x)
+pub fewest-push : (q : Question) (sets : List MarkedSet) (x : MarkedSet)
+    → fewest q (sets ++ x ∷ []) ≡ fewer (fewest q sets) (expanded_labels q x)
 fewest-push q sets x =
     let p = is_expanded_for q in
     ap (λ l. least (filter_map decider_labels l)) (filter-append p sets (x ∷ []))

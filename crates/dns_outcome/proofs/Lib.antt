@@ -1,3 +1,11 @@
+pub mod Positions
+pub mod KeyLemmas
+pub mod PlaceLemmas
+pub mod Joining
+pub mod Signing
+pub mod JoinSteps
+pub mod DepthLemmas
+pub mod MarkSteps
 pub mod ExpansionLemmas
 pub mod AuthorityLemmas
 pub mod OutcomeLemmas

@@ -14,7 +14,7 @@ use dns_model::{Answered, Proof, Section};
 use dns_rdata::Rrsig;
 use dns_record::{Query, Record, RecordType};
 
-/// Whether a record at the query name has the query's type, or is a CNAME.
+/// Whether some record answers the query.
 pub(crate) fn has_answer(query: &Query, answers: &[Record]) -> bool
     ensures { result ≡ list_any (answers_asked query.now) answers.now }
 {
@@ -26,6 +26,7 @@ pub(crate) fn has_answer(query: &Query, answers: &[Record]) -> bool
     false
 }
 
+// Whether a record at the query name has the query's type, or is a CNAME.
 fn answers_query(query: &Query, found: &Record) -> bool
     ensures { result ≡ answers_asked query.now found.now }
 {
@@ -96,6 +97,7 @@ pub(crate) fn answered(query: &Query, message: &Message, sets: &[ChainedSet]) ->
     }
 }
 
+// The answer is an expansion where a number of labels is given.
 fn answered_from(labels: Option<u8>) -> Answered
     ensures { result ≡ answered_from_in labels }
 {
@@ -147,6 +149,7 @@ fn is_expanded_for(query: &Query, set: &MarkedSet) -> bool
         && (record_type == query.query_type || record_type == RecordType::CNAME)
 }
 
+// How many labels the signature that decided has.
 fn decider_labels(set: &MarkedSet) -> Option<u8>
     ensures { result ≡ labels_of_decider set.now }
 {

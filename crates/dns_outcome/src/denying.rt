@@ -13,8 +13,7 @@ use dns_denying::{nsec_denials, nsec3_denials, one_signer};
 use dns_evidence::{ChainedSet, Limits};
 use dns_message::Message;
 use dns_model::{Answered, Denial, Proof};
-use dns_name::NoMemory;
-use dns_record::{Query, RecordType};
+use dns_record::{NoMemory, Query, RecordType};
 use std::alloc::Global;
 
 /// How a step ends by the NSEC records that deny existence: they are to be made by one zone, and prove what is denied.
@@ -61,6 +60,7 @@ pub(crate) fn outcome_by_hashed_denials(
     Ok(outcome_by_nsec_verdict(how, proof))
 }
 
+// How a step ends by the verdict on its records: only a Secure one gives the answer.
 fn outcome_by_nsec_verdict(how: Answered, proof: Proof) -> Outcome
     ensures { outcome_value result ≡ told_by_verdict how proof }
 {
@@ -71,6 +71,7 @@ fn outcome_by_nsec_verdict(how: Answered, proof: Proof) -> Outcome
     }
 }
 
+// What a Secure verdict says of the answer.
 fn secure_denial(how: Answered) -> Denial
     ensures { result ≡ denial_of how }
 {

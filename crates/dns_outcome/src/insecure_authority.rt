@@ -9,14 +9,13 @@ ghost use Rattle.dns_rules.specs.ChainedSets.{bare};
 ghost use Rattle.dns_rules.specs.Delegations.{is_insecure as is_insecure_mark};
 ghost use Rattle.dns_rules.specs.Marking.{is_about};
 ghost use Rattle.dns_rules.specs.Outcome.{is_insecure_record as is_insecure_record_in, is_insecure_authority as is_told_insecure};
-ghost use Rattle.dns_grouping.specs.SetPlaces.{ArePlacedIn};
+ghost use Rattle.dns_outcome.specs.SetPlaces.{ArePlacedIn};
 
+use crate::{SetPlaces, judged_places, set_rtype};
 use dns_evidence::ChainedSet;
-use dns_grouping::{SetPlaces, judged_places, set_rtype};
 use dns_message::Message;
 use dns_model::{Proof, Section};
-use dns_name::NoMemory;
-use dns_record::{Query, Record, RecordType};
+use dns_record::{NoMemory, Query, Record, RecordType};
 use std::alloc::Global;
 
 /// Whether there are records beside signatures, and each of them is Insecure with an owner at or above the name that is asked.
@@ -35,6 +34,7 @@ pub(crate) fn is_insecure_authority(
     Ok(are_insecure(query, &message.authorities, sets, &places))
 }
 
+// Whether a record is a signature.
 fn is_signature(found: &Record) -> bool
     ensures { result ≡ is_signature_record found.now }
 {
@@ -94,6 +94,7 @@ fn is_insecure_set(sets: &[ChainedSet], places: &SetPlaces, found: &Record) -> b
     }
 }
 
+// Whether a set is marked Insecure.
 fn is_insecure(set: &ChainedSet) -> bool
     ensures { result ≡ is_insecure_mark set.now.judged.mark }
 {

@@ -1,3 +1,4 @@
+//! What a judged step comes to: its answer, a denial, or the search for its zone (RFC 4035, 3.1.3, 4.3 and 5.4).
 ghost use Rattle.std.specs.Prelude.{◌≡◌, ◌==◌, ◌&&◌, not, IfOk};
 ghost use Rattle.std.specs.List.{find};
 ghost use Rattle.std.specs.Option.{option_copied};
@@ -15,8 +16,7 @@ use dns_denying::has_denying;
 use dns_evidence::{ChainedSet, Limits};
 use dns_message::Message;
 use dns_model::{Denial, Proof};
-use dns_name::NoMemory;
-use dns_record::{DNSClass, Query, Record, RecordType};
+use dns_record::{DNSClass, NoMemory, Query, Record, RecordType};
 use std::alloc::Global;
 
 /// How a judged step ends.
@@ -32,7 +32,7 @@ pub enum Outcome {
 
 /// How a step ends whose sets are judged: the first case that holds decides (RFC 4035, 5.3.4 and 5.4; RFC 5155, 8). NSEC3 records
 /// are judged up to the soft limit of iterations.
-#[tactic(auto, using(dns_grouping::proofs::Joining::any_map), unfolding(dns_rules::specs::Outcome::outcome_of))]
+#[tactic(auto, using(crate::proofs::Joining::any_map), unfolding(dns_rules::specs::Outcome::outcome_of))]
 pub fn outcome_of(
     alloc: Global,
     limits: &Limits,
@@ -43,7 +43,7 @@ pub fn outcome_of(
     ensures { IfOk result (λ o. outcome_value o ≡ told_outcome limits.now query.now (told_by message.now) (bare sets.now)) }
 {
     let from_wildcard = has_wildcard_signature(&message.answers);
-    if is_excused(alloc, query, message, sets, from_wildcard)? {
+    if is_left_unsigned(alloc, query, message, sets, from_wildcard)? {
         return Ok(insecure_answer(query, message));
     }
     let by_hash = has_denying(RecordType::NSEC3, sets);
@@ -71,7 +71,7 @@ pub fn outcome_of(
 }
 
 // Whether the zone above the name is Insecure, and nothing is said to come from a wildcard (RFC 4035, 4.3).
-fn is_excused(
+fn is_left_unsigned(
     alloc: Global,
     query: &Query,
     message: &Message,
@@ -127,6 +127,7 @@ pub fn foreign_record<'a>(query: &Query, message: &'a Message) -> Option<&'a Rec
     first_foreign(class, &message.additionals)
 }
 
+// The first record whose class is another.
 fn first_foreign(class: DNSClass, records: &[Record]) -> Option<&Record>
     ensures { option_copied result ≡ find (λ r. not (r.class == class.0)) records.now }
 {

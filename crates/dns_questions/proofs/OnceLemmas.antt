@@ -6,7 +6,7 @@ use Rattle.std.proofs.lemmas.Bool.{cases_Bool}
 use Rattle.dns_model.specs.Keys.{AcceptedSignatureValue}
 use Rattle.dns_evidence.specs.Listing.{is_entry}
 use Rattle.dns_questions.specs.Questions.{each_once}
-use Rattle.dns_questions.specs.Asking.{then_once}
+use Rattle.dns_questions.specs.Gathering.{then_once}
 
 pub then_none : (all : List AcceptedSignatureValue) → then_once all [] ≡ all
 unfolding then_once each_once

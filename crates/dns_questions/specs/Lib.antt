@@ -1,3 +1,4 @@
+-- Definitions of the questions of a trail, and of their text.
 pub mod Questions
 pub mod QuestionsText
-pub mod Asking
+pub mod Gathering

@@ -3,14 +3,13 @@ ghost use Rattle.std.specs.Prelude.{◌≡◌, IfOk, OnOk};
 ghost use Rattle.std.specs.Option.{option_to_list};
 ghost use Rattle.dns_trust.specs.Delegating.{shown};
 ghost use Rattle.dns_trust.specs.SetSignatures.{IsRead, IsBuilt};
-ghost use Rattle.dns_questions.specs.Asking.{judge_by, then_once};
+ghost use Rattle.dns_questions.specs.Gathering.{judge_by, then_once};
 ghost use Rattle.dns_questions.specs.Questions.{passes, asked_of, question_of, with_keys};
 
-use crate::asking::Asking;
+use crate::question_list::QuestionList;
 use dns_evidence::{Asked, Listed};
-use dns_name::{NoMemory, Octets};
 use dns_rdata::Dnskey;
-use dns_record::Record;
+use dns_record::{NoMemory, Octets, Record};
 use dns_session::AcceptedSignature;
 use dns_trust::{SetSignature, is_usable, is_valid, may_be_signed, signed_data_once};
 use std::alloc::Global;
@@ -27,7 +26,7 @@ pub(crate) struct Context<'a> {
     pub steps: &'a [Asked],
 }
 
-/// All tests of a signature with a key but the verifier's pass.
+// All tests of a signature with a key but the verifier's pass.
 fn passes(
     context: &Context<'_>,
     signature: &SetSignature<'_>,
@@ -47,8 +46,8 @@ fn passes(
     is_usable(context.verifier, read)
 }
 
-/// What a verifier is asked of a signature with a key. The bytes that the signature is over are built for the first such key, and
-/// kept.
+// What a verifier is asked of a signature with a key. The bytes that the signature is over are built for the first such key, and
+// kept.
 fn asked_of(
     alloc: Global,
     signature: &SetSignature<'_>,
@@ -71,9 +70,9 @@ fn asked_of(
     Ok(question)
 }
 
-/// Adds the question of a signature with a key, where all tests but the verifier's pass.
+// Adds the question of a signature with a key, where all tests but the verifier's pass.
 fn add_with_key(
-    into: &mut Asking,
+    into: &mut QuestionList,
     context: &Context<'_>,
     signature: &SetSignature<'_>,
     key: &Record,
@@ -97,7 +96,7 @@ fn add_with_key(
 
 /// Adds the questions of a signature with each of some keys.
 pub(crate) fn add_with_keys(
-    into: &mut Asking,
+    into: &mut QuestionList,
     context: &Context<'_>,
     signature: &SetSignature<'_>,
     keys: &[Record],
@@ -117,7 +116,7 @@ pub(crate) fn add_with_keys(
 
 /// Adds the questions of a signature with each of the keys that count.
 pub(crate) fn add_with_counted(
-    into: &mut Asking,
+    into: &mut QuestionList,
     context: &Context<'_>,
     signature: &SetSignature<'_>,
     keys: &[&Record],

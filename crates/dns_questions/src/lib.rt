@@ -2,8 +2,8 @@
 //! `trail_questions` and `write_questions` as exactly the definitions of `specs/`.
 #![tactic(auto)]
 
-mod asking;
 mod keys;
+mod question_list;
 mod questions;
 mod sets;
 mod text;

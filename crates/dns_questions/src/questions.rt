@@ -3,50 +3,21 @@ ghost use Rattle.std.specs.Prelude.{◌≡◌, IfOk, OnOk, []};
 ghost use Rattle.std.specs.List.{flat_map};
 ghost use Rattle.dns_evidence.specs.Listing.{answers_of};
 ghost use Rattle.dns_model.specs.Chains.{judge};
-ghost use Rattle.dns_model.specs.SoundAnswers.{told_by};
-ghost use Rattle.dns_questions.specs.Asking.{judge_by, steps_of, then_once};
+ghost use Rattle.dns_questions.specs.Gathering.{judge_by, steps_of, then_once};
 ghost use Rattle.dns_questions.specs.Questions.{of_sets, of_step, questions};
 
-use crate::asking::Asking;
 use crate::keys::Context;
+use crate::question_list::QuestionList;
 use crate::sets::add_set;
-use dns_evidence::{Asked, JudgedSet, Listed, PlacedSet, Reply, Told, Trail};
-use dns_grouping::judged_part;
-use dns_message::Message;
-use dns_name::NoMemory;
-use dns_record::{OpCode, Query, clone_records};
+use dns_evidence::{Asked, JudgedSet, Listed, PlacedSet, Reply, Trail};
+use dns_outcome::{judged_part, told_message};
+use dns_record::{NoMemory, Query};
 use dns_session::AcceptedSignature;
 use std::alloc::Global;
 
-/// A message with the records that a reply told.
-fn message_of(alloc: Global, told: &Told) -> Result<Message, NoMemory>
-    ensures { IfOk result (λ m. told_by m ≡ told.now.0) }
-{
-    let answers = clone_records(&told.answers)?;
-    let authorities = clone_records(&told.authorities)?;
-    let additionals = clone_records(&told.additionals)?;
-    Ok(Message {
-        id: 0,
-        response: true,
-        op_code: OpCode(0),
-        authoritative: false,
-        truncated: false,
-        recursion_desired: false,
-        recursion_available: false,
-        authentic_data: false,
-        checking_disabled: false,
-        response_code: told.code,
-        queries: Vec::new(alloc),
-        answers,
-        authorities,
-        additionals,
-        edns: None,
-    })
-}
-
-/// Adds the questions of sets with their entries, as long as there are both.
+// Adds the questions of sets with their entries, as long as there are both.
 fn add_sets(
-    into: &mut Asking,
+    into: &mut QuestionList,
     context: &Context<'_>,
     query: &Query,
     placed: &[PlacedSet],
@@ -68,23 +39,21 @@ fn add_sets(
     Ok(())
 }
 
-/// Adds the questions of a step: of each of its sets that has an entry, in order.
+// Adds the questions of a step: of each of its sets that has an entry, in order.
 #[tactic(auto, using(crate::proofs::OnceLemmas::then_none))]
-fn add_step(into: &mut Asking, context: &Context<'_>, step: &Asked) -> Result<(), NoMemory>
+fn add_step(into: &mut QuestionList, context: &Context<'_>, step: &Asked) -> Result<(), NoMemory>
     ensures { OnOk result (into.new ≡ then_once into.old (of_step (judge_by context.now) (steps_of context.now) step.now)) }
 {
     let Reply::Told(told) = &step.reply else {
         return Ok(());
     };
-    let message = message_of(context.alloc, told)?;
-    let placed = judged_part(context.alloc, step.depth, &message);
-    drop(message);
-    let placed = placed?;
+    let message = told_message(context.alloc, told)?;
+    let placed = judged_part(context.alloc, step.depth, &message)?;
     add_sets(into, context, &step.query, &placed, &step.sets)
 }
 
-/// Adds the questions of all steps, in order.
-fn add_steps(into: &mut Asking, context: &Context<'_>) -> Result<(), NoMemory>
+// Adds the questions of all steps, in order.
+fn add_steps(into: &mut QuestionList, context: &Context<'_>) -> Result<(), NoMemory>
     ensures { OnOk result (into.new
         ≡ then_once into.old (flat_map (of_step (judge_by context.now) (steps_of context.now)) (steps_of context.now))) }
 {
@@ -98,7 +67,7 @@ fn add_steps(into: &mut Asking, context: &Context<'_>) -> Result<(), NoMemory>
 
 /// The questions that a trail could put to a verifier at a moment, in seconds since 1970: each signature that was tried, with each key
 /// by which it could be good. They stand in the order of the trail, each once. Of the verifier only which algorithms it supports
-/// counts. The only error is want of memory.
+/// counts. It fails only where memory runs out.
 pub fn trail_questions(
     alloc: Global,
     verifier: &Listed,
@@ -113,7 +82,7 @@ pub fn trail_questions(
         moment: now,
         steps: &trail.steps,
     };
-    let mut into = Asking::new(alloc);
+    let mut into = QuestionList::new(alloc);
     add_steps(&mut into, &context)?;
     Ok(into.into_all())
 }

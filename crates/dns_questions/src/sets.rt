@@ -3,22 +3,21 @@ ghost use Rattle.std.specs.Prelude.{◌≡◌, IfOk, OnOk, List, ◌∷◌, take
 ghost use Rattle.dns_model.specs.Records.{Rr};
 ghost use Rattle.dns_rules.specs.Marks.{most_signatures};
 ghost use Rattle.dns_trust.specs.SetSignatures.{IsRead};
-ghost use Rattle.dns_questions.specs.Asking.{judge_by, steps_of, then_once};
+ghost use Rattle.dns_questions.specs.Gathering.{judge_by, steps_of, then_once};
 ghost use Rattle.dns_questions.specs.Questions.{with_keys, of_key_set, told_to, keys_for, of_signatures, of_set};
 
-use crate::asking::Asking;
 use crate::keys::{Context, add_with_counted, add_with_keys};
+use crate::question_list::QuestionList;
 use dns_evidence::Reply;
 use dns_model::AskRef;
-use dns_name::NoMemory;
 use dns_rdata::Rrsig;
-use dns_record::{Query, Record, RecordSet, RecordType};
+use dns_record::{NoMemory, Query, Record, RecordSet, RecordType};
 use dns_trust::{SetSignature, counted_keys, first_signatures, is_skipped_read};
 
-/// Adds the questions of a signature of a key set with each of the set's keys.
+// Adds the questions of a signature of a key set with each of the set's keys.
 #[tactic(auto, using(crate::proofs::QuestionLemmas::unread_none, crate::proofs::OnceLemmas::then_none))]
 fn add_own(
-    into: &mut Asking,
+    into: &mut QuestionList,
     context: &Context<'_>,
     set: &RecordSet,
     sig: &Record,
@@ -37,8 +36,12 @@ fn add_own(
     add_with_keys(into, context, &signature, &set.records)
 }
 
-/// Adds the questions of a key set: each of its first eight signatures with each of its keys.
-fn add_key_set(into: &mut Asking, context: &Context<'_>, set: &RecordSet) -> Result<(), NoMemory>
+// Adds the questions of a key set: each of its first eight signatures with each of its keys.
+fn add_key_set(
+    into: &mut QuestionList,
+    context: &Context<'_>,
+    set: &RecordSet,
+) -> Result<(), NoMemory>
     ensures { OnOk result (into.new ≡ then_once into.old (of_key_set (judge_by context.now) set.now)) }
 {
     let mut left = first_signatures(set);
@@ -49,7 +52,7 @@ fn add_key_set(into: &mut Asking, context: &Context<'_>, set: &RecordSet) -> Res
     Ok(())
 }
 
-/// The answer section that a step told.
+// The answer section that a step told.
 fn told_to<'a>(context: &Context<'a>, ask: AskRef) -> &'a [Record]
     ensures { result.now ≡ told_to (steps_of context.now) ask }
 {
@@ -66,9 +69,9 @@ fn told_to<'a>(context: &Context<'a>, ask: AskRef) -> &'a [Record]
     }
 }
 
-/// Adds the questions of a signature with the keys that its ask was told.
+// Adds the questions of a signature with the keys that its ask was told.
 fn add_asked(
-    into: &mut Asking,
+    into: &mut QuestionList,
     context: &Context<'_>,
     signature: &SetSignature<'_>,
     ask: AskRef,
@@ -82,10 +85,10 @@ fn add_asked(
     add_with_counted(into, context, signature, &keys)
 }
 
-/// Adds the questions of a signature with the keys that the first of these asks was told, if it asked, and answers the asks of the
-/// signatures after it.
+// Adds the questions of a signature with the keys that the first of these asks was told, if it asked, and answers the asks of the
+// signatures after it.
 fn add_signature<'b>(
-    into: &mut Asking,
+    into: &mut QuestionList,
     context: &Context<'_>,
     query: &Query,
     set: &RecordSet,
@@ -114,9 +117,9 @@ fn add_signature<'b>(
     Ok(others)
 }
 
-/// Adds the questions of another set: each signature that asked with the keys that its ask was told.
+// Adds the questions of another set: each signature that asked with the keys that its ask was told.
 fn add_signatures(
-    into: &mut Asking,
+    into: &mut QuestionList,
     context: &Context<'_>,
     query: &Query,
     set: &RecordSet,
@@ -136,7 +139,7 @@ fn add_signatures(
 
 /// Adds the questions of a set.
 pub(crate) fn add_set(
-    into: &mut Asking,
+    into: &mut QuestionList,
     context: &Context<'_>,
     query: &Query,
     set: &RecordSet,

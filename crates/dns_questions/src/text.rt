@@ -4,12 +4,12 @@ ghost use Rattle.std.specs.List.{flat_map};
 ghost use Rattle.dns_text.specs.Words.{octets_word};
 ghost use Rattle.dns_questions.specs.QuestionsText.{accept_words, accept_text, questions_text};
 
-use dns_name::NoMemory;
+use dns_record::NoMemory;
 use dns_session::AcceptedSignature;
 use dns_text::{push_decimal, push_octets};
 use std::alloc::Global;
 
-/// Appends a space, and the word of bytes.
+// Appends a space, and the word of bytes.
 fn push_spaced(into: &mut Vec<u8>, bytes: &[u8]) -> Result<(), NoMemory>
     ensures { OnOk result (into.new.items ≡ into.old.items ++ (32 ∷ octets_word bytes.now)) }
 {
@@ -17,7 +17,7 @@ fn push_spaced(into: &mut Vec<u8>, bytes: &[u8]) -> Result<(), NoMemory>
     push_octets(into, bytes)
 }
 
-/// Appends the words of a question's line, without LF.
+// Appends the words of a question's line, without LF.
 fn push_words(into: &mut Vec<u8>, question: &AcceptedSignature) -> Result<(), NoMemory>
     ensures { OnOk result (into.new.items ≡ into.old.items ++ accept_words question.now) }
 {
@@ -28,7 +28,7 @@ fn push_words(into: &mut Vec<u8>, question: &AcceptedSignature) -> Result<(), No
     push_spaced(into, question.signature.as_slice())
 }
 
-/// Appends the line of a question.
+// Appends the line of a question.
 fn push_question(into: &mut Vec<u8>, question: &AcceptedSignature) -> Result<(), NoMemory>
     ensures { OnOk result (into.new.items ≡ into.old.items ++ accept_text question.now) }
 {
@@ -37,7 +37,7 @@ fn push_question(into: &mut Vec<u8>, question: &AcceptedSignature) -> Result<(),
     Ok(())
 }
 
-/// Appends a line for each question.
+// Appends a line for each question.
 fn push_questions(into: &mut Vec<u8>, questions: &[AcceptedSignature]) -> Result<(), NoMemory>
     ensures { OnOk result (into.new.items ≡ into.old.items ++ flat_map accept_text questions.now) }
 {
@@ -47,8 +47,8 @@ fn push_questions(into: &mut Vec<u8>, questions: &[AcceptedSignature]) -> Result
     Ok(())
 }
 
-/// Questions as a text: a line for each, in order, as a session says that it is accepted, between a first and a last line. The only
-/// error is want of memory.
+/// Questions as a text: a line for each, in order, as a session says that it is accepted, between a first and a last line. It
+/// fails only where memory runs out.
 #[tactic(auto, unfolding(crate::specs::QuestionsText::questions_text))]
 pub fn write_questions(alloc: Global, questions: &[AcceptedSignature]) -> Result<Vec<u8>, NoMemory>
     ensures { IfOk result (λ v. v.items ≡ questions_text questions.now) }

@@ -35,9 +35,11 @@ by_type n owner key = mapped (digest_by owner key) (n == 1) (n == 2) (n == 4) Sh
 pub covers_by : (owner : Labels) (key : List ℕ) (ds : DsValue) (digest_type : DigestType) → digest_type_of ds.digest_type ≡ Some digest_type
     → bytes_eq (digest_by owner key digest_type) ds.digest ≡ covers_key owner key ds
 covers_by owner key ds digest_type is =
-    sym (ap (λ (o : Option (List ℕ)). option_map_or (λ expected. bytes_eq expected ds.digest) o false) (by_type ds.digest_type owner key ∙ ap (option_map (digest_by owner key)) is))
+    sym (ap (λ (o : Option (List ℕ)). option_map_or (λ expected. bytes_eq expected ds.digest) o false)
+    (by_type ds.digest_type owner key ∙ ap (option_map (digest_by owner key)) is))
 
 -- and of another
 pub covers_none : (owner : Labels) (key : List ℕ) (ds : DsValue) → digest_type_of ds.digest_type ≡ None → false ≡ covers_key owner key ds
 covers_none owner key ds is =
-    sym (ap (λ (o : Option (List ℕ)). option_map_or (λ expected. bytes_eq expected ds.digest) o false) (by_type ds.digest_type owner key ∙ ap (option_map (digest_by owner key)) is))
+    sym (ap (λ (o : Option (List ℕ)). option_map_or (λ expected. bytes_eq expected ds.digest) o false)
+    (by_type ds.digest_type owner key ∙ ap (option_map (digest_by owner key)) is))

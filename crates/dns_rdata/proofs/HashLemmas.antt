@@ -20,7 +20,8 @@ more_text hash rest group after old new is size front back count grown =
     ∙ ap (λ (g : List ℕ). map symbol (groups_of_five (number_from_digits 256 g)) ++ base32hex (drop 5 rest)) (sym front)
     ∙ ap (λ (a : List ℕ). piece ++ base32hex a) (sym back) in
     let longer : length new ≡ length old + 8 = ap length grown ∙ length-append old piece in (
-      ap (λ (l : List ℕ). l ++ base32hex after) grown ∙ append_assoc old piece (base32hex after) ∙ ap (λ (l : List ℕ). old ++ l) (sym whole) ∙ is,
+      ap (λ (l : List ℕ). l ++ base32hex after) grown ∙ append_assoc old piece (base32hex after)
+          ∙ ap (λ (l : List ℕ). old ++ l) (sym whole) ∙ is,
       omega (arith, longer, count, size),
     )
 
@@ -29,7 +30,8 @@ pub record IsAll (whole parts : List ℕ) (count : ℕ) : Type 0 where
   pub same : parts ≡ whole
 
 -- and no group more
-pub whole_text : (hash rest text : List ℕ) → text ++ base32hex rest ≡ base32hex hash → length text * 5 + length rest * 8 ≡ 160 → length rest < 5
+pub whole_text : (hash rest text : List ℕ) → text ++ base32hex rest ≡ base32hex hash → length text * 5 + length rest * 8 ≡ 160
+    → length rest < 5
     → IsAll (base32hex hash) text 32
 whole_text hash rest text is size short = record {
   size = omega (arith, size, short);
@@ -37,7 +39,8 @@ whole_text hash rest text is size short = record {
 }
 
 -- the bytes of one group more
-pub more_bytes : (text rest group after old new : List ℕ) → old ++ base32hex_bytes rest ≡ base32hex_bytes text → length old * 8 + length rest * 5 ≡ 160
+pub more_bytes : (text rest group after old new : List ℕ) → old ++ base32hex_bytes rest ≡ base32hex_bytes text
+    → length old * 8 + length rest * 5 ≡ 160
     → group ≡ take 8 rest → after ≡ drop 8 rest → length after + 8 ≡ length rest
     → new ≡ old ++ five_bytes (number_from_digits 32 (map symbol_bits group))
     → (new ++ base32hex_bytes after ≡ base32hex_bytes text) × (length new * 8 + length after * 5 ≡ 160)
@@ -49,11 +52,13 @@ more_bytes text rest group after old new is size front back count grown =
     ∙ ap (λ (g : List ℕ). five_bytes (number_from_digits 32 (map symbol_bits g)) ++ base32hex_bytes (drop 8 rest)) (sym front)
     ∙ ap (λ (a : List ℕ). piece ++ base32hex_bytes a) (sym back) in
     let longer : length new ≡ length old + 5 = ap length grown ∙ length-append old piece in (
-      ap (λ (l : List ℕ). l ++ base32hex_bytes after) grown ∙ append_assoc old piece (base32hex_bytes after) ∙ ap (λ (l : List ℕ). old ++ l) (sym whole) ∙ is,
+      ap (λ (l : List ℕ). l ++ base32hex_bytes after) grown ∙ append_assoc old piece (base32hex_bytes after)
+          ∙ ap (λ (l : List ℕ). old ++ l) (sym whole) ∙ is,
       omega (arith, longer, count, size),
     )
 
-pub whole_bytes : (text rest hash : List ℕ) → hash ++ base32hex_bytes rest ≡ base32hex_bytes text → length hash * 8 + length rest * 5 ≡ 160 → length rest < 8
+pub whole_bytes : (text rest hash : List ℕ) → hash ++ base32hex_bytes rest ≡ base32hex_bytes text
+    → length hash * 8 + length rest * 5 ≡ 160 → length rest < 8
     → IsAll (base32hex_bytes text) hash 20
 whole_bytes text rest hash is size short = record {
   size = omega (arith, size, short);

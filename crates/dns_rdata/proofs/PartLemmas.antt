@@ -6,13 +6,15 @@ use Rattle.std.proofs.lemmas.Bool.Decides.{nat_tests}
 use Rattle.dns_rdata.proofs.Through.{let_through, test_through}
 use Rattle.dns_model.specs.Shapes.{Plain, counted_in, plain_front}
 
-counted_whole : (size : ℕ) (xs : List ℕ) → size ≤ length xs → plain_front (length (take size xs) + 1) (size ∷ xs) ≡ Some (Plain (length (take size xs) ∷ take size xs), drop size xs)
+counted_whole : (size : ℕ) (xs : List ℕ) → size ≤ length xs
+    → plain_front (length (take size xs) + 1) (size ∷ xs) ≡ Some (Plain (length (take size xs) ∷ take size xs), drop size xs)
 counted_whole size xs h =
     let e : length (take size xs) ≡ size = grind (arith, common_steps) in
     rw e (grind (arith, common_steps, nat_tests))
 
 -- a counted text with its length byte is as many bytes of the front
-pub counted_plain : (bytes text rest : List ℕ) → counted_in bytes ≡ Some (text, rest) → plain_front (length text + 1) bytes ≡ Some (Plain (length text ∷ text), rest)
+pub counted_plain : (bytes text rest : List ℕ) → counted_in bytes ≡ Some (text, rest)
+    → plain_front (length text + 1) bytes ≡ Some (Plain (length text ∷ text), rest)
 unfolding counted_in
 counted_plain [] text rest h = cc
 counted_plain (size ∷ xs) text rest h =

@@ -22,12 +22,15 @@ size_in (Some p) = size_of p
 cut_length : (n : ℕ) (bytes : List ℕ) → n ≤ length bytes → length (take n bytes) + length (drop n bytes) ≡ length bytes
 cut_length n bytes h = omega (arith, length-take-le n bytes h, length-drop n bytes)
 
-plain_size : (n : ℕ) (bytes : List ℕ) (part : Part) (rest : List ℕ) → part_in (Octets n) bytes ≡ Some (part, rest) → size_of (part, rest) ≡ length bytes
+plain_size : (n : ℕ) (bytes : List ℕ) (part : Part) (rest : List ℕ) → part_in (Octets n) bytes ≡ Some (part, rest)
+    → size_of (part, rest) ≡ length bytes
 plain_size n bytes part rest h =
     sym (ap size_of (let_through (nat_le n (length bytes)) (Plain (take n bytes), drop n bytes) (part, rest) h))
-    ∙ cut_length n bytes (leb-true n (length bytes) (test_through (nat_le n (length bytes)) (Plain (take n bytes), drop n bytes) (part, rest) h))
+    ∙ cut_length n bytes (leb-true n (length bytes)
+    (test_through (nat_le n (length bytes)) (Plain (take n bytes), drop n bytes) (part, rest) h))
 
-named_size : (bytes : List ℕ) (front : Option (Labels × List ℕ)) → name_in bytes ≡ front → (part : Part) (rest : List ℕ) → named_front front ≡ Some (part, rest) → size_of (part, rest) ≡ length bytes
+named_size : (bytes : List ℕ) (front : Option (Labels × List ℕ)) → name_in bytes ≡ front → (part : Part) (rest : List ℕ)
+    → named_front front ≡ Some (part, rest) → size_of (part, rest) ≡ length bytes
 named_size bytes None e part rest h = cc
 named_size bytes (Some (name, after)) e part rest h =
     let read = name_in_inverse bytes name after e in
@@ -38,17 +41,21 @@ counted_length : (bytes text rest : List ℕ) → counted_in bytes ≡ Some (tex
 unfolding counted_in
 counted_length [] text rest h = cc
 counted_length (size ∷ xs) text rest h =
-    let e = ap (λ (p : List ℕ × List ℕ). length p.0 + length p.1) (let_through (nat_le size (length xs)) (take size xs, drop size xs) (text, rest) h) in
-    let f = cut_length size xs (leb-true size (length xs) (test_through (nat_le size (length xs)) (take size xs, drop size xs) (text, rest) h)) in
+    let e = ap (λ (p : List ℕ × List ℕ). length p.0 + length p.1)
+    (let_through (nat_le size (length xs)) (take size xs, drop size xs) (text, rest) h) in
+    let f = cut_length size xs (leb-true size (length xs)
+    (test_through (nat_le size (length xs)) (take size xs, drop size xs) (text, rest) h)) in
     omega arith
 
-counted_size : (bytes : List ℕ) (front : Option (List ℕ × List ℕ)) → counted_in bytes ≡ front → (part : Part) (rest : List ℕ) → counted_front front ≡ Some (part, rest) → size_of (part, rest) ≡ length bytes
+counted_size : (bytes : List ℕ) (front : Option (List ℕ × List ℕ)) → counted_in bytes ≡ front → (part : Part) (rest : List ℕ)
+    → counted_front front ≡ Some (part, rest) → size_of (part, rest) ≡ length bytes
 counted_size bytes None e part rest h = cc
 counted_size bytes (Some (text, after)) e part rest h =
     let f = counted_length bytes text after e in
     sym (ap size_in h) ∙ omega arith
 
-part_size : (field : Field) (bytes : List ℕ) (part : Part) (rest : List ℕ) → part_in field bytes ≡ Some (part, rest) → size_of (part, rest) ≡ length bytes
+part_size : (field : Field) (bytes : List ℕ) (part : Part) (rest : List ℕ) → part_in field bytes ≡ Some (part, rest)
+    → size_of (part, rest) ≡ length bytes
 part_size (Octets n) bytes part rest h = plain_size n bytes part rest h
 part_size DomainName bytes part rest h = named_size bytes (name_in bytes) refl part rest h
 part_size CharacterString bytes part rest h = counted_size bytes (counted_in bytes) refl part rest h
@@ -62,30 +69,41 @@ abbrev joined_in : Option (List Part) → List ℕ
 joined_in None = []
 joined_in (Some parts) = joined parts
 
-parts_tail : (fields : List Field) (bytes : List ℕ) (part : Part) (rest : List ℕ) (tail : Option (List Part)) → parts_in fields rest ≡ tail → (parts : List Part) → size_of (part, rest) ≡ length bytes → ((ps : List Part) → tail ≡ Some ps → length (joined ps) ≡ length rest) → with_part part tail ≡ Some parts → length (joined parts) ≡ length bytes
+parts_tail : (fields : List Field) (bytes : List ℕ) (part : Part) (rest : List ℕ) (tail : Option (List Part))
+    → parts_in fields rest ≡ tail → (parts : List Part) → size_of (part, rest) ≡ length bytes
+    → ((ps : List Part) → tail ≡ Some ps → length (joined ps) ≡ length rest) → with_part part tail ≡ Some parts
+    → length (joined parts) ≡ length bytes
 parts_tail fields bytes part rest None e parts s ih h = cc
 parts_tail fields bytes part rest (Some ps) e parts s ih h =
     let i = ih ps refl in
     sym (ap (λ p. length (joined_in p)) h) ∙ omega (arith, length-append (canonical_part part) (joined ps))
 
-parts_head : (fields : List Field) (bytes : List ℕ) (front : Option (Part × List ℕ)) → ((part : Part) (rest : List ℕ) → front ≡ Some (part, rest) → size_of (part, rest) ≡ length bytes) → ((rest : List ℕ) (ps : List Part) → parts_in fields rest ≡ Some ps → length (joined ps) ≡ length rest) → (parts : List Part) → after_part front (parts_in fields) ≡ Some parts → length (joined parts) ≡ length bytes
+parts_head : (fields : List Field) (bytes : List ℕ) (front : Option (Part × List ℕ))
+    → ((part : Part) (rest : List ℕ) → front ≡ Some (part, rest) → size_of (part, rest) ≡ length bytes)
+    → ((rest : List ℕ) (ps : List Part) → parts_in fields rest ≡ Some ps → length (joined ps) ≡ length rest)
+    → (parts : List Part) → after_part front (parts_in fields) ≡ Some parts → length (joined parts) ≡ length bytes
 parts_head fields bytes None s ih parts h = cc
-parts_head fields bytes (Some (part, rest)) s ih parts h = parts_tail fields bytes part rest (parts_in fields rest) refl parts (s part rest refl) (ih rest) h
+parts_head fields bytes (Some (part, rest)) s ih parts h =
+    parts_tail fields bytes part rest (parts_in fields rest) refl parts (s part rest refl) (ih rest) h
 
-parts_size : (fields : List Field) (bytes : List ℕ) (parts : List Part) → parts_in fields bytes ≡ Some parts → length (joined parts) ≡ length bytes
+parts_size : (fields : List Field) (bytes : List ℕ) (parts : List Part) → parts_in fields bytes ≡ Some parts
+    → length (joined parts) ≡ length bytes
 unfolding parts_in
 parts_size [] [] parts h = sym (ap (λ p. length (joined_in p)) h)
 parts_size [] (byte ∷ bytes) parts h = cc
-parts_size (field ∷ fields) bytes parts h = parts_head fields bytes (part_in field bytes) (part_size field bytes) (λ rest ps e. parts_size fields rest ps e) parts h
+parts_size (field ∷ fields) bytes parts h =
+    parts_head fields bytes (part_in field bytes) (part_size field bytes) (λ rest ps e. parts_size fields rest ps e) parts h
 
-form_size : (rdata : List ℕ) (parts : Option (List Part)) → ((ps : List Part) → parts ≡ Some ps → length (joined ps) ≡ length rdata) → length (canonical_parts rdata parts) ≡ length rdata
+form_size : (rdata : List ℕ) (parts : Option (List Part)) → ((ps : List Part) → parts ≡ Some ps → length (joined ps) ≡ length rdata)
+    → length (canonical_parts rdata parts) ≡ length rdata
 form_size rdata None s = refl
 form_size rdata (Some ps) s = s ps refl
 
 pub length-canonical_form : (rtype : ℕ) (rdata : List ℕ) → length (canonical_form rtype rdata) ≡ length rdata
 unfolding canonical_form
 length-canonical_form rtype rdata =
-    elim (is_lowered_type rtype) as (λ lowered. length (cond lowered (canonical_parts rdata (parts_in (shape_of rtype) rdata)) rdata) ≡ length rdata) [
+    elim (is_lowered_type rtype) as (λ lowered. length (cond lowered (canonical_parts rdata (parts_in (shape_of rtype) rdata)) rdata)
+    ≡ length rdata) [
       | true ↦ form_size rdata (parts_in (shape_of rtype) rdata) (parts_size (shape_of rtype) rdata)
       | false ↦ refl
     ]

@@ -12,7 +12,8 @@ pub kept_more : (sum more rest : ℕ) → ((sum + more) % 2 ^ 32 + rest) % 2 ^ 3
 kept_more sum more rest = omega arith
 
 -- two bytes and the rest
-pub sum_two : (bytes : List ℕ) → 2 ≤ length bytes → tag_sum bytes ≡ get_or bytes 0 0 * 256 + get_or bytes 1 0 + tag_sum (take (length bytes - 2) (drop 2 bytes))
+pub sum_two : (bytes : List ℕ) → 2 ≤ length bytes
+    → tag_sum bytes ≡ get_or bytes 0 0 * 256 + get_or bytes 1 0 + tag_sum (take (length bytes - 2) (drop 2 bytes))
 unfolding tag_sum
 sum_two [] h = grind arith
 sum_two (x ∷ []) h = grind arith

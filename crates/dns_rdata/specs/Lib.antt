@@ -1,3 +1,4 @@
+-- Definitions for what each rdata says.
 pub mod Windows
 pub mod Fields
 pub mod Lowered

@@ -1,3 +1,4 @@
+//! Hashes as texts of base32 with the extended hex alphabet (RFC 4648, 7).
 ghost use Rattle.std.specs.Prelude.{◌≡◌, ◌<◌, ◌%◌, length, map};
 ghost use Rattle.std.specs.List.{list_all};
 ghost use Rattle.std.specs.Int.Digits.{number_from_digits};
@@ -14,7 +15,7 @@ pub fn base32hex_encode(hash: &[u8; 20]) -> [u8; 32]
     encoded(hash.as_slice())
 }
 
-/// The same of 20 bytes.
+// The same of 20 bytes.
 fn encoded(hash: &[u8]) -> [u8; 32]
     requires { length hash.now ≡ 20 }
     ensures text { result ≡ base32hex hash.now }
@@ -65,7 +66,7 @@ fn are_symbols(text: &[u8]) -> bool
     true
 }
 
-/// The bytes of 32 symbols.
+// The bytes of 32 symbols.
 fn bytes_of(text: &[u8]) -> [u8; 20]
     requires { length text.now ≡ 32 }
     ensures { result ≡ base32hex_bytes text.now }
@@ -80,7 +81,7 @@ fn bytes_of(text: &[u8]) -> [u8; 20]
     hash.into_inner().unwrap_or([0; 20])
 }
 
-/// Forty bits as a number, the first byte highest.
+// Forty bits as a number, the first byte highest.
 fn forty_bits(bytes: &[u8; 5]) -> u64
     ensures { result ≡ number_from_digits 256 bytes.now }
 {
@@ -89,7 +90,7 @@ fn forty_bits(bytes: &[u8; 5]) -> u64
     (first * 256 + d as u64) * 256 + e as u64
 }
 
-/// The same of eight symbols.
+// The same of eight symbols.
 fn symbols_number(text: &[u8; 8]) -> u64
     ensures { result ≡ number_from_digits 32 (map bits_of_symbol text.now) }
 {
@@ -99,7 +100,7 @@ fn symbols_number(text: &[u8; 8]) -> u64
     ((second * 32 + symbol_bits(f)) * 32 + symbol_bits(g)) * 32 + symbol_bits(h)
 }
 
-/// Forty bits as eight symbols.
+// Forty bits as eight symbols.
 fn symbols(bits: u64) -> [u8; 8]
     ensures { result ≡ map symbol_of_bits (groups_of_five bits) }
 {
@@ -115,7 +116,7 @@ fn symbols(bits: u64) -> [u8; 8]
     ]
 }
 
-/// Forty bits as five bytes.
+// Forty bits as five bytes.
 fn five_bytes(bits: u64) -> [u8; 5]
     ensures { result ≡ bytes_of_bits bits }
 {
@@ -128,7 +129,7 @@ fn five_bytes(bits: u64) -> [u8; 5]
     ]
 }
 
-/// The symbol of the lowest five bits.
+// The symbol of the lowest five bits.
 fn symbol(bits: u64) -> u8
     ensures { result ≡ symbol_of_bits (bits % 32) }
 {
@@ -136,7 +137,7 @@ fn symbol(bits: u64) -> u8
     if five < 10 { 48 + five } else { 87 + five }
 }
 
-/// The five bits of a symbol in either case.
+// The five bits of a symbol in either case.
 fn symbol_bits(c: u8) -> u64
     ensures value { result ≡ bits_of_symbol c }
     ensures bound { result < 256 }

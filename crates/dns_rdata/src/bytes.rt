@@ -1,3 +1,4 @@
+//! Numbers in bytes, the highest byte first (RFC 1035, 2.3.2).
 ghost use Rattle.std.specs.Prelude.{◌≡◌, ◌+◌, ◌≤◌, length};
 ghost use Rattle.dns_model.specs.Bytes.{u16_at as two_at, u32_at as four_at};
 

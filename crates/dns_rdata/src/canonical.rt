@@ -1,3 +1,4 @@
+//! The canonical form of an rdata (RFC 4034, 6.2).
 ghost use Rattle.std.specs.Prelude.{◌≡◌, IfOk};
 ghost use Rattle.dns_model.specs.Shapes.{has_shape as fits_shape, canonical_form, is_lowered_type};
 ghost use Rattle.std.specs.Option.{option_map};
@@ -5,8 +6,7 @@ ghost use Rattle.dns_rdata.specs.Lowered.{lowered_form};
 
 use crate::part::part_front;
 use crate::shape::fields_of;
-use dns_name::{NoMemory, Octets};
-use dns_record::RecordType;
+use dns_record::{NoMemory, Octets, RecordType};
 use std::alloc::Global;
 
 /// Whether an rdata, names spelled out, has its type's shape (RFC 1035, 3.3; RFC 4034; RFC 5155, 3).

@@ -1,3 +1,4 @@
+//! Bytes behind a byte that counts them.
 ghost use Rattle.std.specs.Prelude.{◌≡◌, ◌<◌, IfSome, length};
 ghost use Rattle.std.specs.Option.{option_map};
 ghost use Rattle.dns_model.specs.Shapes.{counted_in};

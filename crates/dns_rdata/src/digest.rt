@@ -1,3 +1,4 @@
+//! Digests of keys, by which DS records name them (RFC 4034, 5.1.4).
 ghost use Rattle.std.specs.Prelude.{◌≡◌, ◌++◌};
 ghost use Rattle.dns_model.specs.Keys.{covers_key};
 ghost use Rattle.dns_model.specs.Names.{wire, folded};
@@ -8,7 +9,7 @@ ghost use Rattle.sha2.specs.Sha256.{sha256};
 ghost use Rattle.sha2.specs.Sha512.{sha384};
 
 use crate::{Ds, FoldedWire};
-use dns_name::Name;
+use dns_record::Name;
 use sha1::Sha1;
 use sha2::{Digest, Sha256, Sha384};
 

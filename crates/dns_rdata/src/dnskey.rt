@@ -1,3 +1,4 @@
+//! What a DNSKEY record says (RFC 4034, 2.1).
 ghost use Rattle.std.specs.Prelude.{◌≡◌};
 ghost use Rattle.dns_model.specs.Views.{dnskey_in, is_zone_key, is_revoked};
 ghost use Rattle.dns_model.specs.RecordViews.{dnskey_of};

@@ -1,3 +1,4 @@
+//! What a DS record says (RFC 4034, 5.1).
 ghost use Rattle.std.specs.Prelude.{◌≡◌};
 ghost use Rattle.dns_model.specs.Types.{type_ds};
 ghost use Rattle.dns_model.specs.Views.{ds_in};

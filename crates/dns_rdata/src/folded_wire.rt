@@ -1,7 +1,8 @@
+//! The wire form of a name with A to Z as a to z, in room of its own.
 ghost use Rattle.std.specs.Prelude.{◌≡◌};
 ghost use Rattle.dns_model.specs.Names.{wire, folded};
 
-use dns_name::{Name, NameRef};
+use dns_record::{Name, NameRef};
 use std::marker::Model;
 
 /// A name's wire form with A to Z as a to z, for a digest; it takes no memory. Contracts see it as its bytes.

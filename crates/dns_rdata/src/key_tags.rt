@@ -1,3 +1,4 @@
+//! The key tags by which signatures and DS records name a key (RFC 4034, appendix B).
 ghost use Rattle.std.specs.Prelude.{◌≡◌, ◌+◌, ◌/◌, ◌%◌, ◌^◌};
 ghost use Rattle.dns_model.specs.Signing.{key_tag as tag_of, tag_sum};
 

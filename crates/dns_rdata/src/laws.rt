@@ -1,3 +1,4 @@
+//! Laws of signed bytes and of hashes. Each is the contract of a function that does nothing.
 ghost use Rattle.std.specs.Prelude.{◌≡◌, ◌∷◌, true, length};
 ghost use Rattle.std.specs.Cmp.Lexicographic.{slice_cmp};
 ghost use Rattle.std.specs.Ordering.{nat_cmp};
@@ -7,8 +8,7 @@ ghost use Rattle.dns_model.specs.Shapes.{canonical_form};
 ghost use Rattle.dns_model.specs.Signing.{signed_bytes};
 
 use crate::Rrsig;
-use dns_name::Name;
-use dns_record::{DNSClass, Rdata, RecordType};
+use dns_record::{DNSClass, Name, Rdata, RecordType};
 
 /// A law: of two rdatas that are equal in canonical form, one is signed (RFC 4034, 6.3).
 pub fn equal_records_are_signed_once(

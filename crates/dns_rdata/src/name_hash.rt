@@ -1,9 +1,10 @@
+//! The hash of a name in NSEC3 records (RFC 5155, 5).
 ghost use Rattle.std.specs.Prelude.{◌≡◌};
 ghost use Rattle.dns_model.specs.Nsec3Hash.{iterated_hash, nsec3_hash as hash_of_name};
 
 use crate::FoldedWire;
 use crate::digest::sha1_of;
-use dns_name::{Name, NameRef};
+use dns_record::{Name, NameRef};
 
 /// The hash of a name in NSEC3 records (RFC 5155, 5): SHA-1 of its wire form with A to Z as a to z and of the salt, and then
 /// `iterations` times more of that digest and the salt. It takes no memory.

@@ -1,10 +1,10 @@
+//! What an NS record says (RFC 1035, 3.3.11).
 ghost use Rattle.std.specs.Prelude.{◌≡◌};
 ghost use Rattle.dns_model.specs.Types.{type_ns};
 ghost use Rattle.dns_model.specs.Views.{ns_in};
 ghost use Rattle.dns_model.specs.RecordViews.{read_as};
 
-use dns_name::NameRef;
-use dns_record::{Record, RecordType};
+use dns_record::{NameRef, Record, RecordType};
 use std::marker::Model;
 
 /// The name server that an NS rdata names (RFC 1035, 3.3.11). Contracts see it as its labels.

@@ -1,3 +1,4 @@
+//! What an NSEC record says (RFC 4034, 4.1).
 ghost use Rattle.std.specs.Prelude.{◌≡◌, IfOk};
 ghost use Rattle.std.specs.Option.{option_map};
 ghost use Rattle.dns_model.specs.Types.{type_nsec};
@@ -6,8 +7,7 @@ ghost use Rattle.dns_model.specs.RecordViews.{read_as};
 
 use crate::TypeSet;
 use crate::type_set::is_bitmap;
-use dns_name::{Name, NameRef, NoMemory, Octets};
-use dns_record::{Record, RecordType};
+use dns_record::{Name, NameRef, NoMemory, Octets, Record, RecordType};
 use std::alloc::Global;
 use std::marker::Model;
 

@@ -1,3 +1,4 @@
+//! What an NSEC3 record says (RFC 5155, 3).
 ghost use Rattle.std.specs.Prelude.{◌≡◌, IfOk};
 ghost use Rattle.std.specs.Option.{option_map};
 ghost use Rattle.dns_model.specs.Types.{type_nsec3};
@@ -8,8 +9,7 @@ use crate::TypeSet;
 use crate::bytes::u16_at;
 use crate::counted::counted_front;
 use crate::type_set::is_bitmap;
-use dns_name::{Name, NoMemory, Octets};
-use dns_record::{Record, RecordType};
+use dns_record::{Name, NoMemory, Octets, Record, RecordType};
 use std::alloc::Global;
 use std::marker::Model;
 

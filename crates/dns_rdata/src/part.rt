@@ -1,3 +1,4 @@
+//! The fields of an rdata, one after another.
 ghost use Rattle.std.specs.Prelude.{◌≡◌, ◌++◌, OnOk};
 ghost use Rattle.std.specs.Option.{option_map};
 ghost use Rattle.dns_model.specs.Shapes.{part_in, canonical_part, plain_front as plain_bytes};
@@ -6,7 +7,7 @@ ghost use Rattle.dns_rdata.specs.Fields.{field_value, part_value};
 use crate::counted::counted_front;
 use crate::shape::Field;
 use crate::type_set::is_bitmap;
-use dns_name::{NameRef, NoMemory};
+use dns_record::{NameRef, NoMemory};
 
 // A field as it was read.
 #[derive(Drop)]
@@ -52,7 +53,7 @@ fn plain_front(bytes: &[u8], size: usize) -> Option<(Part<'_>, &[u8])>
 }
 
 impl<'a> Part<'a> {
-    // Appends the part as it stands in canonical form: a name lower-cased. For want of memory `into` stays as it was.
+    // Appends the part as it stands in canonical form: a name lower-cased. Where memory runs out, `into` stays as it was.
     pub(crate) fn push_canonical(&self, into: &mut Vec<u8>) -> Result<(), NoMemory>
         ensures { OnOk result (into.new.items ≡ into.old.items ++ canonical_part (part_value self.now)) }
     {

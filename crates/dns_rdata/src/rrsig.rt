@@ -1,3 +1,4 @@
+//! What an RRSIG record says (RFC 4034, 3.1).
 ghost use Rattle.std.specs.Prelude.{◌≡◌, Some};
 ghost use Rattle.dns_model.specs.Views.{rrsig_in};
 ghost use Rattle.dns_model.specs.RecordViews.{rrsig_of};
@@ -5,8 +6,7 @@ ghost use Rattle.dns_model.specs.SoundAnswers.{signed_ttl};
 
 use crate::SerialNumber;
 use crate::bytes::{u16_at, u32_at};
-use dns_name::NameRef;
-use dns_record::{Record, RecordType};
+use dns_record::{NameRef, Record, RecordType};
 use std::marker::Model;
 
 /// What an RRSIG rdata says (RFC 4034, 3.1).

@@ -1,3 +1,4 @@
+//! Numbers on the circle of 2^32 (RFC 1982).
 ghost use Rattle.std.specs.Prelude.{◌≡◌, ◌^◌, ◌↔◌, IsTrue, IsNone, false};
 ghost use Rattle.std.specs.Option.{option_map};
 ghost use Rattle.std.specs.Ordering.{ordering_reverse};

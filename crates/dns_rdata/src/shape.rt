@@ -1,3 +1,4 @@
+//! Which fields the rdata of each type has (RFC 1035, 3.3; RFC 4034; RFC 5155, 3).
 ghost use Rattle.std.specs.Prelude.{◌≡◌, map};
 ghost use Rattle.dns_model.specs.Shapes.{shape_of};
 ghost use Rattle.dns_rdata.specs.Fields.{field_value};

@@ -1,3 +1,4 @@
+//! The bytes that a signature is over (RFC 4034, 3.1.8.1).
 ghost use Rattle.std.specs.Prelude.{◌≡◌, ◌++◌, IfOk, OnOk, length, map};
 ghost use Rattle.std.specs.List.{concat};
 ghost use Rattle.dns_model.specs.Bytes.{u16_bytes, u32_bytes};
@@ -9,8 +10,7 @@ ghost use Rattle.dns_model.specs.Chains.{rdatas_of};
 use crate::canonical::is_lowered;
 use crate::write::{push_u16, push_u32};
 use crate::{Rrsig, canonical_rdata};
-use dns_name::{Name, NoMemory, Octets};
-use dns_record::{DNSClass, Rdata, Record, RecordSet, RecordType};
+use dns_record::{DNSClass, Name, NoMemory, Octets, Rdata, Record, RecordSet, RecordType};
 use std::alloc::Global;
 use std::collections::BTreeSet;
 

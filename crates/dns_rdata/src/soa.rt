@@ -1,11 +1,11 @@
+//! What an SOA record says (RFC 1035, 3.3.13).
 ghost use Rattle.std.specs.Prelude.{◌≡◌};
 ghost use Rattle.dns_model.specs.Types.{type_soa};
 ghost use Rattle.dns_model.specs.Views.{soa_in};
 ghost use Rattle.dns_model.specs.RecordViews.{read_as};
 
 use crate::bytes::u32_at;
-use dns_name::NameRef;
-use dns_record::{Record, RecordType};
+use dns_record::{NameRef, Record, RecordType};
 use std::marker::Model;
 
 /// What an SOA rdata says (RFC 1035, 3.3.13).

@@ -1,3 +1,4 @@
+//! Type bitmaps as sets of types (RFC 4034, 4.1.2).
 ghost use Rattle.std.specs.Prelude.{◌≡◌};
 ghost use Rattle.dns_model.specs.Shapes.{bitmap_has as row_has, is_bitmap as is_row};
 ghost use Rattle.dns_rdata.specs.Windows.{follows as comes_after};

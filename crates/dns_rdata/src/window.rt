@@ -1,3 +1,4 @@
+//! The windows of a type bitmap (RFC 4034, 4.1.2).
 ghost use Rattle.std.specs.Prelude.{◌≡◌, ◌<◌, IfSome, length};
 ghost use Rattle.std.specs.Option.{option_map};
 ghost use Rattle.dns_model.specs.Shapes.{window_in, window_has, has_bit as bit_of};

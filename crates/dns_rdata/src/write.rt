@@ -1,9 +1,10 @@
+//! Appending numbers to bytes, the highest byte first (RFC 1035, 2.3.2).
 ghost use Rattle.std.specs.Prelude.{◌≡◌, ◌++◌, OnOk, OnErr};
 ghost use Rattle.dns_model.specs.Bytes.{u16_bytes, u32_bytes};
 
-use dns_name::NoMemory;
+use dns_record::NoMemory;
 
-/// Appends two bytes, the highest first (RFC 1035, 2.3.2). For want of memory `into` stays as it was.
+/// Appends two bytes, the highest first (RFC 1035, 2.3.2). Where memory runs out, `into` stays as it was.
 pub fn push_u16(into: &mut Vec<u8>, number: u16) -> Result<(), NoMemory>
     ensures ok { OnOk result (into.new.items ≡ into.old.items ++ u16_bytes number) }
     ensures err { OnErr result (into.new.items ≡ into.old.items) }
@@ -12,7 +13,7 @@ pub fn push_u16(into: &mut Vec<u8>, number: u16) -> Result<(), NoMemory>
     Ok(())
 }
 
-/// Appends four bytes, the highest first. For want of memory `into` stays as it was.
+/// Appends four bytes, the highest first. Where memory runs out, `into` stays as it was.
 pub fn push_u32(into: &mut Vec<u8>, number: u32) -> Result<(), NoMemory>
     ensures ok { OnOk result (into.new.items ≡ into.old.items ++ u32_bytes number) }
     ensures err { OnErr result (into.new.items ≡ into.old.items) }

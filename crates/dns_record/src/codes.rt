@@ -1,3 +1,4 @@
+//! The numbers of types, classes, opcodes and response codes, with the registered ones as constants (the IANA registry of DNS parameters).
 ghost use Rattle.std.specs.Prelude.{◌≡◌};
 ghost use Rattle.dns_model.specs.Types.{can_deny};
 

@@ -1,11 +1,11 @@
+//! Questions (RFC 1035, 4.1.2).
 ghost use Rattle.std.specs.Prelude.{◌≡◌, IfOk};
 
-use crate::{DNSClass, RecordType};
-use dns_name::{Name, NoMemory};
+use crate::{DNSClass, Name, NoMemory, RecordType};
 use std::marker::Model;
 
 /// A question (RFC 1035, 4.1.2). Equality, order and hash fold the name.
-#[derive(PartialEq, Eq, PartialOrd, Ord, Hash, Drop)]
+#[derive(PartialEq, Eq, PartialOrd, Ord, Hash)]
 pub struct Query {
     /// The name that is asked for.
     pub name: Name,
@@ -27,6 +27,17 @@ impl Model for Query {
       query_type = record { 0 = q.rtype };
       query_class = record { 0 = q.class };
     } };
+}
+
+// By hand, so that a function that lets a query go calls this.
+impl Drop for Query {
+    fn drop(self) {
+        let Query {
+            name: _,
+            query_type: _,
+            query_class: _,
+        } = self;
+    }
 }
 
 impl Query {

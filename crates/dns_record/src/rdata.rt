@@ -1,9 +1,10 @@
+//! The data of a record as bytes, with names spelled out (RFC 1035, 3.2.1).
 ghost use Rattle.std.specs.Prelude.{◌≡◌, ◌≤◌, IfOk, length, nat_eq, refl};
 ghost use Rattle.std.specs.Ordering.{nat_cmp, as_partial_cmp};
 ghost use Rattle.std.specs.Cmp.{partial_equiv_from_equiv, partial_order_from_agreeing_total};
 ghost use Rattle.std.specs.Cmp.Lexicographic.{pointwise, slice_cmp, nat_list_eq_equiv, nat_list_cmp_total, texts_ties};
 
-use dns_name::{NoMemory, Octets};
+use crate::{NoMemory, Octets};
 use std::alloc::Global;
 use std::cmp::Ordering;
 use std::marker::Model;

@@ -1,9 +1,9 @@
+//! Resource records with their marks (RFC 1035, 3.2.1).
 ghost use Rattle.std.specs.Prelude.{◌≡◌, IfOk};
 ghost use Rattle.dns_model.specs.Sections.{same_record};
 
-use crate::{DNSClass, Rdata, RecordType};
+use crate::{DNSClass, Name, NoMemory, Rdata, RecordType};
 use dns_model::Proof;
-use dns_name::{Name, NoMemory};
 use std::marker::Model;
 
 /// A resource record (RFC 1035, 3.2.1), with what validation found out of it.

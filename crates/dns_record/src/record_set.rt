@@ -1,15 +1,14 @@
+//! The records of one name, type and class, with their signatures (RFC 2181, 5).
 ghost use Rattle.std.specs.Prelude.{◌≡◌, ◌∷◌, ◌++◌, [], IsTrue, IfOk, IfErr, OnOk, OnErr, slice_get};
 ghost use Rattle.dns_model.specs.Names.{name_eq};
 ghost use Rattle.dns_model.specs.SoundAnswers.{ttl_of};
 
 use crate::record::clone_records;
-use crate::{DNSClass, Record, RecordType};
-use dns_name::{Name, NoMemory};
+use crate::{DNSClass, Name, NoMemory, Record, RecordType};
 use std::alloc::Global;
 use std::marker::Model;
 
 /// The records of one name, type and class, with the signatures that cover them (RFC 2181, 5).
-#[derive(Drop)]
 pub struct RecordSet {
     /// The owner of each record.
     pub name: Name,
@@ -37,6 +36,19 @@ impl Model for RecordSet {
     } };
 }
 
+// By hand, so that a function that lets a set go calls this.
+impl Drop for RecordSet {
+    fn drop(self) {
+        let RecordSet {
+            name: _,
+            record_type: _,
+            dns_class: _,
+            records: _,
+            rrsigs: _,
+        } = self;
+    }
+}
+
 impl RecordSet {
     /// The set of one record: its name, type and class, and no signatures.
     pub fn of(alloc: Global, first: Record) -> Result<RecordSet, NoMemory>
@@ -62,7 +74,7 @@ impl RecordSet {
         })
     }
 
-    /// Adds a record of the same name, type and class. For want of memory it hands the record back, and the set stays.
+    /// Adds a record of the same name, type and class. Where memory runs out, it hands the record back, and the set stays.
     pub fn push(&mut self, next: Record) -> Result<(), Record>
         requires name { IsTrue (name_eq self.old.owner next.owner) }
         requires rtype { self.old.rtype ≡ next.rtype }

@@ -44,7 +44,7 @@ const CLASSES: [(u16, &str); 5] = [
     (DNSClass::ANY.0, "ANY"),
 ];
 
-/// The word that stands beside a number.
+// The word that stands beside a number.
 fn word_of(rows: &[(u16, &'static str)], number: u16) -> Option<&'static str>
     ensures { option_map (λ w. w.now) result ≡ own_word (map (λ row. (row.0, row.1.now)) rows.now) number }
 {
@@ -56,7 +56,7 @@ fn word_of(rows: &[(u16, &'static str)], number: u16) -> Option<&'static str>
     None
 }
 
-/// The number that stands beside a word.
+// The number that stands beside a word.
 fn number_of(rows: &[(u16, &'static str)], word: &[u8]) -> Option<u16>
     ensures { result ≡ own_number (map (λ row. (row.0, row.1.now)) rows.now) word.now }
 {
@@ -80,10 +80,8 @@ impl RecordType {
     pub fn of_own_word(word: &[u8]) -> Option<RecordType>
         ensures { option_map (λ t. t.0) result ≡ own_number type_rows word.now }
     {
-        match number_of(&TYPES, word) {
-            Some(number) => Some(RecordType(number)),
-            None => None,
-        }
+        let number = number_of(&TYPES, word)?;
+        Some(RecordType(number))
     }
 }
 
@@ -99,10 +97,8 @@ impl DNSClass {
     pub fn of_own_word(word: &[u8]) -> Option<DNSClass>
         ensures { option_map (λ c. c.0) result ≡ own_number class_rows word.now }
     {
-        match number_of(&CLASSES, word) {
-            Some(number) => Some(DNSClass(number)),
-            None => None,
-        }
+        let number = number_of(&CLASSES, word)?;
+        Some(DNSClass(number))
     }
 }
 

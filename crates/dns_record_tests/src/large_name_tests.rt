@@ -4,7 +4,7 @@ use crate::name_tests::{folded_wire, hash_of, is_name, is_text};
 use crate::name_text_tests::{labelled, longest};
 use crate::rdata_signed_tests::are_octets;
 use crate::rows::check_held;
-use dns_name::{Name, NoMemory, Octets, Text};
+use dns_record::{Name, NoMemory, Octets, Text};
 use std::alloc::Global;
 use std::process::Abort;
 
@@ -30,8 +30,6 @@ fn the_longest_name_is_read_made_and_printed(rt: HostRuntime) {
     let long = Name::from_ascii(rt.alloc(), longest()).expect(&rt, "a name");
     let above = long.base_name().expect(&rt, "memory");
     let held = is_long(rt.alloc(), &long, &above);
-    drop(above);
-    drop(long);
     check_held(&rt, "127 labels", held);
 }
 
@@ -50,13 +48,7 @@ fn long_text(alloc: Global) -> Result<Text, NoMemory> {
 fn are_copied(rt: &impl Abort, alloc: Global, bytes: &[u8]) -> bool {
     let octets = Octets::from_slice(alloc, bytes).expect(rt, "memory");
     let copy = octets.try_clone().expect(rt, "memory");
-    let held = octets.len() == MANY
-        && copy == octets
-        && copy >= octets
-        && hash_of(&copy) == hash_of(&octets);
-    drop(copy);
-    drop(octets);
-    held
+    octets.len() == MANY && copy == octets && copy >= octets && hash_of(&copy) == hash_of(&octets)
 }
 
 #[test]
@@ -66,6 +58,5 @@ fn long_bytes_and_texts_are_copied(rt: HostRuntime) {
         && is_text(text.try_clone(), text.as_str())
         && is_text(Text::from_str(rt.alloc(), text.as_str()), text.as_str())
         && are_copied(&rt, rt.alloc(), text.as_bytes());
-    drop(text);
     check_held(&rt, "70,000 bytes", held);
 }

@@ -3,9 +3,8 @@ use crate::rdata_signed_tests::are_octets;
 use crate::record_tests::record;
 use crate::rows::check_held;
 use dns_model::NameError;
-use dns_name::NoMemory;
 use dns_rdata::{Nsec3Record, NsecRecord, canonical_rdata};
-use dns_record::{Record, RecordSet, RecordType};
+use dns_record::{NoMemory, Record, RecordSet, RecordType};
 use std::alloc::Global;
 use std::process::Abort;
 
@@ -23,7 +22,6 @@ fn takes_next(rt: &impl Abort, alloc: Global, set: &mut RecordSet) -> bool {
         || set.record_type != next.record_type
         || set.dns_class != next.dns_class
     {
-        drop(next);
         return false;
     }
     set.push(next).is_ok()
@@ -49,10 +47,9 @@ fn grows(rt: &impl Abort, alloc: Global) -> bool {
     let mut set = RecordSet::of(alloc, first).expect(rt, "memory");
     let filled = fill(rt, alloc, &mut set);
     let copy = set.try_clone().expect(rt, "memory");
+    // The copy stands without the set.
     drop(set);
-    let held = filled && is_filled(&copy);
-    drop(copy);
-    held
+    filled && is_filled(&copy)
 }
 
 #[test]
@@ -82,16 +79,15 @@ fn at_root_with_bitmap(alloc: Global, number: u16, front: &[u8]) -> Result<Recor
 /// The copy has the owner, the next name and the last type.
 fn nsec_is_copied(rt: &impl Abort, alloc: Global) -> bool {
     let from = at_root_with_bitmap(alloc, 47, b"\x01b\0").expect(rt, "memory");
-    let read = NsecRecord::of(alloc, &from).expect(rt, "memory");
-    drop(from);
-    let nsec = read.expect(rt, "an NSEC record");
+    let nsec = NsecRecord::of(alloc, &from)
+        .expect(rt, "memory")
+        .expect(rt, "an NSEC record");
     let copy = nsec.try_clone().expect(rt, "memory");
+    // The copy stands without the record.
     drop(nsec);
-    let held = copy.owner.is_root()
+    copy.owner.is_root()
         && copy.next.wire() == b"\x01b\0".as_slice()
-        && copy.type_set().contains(RecordType(65_535));
-    drop(copy);
-    held
+        && copy.type_set().contains(RecordType(65_535))
 }
 
 /// A salt of 255 bytes and a next hash of as many, each behind its size, all of the same byte.
@@ -109,19 +105,17 @@ fn long_front(alloc: Global) -> Result<Vec<u8>, NoMemory> {
 fn nsec3_is_copied(rt: &impl Abort, alloc: Global) -> bool {
     let front = long_front(alloc).expect(rt, "memory");
     let from = at_root_with_bitmap(alloc, 50, &front).expect(rt, "memory");
-    drop(front);
-    let read = Nsec3Record::of(alloc, &from).expect(rt, "memory");
-    drop(from);
-    let nsec3 = read.expect(rt, "an NSEC3 record");
+    let nsec3 = Nsec3Record::of(alloc, &from)
+        .expect(rt, "memory")
+        .expect(rt, "an NSEC3 record");
     let copy = nsec3.try_clone().expect(rt, "memory");
+    // The copy stands without the record.
     drop(nsec3);
-    let held = copy.owner.is_root()
+    copy.owner.is_root()
         && copy.iterations == 12
         && *copy.salt.as_slice() == *PART
         && *copy.next.as_slice() == *PART
-        && copy.type_set().contains(RecordType(65_535));
-    drop(copy);
-    held
+        && copy.type_set().contains(RecordType(65_535))
 }
 
 #[test]

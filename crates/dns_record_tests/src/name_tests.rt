@@ -1,7 +1,7 @@
 //! Names: how they compare, their wire form and their labels (RFC 1035, 3.1; RFC 4034, 6.1).
 use crate::rdata_signed_tests::are_octets;
 use crate::rows::{NameRow, Row, check_held, check_names, check_rows};
-use dns_name::{Name, NameRef, NoMemory, Octets, Text};
+use dns_record::{Name, NameRef, NoMemory, Octets, Text};
 use std::alloc::Global;
 use std::cmp::Ordering;
 use std::hash::{DefaultHasher, Hash, Hasher};
@@ -9,11 +9,7 @@ use std::hash::{DefaultHasher, Hash, Hasher};
 /// Whether it is this text.
 pub(crate) fn is_text(made: Result<Text, NoMemory>, text: &str) -> bool {
     match made {
-        Ok(made) => {
-            let held = made.as_str() == text;
-            drop(made);
-            held
-        }
+        Ok(made) => made.as_str() == text,
         Err(_) => false,
     }
 }
@@ -21,11 +17,7 @@ pub(crate) fn is_text(made: Result<Text, NoMemory>, text: &str) -> bool {
 /// Whether it is the name of this wire form.
 pub(crate) fn is_name(made: Option<Name>, wire: &[u8]) -> bool {
     match made {
-        Some(name) => {
-            let held = *name.wire() == *wire;
-            drop(name);
-            held
-        }
+        Some(name) => *name.wire() == *wire,
         None => false,
     }
 }
@@ -78,11 +70,7 @@ fn are_pair(one: &Name, two: &Name, row: &Pair) -> bool {
 impl NameRow for Pair {
     fn holds(&self, alloc: Global, name: &Name) -> bool {
         match Name::from_ascii(alloc, self.0) {
-            Ok(two) => {
-                let held = are_pair(name, &two, self);
-                drop(two);
-                held
-            }
+            Ok(two) => are_pair(name, &two, self),
             Err(_) => false,
         }
     }

@@ -3,7 +3,7 @@ use crate::name_tests::{is_name, is_text};
 use crate::record_tests::is_shown;
 use crate::rows::{NameRow, Row, check_names, check_rows};
 use dns_model::NameError;
-use dns_name::{Name, Octets};
+use dns_record::{Name, Octets};
 use std::alloc::Global;
 
 /// Four labels of 63 bytes, and one of 64.
@@ -148,12 +148,10 @@ pub(crate) fn labelled(
 /// The name that is made of a label and a name with a wire form of 253 bytes.
 fn joined(alloc: Global, made: &Made, label: &str) -> Result<Name, NameError> {
     let long = Name::from_ascii(alloc, part(LONG, 0, 251))?;
-    let joined = match made {
+    match made {
         Made::InFront => long.prepend_label(label.as_bytes()),
         _ => Name::parse(alloc, label, Some(&long)),
-    };
-    drop(long);
-    joined
+    }
 }
 
 fn named(alloc: Global, made: &Made, text: &str) -> Result<Name, NameError> {
@@ -167,11 +165,7 @@ fn named(alloc: Global, made: &Made, text: &str) -> Result<Name, NameError> {
 impl Row for Limit {
     fn holds(&self, alloc: Global, _name: &str) -> bool {
         match named(alloc, &self.0, part(self.1, self.2, self.3)) {
-            Ok(name) => {
-                let held = self.4 == Ok(name.wire().len());
-                drop(name);
-                held
-            }
+            Ok(name) => self.4 == Ok(name.wire().len()),
             Err(error) => self.4 == Err(error),
         }
     }
@@ -196,9 +190,7 @@ const BELOW: &[(&str, Below)] = &[
 
 fn below_origin(alloc: Global, text: &str) -> Result<Name, NameError> {
     let origin = Name::from_ascii(alloc, "Example.org")?;
-    let below = Name::parse(alloc, text, Some(&origin));
-    drop(origin);
-    below
+    Name::parse(alloc, text, Some(&origin))
 }
 
 impl Row for Below {

@@ -4,12 +4,12 @@ use crate::nsec3_rows::*;
 use crate::record_tests::{query_of, record};
 use crate::rows::{NameRow, Row, check_names, check_rows};
 use dns_denial::{
-    EncloserCandidates, nsec3_covering, verify_nsec3, verify_nsec3_insecure_delegation,
+    EncloserCandidates, Nsec3Parameters, Nsec3Records, nsec3_covering, nsec3_verdict, verify_nsec3,
+    verify_nsec3_insecure_delegation,
 };
 use dns_model::{Answered, NameError, Proof};
-use dns_name::Name;
 use dns_rdata::{Nsec3Record, base32hex_decode, base32hex_encode, nsec3_hash};
-use dns_record::{Query, RecordType, ResponseCode};
+use dns_record::{Name, NameRef, Query, RecordType, ResponseCode};
 use std::alloc::Global;
 
 #[rattlefmt::skip]
@@ -130,9 +130,7 @@ fn names_are_hashed_and_texts_of_hashes_read_in_either_case(rt: HostRuntime) {
 /// A record that can't be read fails its test by this error.
 fn push_nsec3(alloc: Global, records: &mut Vec<Nsec3Record>, told: &Told) -> Result<(), NameError> {
     let from = record(alloc, told.0, 50, told.1)?;
-    let read = Nsec3Record::of(alloc, &from);
-    drop(from);
-    match read? {
+    match Nsec3Record::of(alloc, &from)? {
         Some(nsec3) => Ok(records.push(nsec3)?),
         None => Err(NameError::EmptyLabel),
     }
@@ -169,9 +167,7 @@ fn is_limited(alloc: Global, query: &Query, zone: &Name, row: &Limited) -> bool 
     match records_of(alloc, row.1) {
         Ok(records) => {
             let code = ResponseCode::NO_ERROR;
-            let verdict = verify_nsec3(query, zone, code, row.2, &records, 100, 500);
-            drop(records);
-            verdict == row.3
+            verify_nsec3(query, zone, code, row.2, &records, 100, 500) == row.3
         }
         Err(_) => false,
     }
@@ -180,11 +176,7 @@ fn is_limited(alloc: Global, query: &Query, zone: &Name, row: &Limited) -> bool 
 impl NameRow for Limited {
     fn holds(&self, alloc: Global, zone: &Name) -> bool {
         match query_of(alloc, self.0, RecordType::MX.0) {
-            Ok(query) => {
-                let held = is_limited(alloc, &query, zone, self);
-                drop(query);
-                held
-            }
+            Ok(query) => is_limited(alloc, &query, zone, self),
             Err(_) => false,
         }
     }
@@ -193,6 +185,115 @@ impl NameRow for Limited {
 #[test]
 fn iterations_are_limited(rt: HostRuntime) {
     check_names(&rt, rt.alloc(), LIMITED);
+}
+
+/// A list that counts the names that are hashed.
+#[derive(Clone, Copy)]
+struct Counted<'a>(&'a [Nsec3Record]);
+
+impl<'a> Nsec3Records for Counted<'a> {
+    type Notes = u32;
+
+    ghost records = { λ c. c.0.now };
+
+    fn are_of_zone(&self, zone: &NameRef<'_>) -> bool {
+        self.0.are_of_zone(zone)
+    }
+
+    fn parameters(&self) -> Option<Nsec3Parameters<'_>> {
+        self.0.parameters()
+    }
+
+    fn hash(&self, by: &Nsec3Parameters<'_>, name: &NameRef<'_>, notes: &mut u32) -> [u8; 20] {
+        *notes = notes.saturating_add(1);
+        by.hash(name)
+    }
+
+    fn matching(&self, hash: &[u8; 20], _notes: &mut u32) -> Option<&Nsec3Record> {
+        self.0.matching(hash, &mut ())
+    }
+
+    fn covering(&self, hash: &[u8; 20], _notes: &mut u32) -> Option<&Nsec3Record> {
+        self.0.covering(hash, &mut ())
+    }
+
+    fn wildcard_denies(
+        &self,
+        wildcard: &[u8; 20],
+        record_type: RecordType,
+        _notes: &mut u32,
+    ) -> bool {
+        self.0.wildcard_denies(wildcard, record_type, &mut ())
+    }
+}
+
+/// A name whose records of a type are asked for, records of the row's zone, code and answer, and how many names are hashed for
+/// the verdict with limits 100 and 500.
+struct Hashes(
+    &'static str,
+    RecordType,
+    &'static [Told],
+    ResponseCode,
+    Answered,
+    u32,
+);
+
+const NXDOMAIN: ResponseCode = ResponseCode::NX_DOMAIN;
+
+const NOERROR: ResponseCode = ResponseCode::NO_ERROR;
+
+const MX: RecordType = RecordType::MX;
+
+#[rattlefmt::skip]
+const COUNTS: &[(&str, Hashes)] = &[
+    // the name alone, which a record matches
+    ("example.", Hashes("ns1.example.", MX, NO_MX_AT_NS1, NOERROR, Answered::No, 1)),
+    ("example.", Hashes("ns1.example.", MX, ITERATED_100, NOERROR, Answered::No, 1)),
+    // none: too many iterations, no record, another zone's, a code that denies nothing, an answer that needs no denial
+    ("example.", Hashes("ns1.example.", MX, ITERATED_101, NOERROR, Answered::No, 0)),
+    ("example.", Hashes("ns1.example.", MX, ITERATED_501, NOERROR, Answered::No, 0)),
+    ("example.", Hashes("ns1.example.", MX, &[], NOERROR, Answered::No, 0)),
+    (".", Hashes("ns1.example.", MX, NO_MX_AT_NS1, NOERROR, Answered::No, 0)),
+    ("example.", Hashes("ns1.example.", MX, NO_MX_AT_NS1, ResponseCode::SERV_FAIL, Answered::No, 0)),
+    ("example.", Hashes("ns1.example.", MX, NO_MX_AT_NS1, NOERROR, Answered::Plain, 0)),
+    ("example.", Hashes("ns1.example.", MX, NO_MX_AT_NS1, NXDOMAIN, Answered::Expanded(1), 0)),
+    // each name up to the closest encloser, and the wildcard there
+    ("example.", Hashes("c.example.", MX, NO_OPT_OUT, NXDOMAIN, Answered::No, 3)),
+    ("example.", Hashes("a.c.example.", MX, NO_OPT_OUT, NXDOMAIN, Answered::No, 4)),
+    ("example.", Hashes("a.c.example.", MX, NO_OPT_OUT, NOERROR, Answered::No, 4)),
+    // each name up to the apex, where no closest encloser is shown
+    ("example.", Hashes("a.c.example.", MX, AT_NS2, NXDOMAIN, Answered::No, 3)),
+    // a DS that an opt-out span denies needs no wildcard
+    ("example.", Hashes("c.example.", RecordType::DS, OPT_OUT, NOERROR, Answered::No, 2)),
+    // the next closer name of an expansion, which may be the name
+    ("example.", Hashes("a.c.example.", MX, NO_OPT_OUT, NOERROR, Answered::Expanded(1), 2)),
+    ("example.", Hashes("a.c.example.", MX, NO_OPT_OUT, NOERROR, Answered::Expanded(2), 1)),
+];
+
+fn are_hashed(alloc: Global, query: &Query, zone: &Name, row: &Hashes) -> bool {
+    match records_of(alloc, row.2) {
+        Ok(records) => {
+            let mut count = 0;
+            let counted = Counted(&records);
+            nsec3_verdict(query, zone, row.3, row.4, &counted, 100, 500, &mut count);
+            count == row.5
+        }
+        Err(_) => false,
+    }
+}
+
+impl NameRow for Hashes {
+    fn holds(&self, alloc: Global, zone: &Name) -> bool {
+        match query_of(alloc, self.0, self.1.0) {
+            Ok(query) => are_hashed(alloc, &query, zone, self),
+            Err(_) => false,
+        }
+    }
+}
+
+#[test]
+fn no_name_is_hashed_twice(rt: HostRuntime) {
+    check_names(&rt, rt.alloc(), COUNTS);
 }
 
 /// Records, and whether they show that the row's child isn't signed.
@@ -220,11 +321,7 @@ const UNSIGNED: &[(&str, Unsigned)] = &[
 impl NameRow for Unsigned {
     fn holds(&self, alloc: Global, child: &Name) -> bool {
         match records_of(alloc, self.0) {
-            Ok(records) => {
-                let held = verify_nsec3_insecure_delegation(child, &records) == self.1;
-                drop(records);
-                held
-            }
+            Ok(records) => verify_nsec3_insecure_delegation(child, &records) == self.1,
             Err(_) => false,
         }
     }
@@ -260,9 +357,7 @@ impl Row for Covers {
     fn holds(&self, alloc: Global, _name: &str) -> bool {
         match records_of(alloc, self.1) {
             Ok(records) => {
-                let held = records.len() < 10 && nsec3_covering(&[self.0; 20], &records) == self.2;
-                drop(records);
-                held
+                records.len() < 10 && nsec3_covering(&[self.0; 20], &records) == self.2
             }
             Err(_) => false,
         }
@@ -299,11 +394,7 @@ fn are_counted(name: &Name, zone: &Name, row: &Candidates) -> bool {
 impl NameRow for Candidates {
     fn holds(&self, _alloc: Global, name: &Name) -> bool {
         match name.trim_to(self.0) {
-            Ok(zone) => {
-                let held = are_counted(name, &zone, self);
-                drop(zone);
-                held
-            }
+            Ok(zone) => are_counted(name, &zone, self),
             Err(_) => false,
         }
     }

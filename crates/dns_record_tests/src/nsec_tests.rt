@@ -3,8 +3,8 @@ use crate::record_tests::record;
 use crate::rows::{NameRow, check_names};
 use dns_denial::nsec_covering;
 use dns_model::NameError;
-use dns_name::Name;
 use dns_rdata::NsecRecord;
+use dns_record::Name;
 use std::alloc::Global;
 
 /// An NSEC record: its owner and its rdata.
@@ -13,9 +13,7 @@ type Told = (&'static str, &'static [u8]);
 /// A record that can't be read fails its test by this error.
 fn push_nsec(alloc: Global, records: &mut Vec<NsecRecord>, told: &Told) -> Result<(), NameError> {
     let from = record(alloc, told.0, 47, told.1)?;
-    let read = NsecRecord::of(alloc, &from);
-    drop(from);
-    match read? {
+    match NsecRecord::of(alloc, &from)? {
         Some(nsec) => Ok(records.push(nsec)?),
         None => Err(NameError::EmptyLabel),
     }
@@ -57,11 +55,7 @@ const COVERS: &[(&str, Nearest)] = &[
 impl NameRow for Nearest {
     fn holds(&self, alloc: Global, name: &Name) -> bool {
         match records_of(alloc, self.0) {
-            Ok(records) => {
-                let held = records.len() < 10 && nsec_covering(name, &records) == self.1;
-                drop(records);
-                held
-            }
+            Ok(records) => records.len() < 10 && nsec_covering(name, &records) == self.1,
             Err(_) => false,
         }
     }

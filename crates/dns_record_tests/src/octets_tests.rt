@@ -1,6 +1,6 @@
 //! Octets: copies and parts of few bytes and of many, and octets in another thread.
 use crate::rows::{Row, check_held, check_rows};
-use dns_name::{NoMemory, Octets};
+use dns_record::{NoMemory, Octets};
 use std::alloc::{AllocError, Global};
 use std::thread::spawn;
 
@@ -62,36 +62,25 @@ fn are_counted(octets: &[u8], start: usize, end: usize) -> bool {
 
 /// A part of a part of octets that are gone; an error where they end before.
 fn part_of(octets: Octets, row: &Part) -> Result<Octets, NoMemory> {
-    let whole = octets.part(0, octets.len());
+    let whole = octets.part(0, octets.len())?;
+    // The part stands without them.
     drop(octets);
-    let whole = whole?;
     if row.2 < row.1 || whole.len() < row.2 {
-        drop(whole);
         return Err(NoMemory);
     }
-    let part = whole.part(row.1, row.2);
-    drop(whole);
-    part
+    whole.part(row.1, row.2)
 }
 
 fn is_part(part: Result<Octets, NoMemory>, row: &Part) -> bool {
     match part {
-        Ok(part) => {
-            let held = are_counted(part.as_slice(), row.1, row.2);
-            drop(part);
-            held
-        }
+        Ok(part) => are_counted(part.as_slice(), row.1, row.2),
         Err(_) => false,
     }
 }
 
 fn is_front(front: Result<Vec<u8>, NoMemory>, row: &Part) -> bool {
     match front {
-        Ok(front) => {
-            let held = are_counted(&front, 0, row.2);
-            drop(front);
-            held
-        }
+        Ok(front) => are_counted(&front, 0, row.2),
         Err(_) => false,
     }
 }
@@ -107,10 +96,7 @@ fn is_copied_and_cut(made: Result<Octets, NoMemory>, row: &Part) -> bool {
     match made {
         Ok(octets) => match octets.try_clone() {
             Ok(copy) => are_cut(octets, copy, row),
-            Err(_) => {
-                drop(octets);
-                false
-            }
+            Err(_) => false,
         },
         Err(_) => false,
     }
@@ -133,9 +119,7 @@ const BYTES: &[u8] = &[7; 200];
 
 fn shared(alloc: Global) -> Result<Octets, NoMemory> {
     let octets = Octets::from_slice(alloc, BYTES)?;
-    let copy = octets.try_clone();
-    drop(octets);
-    copy
+    octets.try_clone()
 }
 
 #[test]

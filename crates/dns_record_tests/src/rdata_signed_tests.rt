@@ -2,9 +2,8 @@
 use crate::record_tests::{rdata, record};
 use crate::rows::{Row, check_held, check_rows};
 use dns_model::NameError;
-use dns_name::{Name, NoMemory, Octets};
 use dns_rdata::{Dnskey, Ds, Ns, Nsec, Nsec3, RdataSet, Rrsig, SerialNumber, Soa, signed_data_of};
-use dns_record::{DNSClass, Rdata, Record, RecordType};
+use dns_record::{DNSClass, Name, NoMemory, Octets, Rdata, Record, RecordType};
 use std::alloc::Global;
 
 /// The RRSIG rdata of a signature over the root's NS set: algorithm 13, valid from 900 to 2000, original ttl 3600.
@@ -77,11 +76,7 @@ fn rdatas_of(alloc: Global, all: &[&[u8]]) -> Result<Vec<Rdata>, NoMemory> {
 /// Whether they are these bytes.
 pub(crate) fn are_octets(made: Result<Octets, NoMemory>, bytes: &[u8]) -> bool {
     match made {
-        Ok(made) => {
-            let held = *made.as_slice() == *bytes;
-            drop(made);
-            held
-        }
+        Ok(made) => *made.as_slice() == *bytes,
         Err(_) => false,
     }
 }
@@ -154,11 +149,7 @@ fn is_only_view(from: &Record, place: usize) -> bool {
 impl Row for Viewed {
     fn holds(&self, alloc: Global, _name: &str) -> bool {
         match record(alloc, ".", self.0, self.1) {
-            Ok(from) => {
-                let held = is_only_view(&from, self.2);
-                drop(from);
-                held
-            }
+            Ok(from) => is_only_view(&from, self.2),
             Err(_) => false,
         }
     }

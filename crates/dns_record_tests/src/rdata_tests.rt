@@ -2,9 +2,8 @@
 //! 6605).
 use crate::rdata_signed_tests::are_octets;
 use crate::rows::{NameRow, Row, check_held, check_names, check_rows};
-use dns_name::Name;
 use dns_rdata::{Nsec, SerialNumber, TypeSet, canonical_rdata, ds_covers, has_shape, key_tag};
-use dns_record::RecordType;
+use dns_record::{Name, RecordType};
 use std::alloc::Global;
 use std::cmp::Ordering;
 

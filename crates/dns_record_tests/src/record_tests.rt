@@ -2,8 +2,7 @@
 use crate::name_tests::hash_of;
 use crate::rows::{Row, check_rows};
 use dns_model::{NameError, Proof};
-use dns_name::{Name, NoMemory};
-use dns_record::{DNSClass, Query, Rdata, Record, RecordType};
+use dns_record::{DNSClass, Name, NoMemory, Query, Rdata, Record, RecordType};
 use std::alloc::Global;
 use std::cmp::Ordering;
 use std::fmt::Display;
@@ -64,11 +63,9 @@ const COMPARED: &[(&str, Compared)] = &[
 fn are_one(one: &Query, made: Result<Query, NameError>, same: bool) -> bool {
     match made {
         Ok(two) => {
-            let held = (*one == two) == same
+            (*one == two) == same
                 && (one.cmp(&two) == Ordering::Equal) == same
-                && (hash_of(one) == hash_of(&two)) == same;
-            drop(two);
-            held
+                && (hash_of(one) == hash_of(&two)) == same
         }
         Err(_) => false,
     }
@@ -88,10 +85,8 @@ impl Row for Compared {
     fn holds(&self, alloc: Global, name: &str) -> bool {
         match query_of(alloc, name, self.0) {
             Ok(one) => {
-                let held = are_one(&one, query_of(alloc, self.2, self.3), self.4)
-                    && matches!(is_shown(alloc, &one, self.1), Ok(true));
-                drop(one);
-                held
+                are_one(&one, query_of(alloc, self.2, self.3), self.4)
+                    && matches!(is_shown(alloc, &one, self.1), Ok(true))
             }
             Err(_) => false,
         }

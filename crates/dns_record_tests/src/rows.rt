@@ -1,5 +1,5 @@
 //! What tests share: the assertion on a row, on each row of a table, and on each row whose text is a name.
-use dns_name::Name;
+use dns_record::Name;
 use std::alloc::Global;
 use std::process::Abort;
 
@@ -29,11 +29,7 @@ pub(crate) trait NameRow {
 
 fn is_held<R: NameRow>(alloc: Global, text: &str, row: &R) -> bool {
     match Name::from_ascii(alloc, text) {
-        Ok(name) => {
-            let held = row.holds(alloc, &name);
-            drop(name);
-            held
-        }
+        Ok(name) => row.holds(alloc, &name),
         Err(_) => false,
     }
 }

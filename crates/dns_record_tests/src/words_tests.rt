@@ -1,6 +1,6 @@
+//! The words of types and classes, and their numbers.
 use crate::rows::{Row, check_held, check_rows};
-use dns_name::{NoMemory, Octets};
-use dns_record::{DNSClass, OpCode, RecordType, ResponseCode};
+use dns_record::{DNSClass, NoMemory, Octets, OpCode, RecordType, ResponseCode};
 use dns_text::*;
 use std::alloc::Global;
 
@@ -133,11 +133,7 @@ const WRITTEN: &[(&str, Written)] = &[
 
 fn are_octets(read: Result<Option<Octets>, NoMemory>, want: &[u8]) -> bool {
     match read {
-        Ok(Some(octets)) => {
-            let held = *octets.as_slice() == *want;
-            drop(octets);
-            held
-        }
+        Ok(Some(octets)) => *octets.as_slice() == *want,
         _ => false,
     }
 }

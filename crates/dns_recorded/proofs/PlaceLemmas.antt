@@ -57,7 +57,8 @@ pub unchanged : {Z : Type 0} (old new : BTreeMap QueryKey (VecDeque ℕ Z)) (key
 unchanged old new key w items updates k =
     changed_at old new key w (λ ps. ps) items updates k ∙ same-case (query_places old k) (is_eq (key_cmp key k))
 
-dropped-case : {Z : Type 0} (old : BTreeMap QueryKey (VecDeque ℕ Z)) (key k : QueryKey) → tree.get key_cmp old key ≡ None → (b : Bool) → is_eq (key_cmp key k) ≡ b
+dropped-case : {Z : Type 0} (old : BTreeMap QueryKey (VecDeque ℕ Z)) (key k : QueryKey) → tree.get key_cmp old key ≡ None
+    → (b : Bool) → is_eq (key_cmp key k) ≡ b
     → query_places old k ≡ cond b (drop 1 (query_places old k)) (query_places old k)
 dropped-case old key k none true tied =
     let empty : query_places old k ≡ [] = ap queue_items (sym (get-same old key k (tied_equal (key_cmp key k) tied)) ∙ none) in
@@ -65,7 +66,8 @@ dropped-case old key k none true tied =
 dropped-case old key k none false tied = refl
 
 -- a key without a queue has no place to lose
-pub dropped_none : {Z : Type 0} (old : BTreeMap QueryKey (VecDeque ℕ Z)) (key : QueryKey) → tree.get key_cmp old key ≡ None → Dropped old old key
+pub dropped_none : {Z : Type 0} (old : BTreeMap QueryKey (VecDeque ℕ Z)) (key : QueryKey) → tree.get key_cmp old key ≡ None
+    → Dropped old old key
 dropped_none old key none k = dropped-case old key k none (is_eq (key_cmp key k)) refl
 
 -- what holds anyway holds after an error

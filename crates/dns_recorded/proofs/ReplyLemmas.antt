@@ -35,14 +35,16 @@ question_left a b q same =
 
 -- ---- places
 
-places_from-append : (q : Question) (n : ℕ) (xs ys : List Slot) → places_from q n (xs ++ ys) ≡ places_from q n xs ++ places_from q (n + length xs) ys
+places_from-append : (q : Question) (n : ℕ) (xs ys : List Slot) → places_from q n (xs ++ ys) ≡ places_from q n xs
+    ++ places_from q (n + length xs) ys
 unfolding places_from
 places_from-append q n [] ys = rw add-zero refl
 places_from-append q n (x ∷ xs) ys =
     let e : n + length (x ∷ xs) ≡ (n + 1) + length xs = omega arith in
     let ih : places_from q (n + 1) (xs ++ ys) ≡ places_from q (n + 1) xs ++ places_from q (n + length (x ∷ xs)) ys =
     places_from-append q (n + 1) xs ys ∙ ap (λ m. places_from q (n + 1) xs ++ places_from q m ys) (sym e) in
-    elim (is_for q x) as (λ b. cond b (n ∷ places_from q (n + 1) (xs ++ ys)) (places_from q (n + 1) (xs ++ ys)) ≡ cond b (n ∷ places_from q (n + 1) xs) (places_from q (n + 1) xs) ++ places_from q (n + length (x ∷ xs)) ys) [
+    elim (is_for q x) as (λ b. cond b (n ∷ places_from q (n + 1) (xs ++ ys)) (places_from q (n + 1) (xs ++ ys))
+    ≡ cond b (n ∷ places_from q (n + 1) xs) (places_from q (n + 1) xs) ++ places_from q (n + length (x ∷ xs)) ys) [
       | true ↦ ap (λ ps. n ∷ ps) ih
       | false ↦ ih
     ]
@@ -68,7 +70,8 @@ unfolding places_from
 answered-places q n [] = refl
 answered-places q n (None ∷ xs) = answered-places q (n + 1) xs
 answered-places q n (Some told ∷ xs) =
-    elim (question_eq told.0 q) as (λ b. (b || is_answered (left xs) q) ≡ is_some_place (cond b (n ∷ places_from q (n + 1) xs) (places_from q (n + 1) xs))) [
+    elim (question_eq told.0 q) as (λ b. (b || is_answered (left xs) q)
+    ≡ is_some_place (cond b (n ∷ places_from q (n + 1) xs) (places_from q (n + 1) xs))) [
       | true ↦ refl
       | false ↦ answered-places q (n + 1) xs
     ]
@@ -120,13 +123,15 @@ here q n told slots place rest asked found =
       found = rw asked found;
     }
 
-first_of : (q : Question) (n : ℕ) (told : Question × Reply) (slots : List Slot) (place : ℕ) (rest : List ℕ) (b : Bool) → question_eq told.0 q ≡ b
+first_of : (q : Question) (n : ℕ) (told : Question × Reply) (slots : List Slot) (place : ℕ) (rest : List ℕ) (b : Bool)
+    → question_eq told.0 q ≡ b
     → cond b (n ∷ places_from q (n + 1) slots) (places_from q (n + 1) slots) ≡ place ∷ rest
     → (places_from q (n + 1) slots ≡ place ∷ rest → First q (n + 1) slots place rest) → First q n (Some told ∷ slots) place rest
 first_of q n told slots place rest true asked found later = here q n told slots place rest asked found
 first_of q n told slots place rest false asked found later = further q n (Some told) slots place rest asked (later found)
 
-pub first : (q : Question) (n : ℕ) (slots : List Slot) (place : ℕ) (rest : List ℕ) → places_from q n slots ≡ place ∷ rest → First q n slots place rest
+pub first : (q : Question) (n : ℕ) (slots : List Slot) (place : ℕ) (rest : List ℕ) → places_from q n slots ≡ place ∷ rest
+    → First q n slots place rest
 unfolding places_from
 first q n [] place rest found = absurd cc
 first q n (None ∷ slots) place rest found = further q n None slots place rest refl (first q (n + 1) slots place rest found)
@@ -141,7 +146,8 @@ reply_to-append q (x ∷ xs) ys none =
     let parts = or_parts (question_eq x.0 q) (is_answered xs q) none in
     rw parts.0 (reply_to-append q xs ys parts.1)
 
-after_turn-append : (q : Question) (xs ys : List (Question × Reply)) → is_answered xs q ≡ false → after_turn (xs ++ ys) q ≡ xs ++ after_turn ys q
+after_turn-append : (q : Question) (xs ys : List (Question × Reply)) → is_answered xs q ≡ false
+    → after_turn (xs ++ ys) q ≡ xs ++ after_turn ys q
 unfolding after_turn
 after_turn-append q [] ys none = refl
 after_turn-append q (x ∷ xs) ys none =
@@ -175,11 +181,13 @@ pub left-push : (slots : List Slot) (told : Question × Reply) → left (slots +
 left-push slots told = left-behind slots told []
 
 -- the replies before the first are to other questions
-others : (q : Question) (slots : List Slot) (place : ℕ) (rest : List ℕ) (f : First q 0 slots place rest) → is_answered (left f.pre) q ≡ false
+others : (q : Question) (slots : List Slot) (place : ℕ) (rest : List ℕ) (f : First q 0 slots place rest)
+    → is_answered (left f.pre) q ≡ false
 others q slots place rest f = answered-places q 0 f.pre ∙ ap is_some_place f.before
 
 -- the reply at the first place is the first reply
-pub reply_at-first : (q : Question) (slots : List Slot) (place : ℕ) (rest : List ℕ) → First q 0 slots place rest → reply_to (left slots) q ≡ reply_at slots place
+pub reply_at-first : (q : Question) (slots : List Slot) (place : ℕ) (rest : List ℕ) → First q 0 slots place rest
+    → reply_to (left slots) q ≡ reply_at slots place
 unfolding reply_to
 reply_at-first q slots place rest f =
     let here : length f.pre ≡ place = omega (arith, f.here) in
@@ -195,7 +203,8 @@ turned : (q : Question) (slots : List Slot) (place : ℕ) (rest : List ℕ) (f :
 unfolding after_turn
 turned q slots place rest f =
     let more : is_answered (left f.post) q ≡ is_some_place rest = answered-places q (place + 1) f.post ∙ ap is_some_place f.behind in
-    let turn : after_turn (f.told ∷ left f.post) q ≡ cond (is_some_place rest) (left f.post) (f.told ∷ left f.post) = rw (f.asked, more) refl in
+    let turn : after_turn (f.told ∷ left f.post) q ≡ cond (is_some_place rest) (left f.post) (f.told ∷ left f.post) =
+    rw (f.asked, more) refl in
     ap (λ l. after_turn (left l) q) f.whole ∙ ap (λ l. after_turn l q) (left-behind f.pre f.told f.post)
     ∙ after_turn-append q (left f.pre) (f.told ∷ left f.post) (others q slots place rest f) ∙ ap (λ l. left f.pre ++ l) turn
 
@@ -204,7 +213,8 @@ pub last_stays : (q : Question) (slots : List Slot) (place : ℕ) → First q 0 
 last_stays q slots place f = turned q slots place [] f ∙ sym (left-behind f.pre f.told f.post) ∙ ap left (sym f.whole)
 
 -- the slots without what stands first
-gone : (q : Question) (slots : List Slot) (place : ℕ) (rest : List ℕ) (f : First q 0 slots place rest) → slice_set slots place None ≡ f.pre ++ None ∷ f.post
+gone : (q : Question) (slots : List Slot) (place : ℕ) (rest : List ℕ) (f : First q 0 slots place rest)
+    → slice_set slots place None ≡ f.pre ++ None ∷ f.post
 gone q slots place rest f =
     let here : length f.pre ≡ place = omega (arith, f.here) in
     rw (f.whole, ← here) (set-append_seam f.pre (Some f.told) f.post None)
@@ -218,8 +228,10 @@ first_goes q slots place next rest f =
 -- ---- the map from keys to places
 
 -- a reply more, and its place
-pub index_more : {Z : Type 0} (old new : BTreeMap QueryKey (VecDeque ℕ Z)) (slots : List Slot) (k : Question) (key : QueryKey) (place : ℕ) (r : Reply)
-    → IndexesReplies old slots → key ≡ key_of k → place ≡ length slots → NotedPlace old new key place → IndexesReplies new (slots ++ Some (k, r) ∷ [])
+pub index_more : {Z : Type 0} (old new : BTreeMap QueryKey (VecDeque ℕ Z)) (slots : List Slot) (k : Question) (key : QueryKey)
+    (place : ℕ) (r : Reply)
+    → IndexesReplies old slots → key ≡ key_of k → place ≡ length slots → NotedPlace old new key place
+    → IndexesReplies new (slots ++ Some (k, r) ∷ [])
 unfolding places_from
 index_more old new slots k key place r before same end noted q =
     noted (key_of q) ∙ ap (λ ps. ps ++ cond (is_eq (key_cmp key (key_of q))) (place ∷ []) []) (before q)
@@ -230,27 +242,33 @@ index_more old new slots k key place r before same end noted q =
 
 -- the places with a slot in the midst
 places_from-behind : (q : Question) (pre : List Slot) (slot : Slot) (post : List Slot)
-    → places_from q 0 (pre ++ slot ∷ post) ≡ places_from q 0 pre ++ cond (is_for q slot) (length pre ∷ places_from q (length pre + 1) post) (places_from q (length pre + 1) post)
+    → places_from q 0 (pre ++ slot ∷ post) ≡ places_from q 0 pre
+    ++ cond (is_for q slot) (length pre ∷ places_from q (length pre + 1) post) (places_from q (length pre + 1) post)
 unfolding places_from
 places_from-behind q pre slot post = places_from-append q 0 pre (slot ∷ post) ∙ rw zero-add refl
 
 -- at a question that is equal the first place goes, and at others none
-places_less : (q r : Question) (slots : List Slot) (place : ℕ) (rest : List ℕ) (f : First q 0 slots place rest) (b : Bool) → question_eq q r ≡ b
+places_less : (q r : Question) (slots : List Slot) (place : ℕ) (rest : List ℕ) (f : First q 0 slots place rest) (b : Bool)
+    → question_eq q r ≡ b
     → cond b (drop 1 (places_from r 0 slots)) (places_from r 0 slots) ≡ places_from r 0 (f.pre ++ None ∷ f.post)
 places_less q r slots place rest f true same =
     let here : length f.pre ≡ place = omega (arith, f.here) in
     let without : places_from q 0 (f.pre ++ None ∷ f.post) ≡ rest =
-    places_from-behind q f.pre None f.post ∙ ap (λ ps. ps ++ places_from q (length f.pre + 1) f.post) f.before ∙ ap (λ n. places_from q (n + 1) f.post) here ∙ f.behind in
+    places_from-behind q f.pre None f.post ∙ ap (λ ps. ps ++ places_from q (length f.pre + 1) f.post) f.before
+    ∙ ap (λ n. places_from q (n + 1) f.post) here ∙ f.behind in
     ap (drop 1) (sym (places_alike q r same 0 slots) ∙ f.found) ∙ sym without ∙ places_alike q r same 0 (f.pre ++ None ∷ f.post)
 places_less q r slots place rest f false apart =
     let other : question_eq f.told.0 r ≡ false = question_left f.told.0 q r f.asked ∙ apart in
     ap (places_from r 0) f.whole ∙ places_from-behind r f.pre (Some f.told) f.post
-    ∙ ap (λ b. places_from r 0 f.pre ++ cond b (length f.pre ∷ places_from r (length f.pre + 1) f.post) (places_from r (length f.pre + 1) f.post)) other
+    ∙ ap (λ b. places_from r 0 f.pre
+    ++ cond b (length f.pre ∷ places_from r (length f.pre + 1) f.post) (places_from r (length f.pre + 1) f.post)) other
     ∙ sym (places_from-behind r f.pre None f.post)
 
 -- a reply less, and its place
-pub index_less : {Z : Type 0} (old new : BTreeMap QueryKey (VecDeque ℕ Z)) (slots : List Slot) (q : Question) (key : QueryKey) (place : ℕ) (rest : List ℕ)
-    → IndexesReplies old slots → key ≡ key_of q → First q 0 slots place rest → Dropped old new key → IndexesReplies new (slice_set slots place None)
+pub index_less : {Z : Type 0} (old new : BTreeMap QueryKey (VecDeque ℕ Z)) (slots : List Slot) (q : Question) (key : QueryKey)
+    (place : ℕ) (rest : List ℕ)
+    → IndexesReplies old slots → key ≡ key_of q → First q 0 slots place rest → Dropped old new key
+    → IndexesReplies new (slice_set slots place None)
 index_less old new slots q key place rest before same f dropped r =
     dropped (key_of r) ∙ ap (λ ps. cond (is_eq (key_cmp key (key_of r))) (drop 1 ps) ps) (before r)
     ∙ ap (λ x. cond (is_eq (key_cmp x (key_of r))) (drop 1 (places_from r 0 slots)) (places_from r 0 slots)) same
@@ -259,6 +277,7 @@ index_less old new slots q key place rest before same f dropped r =
     ∙ ap (places_from r 0) (sym (gone q slots place rest f))
 
 -- a map without keys has the places of no replies
-pub index_none : {Z : Type 0} (places : BTreeMap QueryKey (VecDeque ℕ Z)) (slots : List Slot) → places.entries ≡ [] → slots ≡ [] → IndexesReplies places slots
+pub index_none : {Z : Type 0} (places : BTreeMap QueryKey (VecDeque ℕ Z)) (slots : List Slot) → places.entries ≡ []
+    → slots ≡ [] → IndexesReplies places slots
 unfolding places_from
 index_none places slots empty none q = rw none (ap (λ es. queue_items (lookup (λ k. is_eq (key_cmp (key_of q) k)) es)) empty)

@@ -18,7 +18,8 @@ use Rattle.dns_recorded.proofs.ReplyLemmas.{First, first, unanswered, reply_at-f
 abbrev pub told_by : List Slot → Bool → Replies
 told_by slots by_turn = replies_by by_turn (left slots)
 
-all_stay : (q : Question) (told : List (Question × Reply)) (by_turn : Bool) → after_turn told q ≡ told → cond by_turn (after_turn told q) told ≡ told
+all_stay : (q : Question) (told : List (Question × Reply)) (by_turn : Bool) → after_turn told q ≡ told
+    → cond by_turn (after_turn told q) told ≡ told
 all_stay q told true same = same
 all_stay q told false same = refl
 
@@ -35,7 +36,8 @@ pub record Going (q : Question) (slots : List Slot) (by_turn : Bool) (place : �
   pub first : First q 0 slots place (next ∷ rest)
   pub turn : by_turn ≡ true
 
-staying_by : (q : Question) (slots : List Slot) (by_turn : Bool) (turn : Turn) (ps : List ℕ) → places_from q 0 slots ≡ ps → Some turn ≡ turn_in by_turn ps
+staying_by : (q : Question) (slots : List Slot) (by_turn : Bool) (turn : Turn) (ps : List ℕ) → places_from q 0 slots ≡ ps
+    → Some turn ≡ turn_in by_turn ps
     → turn.stays ≡ true → Staying q slots by_turn turn.place
 staying_by q slots by_turn turn [] found next stays = absurd cc
 staying_by q slots by_turn turn (place ∷ []) found next stays =
@@ -47,18 +49,26 @@ staying_by q slots false turn (place ∷ other ∷ rest) found next stays =
     let here : place ≡ turn.place = cc in
     record { rest = other ∷ rest; first = first q 0 slots turn.place (other ∷ rest) (found ∙ ap (λ p. p ∷ other ∷ rest) here); kept = refl }
 
-going_by : (q : Question) (slots : List Slot) (by_turn : Bool) (turn : Turn) (ps : List ℕ) → places_from q 0 slots ≡ ps → Some turn ≡ turn_in by_turn ps
+going_by : (q : Question) (slots : List Slot) (by_turn : Bool) (turn : Turn) (ps : List ℕ) → places_from q 0 slots ≡ ps
+    → Some turn ≡ turn_in by_turn ps
     → turn.stays ≡ false → Going q slots by_turn turn.place
 going_by q slots by_turn turn [] found next stays = absurd cc
 going_by q slots by_turn turn (place ∷ []) found next stays = absurd cc
 going_by q slots false turn (place ∷ other ∷ rest) found next stays = absurd cc
 going_by q slots true turn (place ∷ other ∷ rest) found next stays =
     let here : place ≡ turn.place = cc in
-    record { next = other; rest = rest; first = first q 0 slots turn.place (other ∷ rest) (found ∙ ap (λ p. p ∷ other ∷ rest) here); turn = refl }
+    record {
+      next = other;
+      rest = rest;
+      first = first q 0 slots turn.place (other ∷ rest) (found ∙ ap (λ p. p ∷ other ∷ rest) here);
+      turn = refl;
+    }
 
 -- the next reply to a question, as the map has it
-pub next : {Z : Type 0} (places : BTreeMap QueryKey (VecDeque ℕ Z)) (slots : List Slot) (q : Question) (key : QueryKey) (by_turn : Bool) (turn : Option Turn)
-    → IndexesReplies places slots → key ≡ key_of q → turn ≡ turn_in by_turn (query_places places key) → turn ≡ turn_in by_turn (places_from q 0 slots)
+pub next : {Z : Type 0} (places : BTreeMap QueryKey (VecDeque ℕ Z)) (slots : List Slot) (q : Question) (key : QueryKey)
+    (by_turn : Bool) (turn : Option Turn)
+    → IndexesReplies places slots → key ≡ key_of q → turn ≡ turn_in by_turn (query_places places key)
+    → turn ≡ turn_in by_turn (places_from q 0 slots)
 next places slots q key by_turn turn index same found =
     found ∙ ap (λ k. turn_in by_turn (query_places places k)) same ∙ ap (turn_in by_turn) (index q)
 
@@ -75,7 +85,8 @@ serves_none q slots by_turn found =
     inl (sym un.reply, ap (replies_by by_turn) (sym (all_stay q (left slots) by_turn un.kept)))
 
 -- a reply that stays
-pub serves_copy : (q : Question) (slots : List Slot) (by_turn : Bool) (turn : Turn) (reply : Reply) → Some turn ≡ turn_in by_turn (places_from q 0 slots)
+pub serves_copy : (q : Question) (slots : List Slot) (by_turn : Bool) (turn : Turn) (reply : Reply)
+    → Some turn ≡ turn_in by_turn (places_from q 0 slots)
     → turn.stays ≡ true → (reply ≡ Err seen.NoMemory) ⊎ (reply ≡ reply_at slots turn.place)
     → IsServed (told_by slots by_turn) (Some q) (told_by slots by_turn) reply
 serves_copy q slots by_turn turn reply found stays copied =
@@ -90,7 +101,8 @@ pub going : (q : Question) (slots : List Slot) (by_turn : Bool) (turn : Turn) �
     → turn.stays ≡ false → Going q slots by_turn turn.place
 going q slots by_turn turn found stays = going_by q slots by_turn turn (places_from q 0 slots) refl found stays
 
-pub serves_turn : (q : Question) (slots : List Slot) (by_turn : Bool) (place : ℕ) (reply : Reply) → Going q slots by_turn place → reply ≡ reply_at slots place
+pub serves_turn : (q : Question) (slots : List Slot) (by_turn : Bool) (place : ℕ) (reply : Reply) → Going q slots by_turn place
+    → reply ≡ reply_at slots place
     → IsServed (told_by slots by_turn) (Some q) (told_by (slice_set slots place None) by_turn) reply
 serves_turn q slots by_turn place reply g same =
     let goes : left (slice_set slots place None) ≡ cond by_turn (after_turn (left slots) q) (left slots) =

@@ -1,2 +1,3 @@
+-- What contracts of this crate name, by subject.
 pub mod Recording
 pub mod RecordedPlaces

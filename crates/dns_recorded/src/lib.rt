@@ -1,4 +1,5 @@
-//! `Recorded`, a handle that answers from replies that were put in. The layer above may use it as a handle that tells its replies.
+//! `Recorded`, a handle that answers from replies that were put in. The layer above may use it as a handle whose
+//! replies are known beforehand.
 #![tactic(auto)]
 
 mod recorded;

@@ -1,3 +1,4 @@
+//! `Recorded`, and how it is put to and asked.
 ghost use Rattle.std.specs.Prelude.{◌≡◌, ◌∷◌, ◌++◌, true, false, [], Some, OnOk, OnErr};
 ghost use Rattle.dns_handle.specs.Replies.{reply_of};
 ghost use Rattle.dns_handle.specs.Requests.{first_question};
@@ -7,8 +8,7 @@ ghost use Rattle.dns_recorded.specs.RecordedPlaces.{replies_by};
 
 use crate::reply_list::ReplyList;
 use dns_handle::{DnsHandle, DnsRequest, DnsResponse, NetError, faults_after};
-use dns_name::NoMemory;
-use dns_record::Query;
+use dns_record::{NoMemory, Query};
 use std::alloc::Global;
 use std::marker::Model;
 
@@ -32,6 +32,14 @@ impl Model for Recorded {
 
 impl Recorded {
     /// A handle with no reply, whose first reply to a query serves each send of it.
+    ///
+    /// ```
+    /// fn recorded(alloc: Global, query: Query, response: DnsResponse) -> Result<Recorded, NoMemory> {
+    ///     let mut upstream = Recorded::new(alloc);
+    ///     upstream.push(query, Ok(response))?;
+    ///     Ok(upstream)
+    /// }
+    /// ```
     pub fn new(alloc: Global) -> Recorded
         ensures { result ≡ record { sends = 0; faults = 0; replies = []; by_turn = false } }
     {
@@ -56,7 +64,7 @@ impl Recorded {
         }
     }
 
-    /// Puts a reply behind the others. After an error, which is want of memory, nothing has changed.
+    /// Puts a reply behind the others. Where memory runs out, which is the only error, nothing has changed.
     pub fn push(
         &mut self,
         query: Query,
@@ -70,7 +78,7 @@ impl Recorded {
     }
 }
 
-/// The reply to the request's first question, or `Timeout` where it has none.
+// The reply to the request's first question, or `Timeout` where it has none.
 fn next_reply(
     list: &mut ReplyList,
     request: &DnsRequest,
@@ -104,5 +112,9 @@ impl DnsHandle for Recorded {
         self.sends = self.sends.saturating_add(1);
         self.faults = faults_after(self.faults, &reply);
         reply
+    }
+
+    fn is_using_edns(&self) -> bool {
+        true
     }
 }

@@ -1,3 +1,4 @@
+//! Replies that are left, each to its query.
 ghost use Rattle.std.specs.Prelude.{◌≡◌, ◌<◌, ◌⊎◌, ◌∷◌, ◌++◌, [], None, Some, Err, OnOk, OnErr, length, slice_set};
 ghost use Rattle.dns_handle.specs.Errors as seen;
 ghost use Rattle.dns_handle.specs.Replies.{reply_of};
@@ -6,8 +7,7 @@ ghost use Rattle.dns_recorded.specs.RecordedPlaces.{replies_by, reply_at};
 
 use crate::reply_places::{ReplyPlaces, drop_place, note_place, turn_of};
 use dns_handle::{DnsResponse, NetError, QueryKey};
-use dns_name::NoMemory;
-use dns_record::Query;
+use dns_record::{NoMemory, Query};
 use std::alloc::Global;
 use std::collections::BTreeMap;
 use std::marker::Model;
@@ -28,12 +28,10 @@ impl Model for Recording {
     ghost view = { λ r. (r.query, reply_of r.reply) };
 }
 
-// By hand, so that a function that lets a recording go calls this, whatever the reply is.
+// By hand, so that a function that drops a recording calls this, whatever the reply is.
 impl Drop for Recording {
     fn drop(self) {
-        let Recording { query, reply } = self;
-        drop(query);
-        drop(reply);
+        let Recording { query: _, reply: _ } = self;
     }
 }
 
@@ -41,8 +39,7 @@ impl Recording {
     fn into_reply(self) -> Result<DnsResponse, NetError>
         ensures { reply_of result ≡ self.1 }
     {
-        let Recording { query, reply } = self;
-        drop(query);
+        let Recording { query: _, reply } = self;
         reply
     }
 }
@@ -68,23 +65,17 @@ impl Model for ReplyList {
     ghost invariant = { λ r. IndexesReplies r.places r.recordings.items };
 }
 
-/// An equal reply in memory of its own, or want of memory.
+// An equal reply in memory of its own, or that memory ran out.
 fn clone_reply(reply: &Result<DnsResponse, NetError>) -> Result<DnsResponse, NetError>
     ensures { (reply_of result ≡ Err seen.NoMemory) ⊎ (reply_of result ≡ reply_of reply.now) }
 {
     match reply {
-        Ok(response) => {
-            let response = response.try_clone()?;
-            Ok(response)
-        }
-        Err(error) => {
-            let error = error.try_clone()?;
-            Err(error)
-        }
+        Ok(response) => Ok(response.try_clone()?),
+        Err(error) => Err(error.try_clone()?),
     }
 }
 
-/// The reply at a place, or `Timeout` where none stands there.
+// The reply at a place, or `Timeout` where none stands there.
 fn clone_at(recordings: &[Option<Recording>], place: usize) -> Result<DnsResponse, NetError>
     ensures { (reply_of result ≡ Err seen.NoMemory) ⊎ (reply_of result ≡ reply_at recordings.now place) }
 {
@@ -94,7 +85,7 @@ fn clone_at(recordings: &[Option<Recording>], place: usize) -> Result<DnsRespons
     }
 }
 
-/// Takes the reply at a place away, or `Timeout` where none stands there.
+// Takes the reply at a place away, or `Timeout` where none stands there.
 fn take_at(recordings: &mut Vec<Option<Recording>>, place: usize) -> Result<DnsResponse, NetError>
     requires { place < length recordings.old.items }
     ensures reply { reply_of result ≡ reply_at recordings.old.items place }

@@ -1,8 +1,9 @@
+//! Where the replies to each query stand.
 ghost use Rattle.std.specs.Prelude.{◌≡◌, OnOk, OnErr};
 ghost use Rattle.dns_recorded.specs.RecordedPlaces.{query_places, turn_in, SamePlaces, NotedPlace, Dropped};
 
 use dns_handle::QueryKey;
-use dns_name::NoMemory;
+use dns_record::NoMemory;
 use std::alloc::Global;
 use std::collections::{BTreeMap, VecDeque};
 

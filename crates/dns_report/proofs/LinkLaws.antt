@@ -62,7 +62,8 @@ fits_key_set owner class keys h =
     let b = and_parts (is_u16 class) (list_all fitting_key keys) a.1 in
     record { named = a.0; classed = b.0; keyed = b.1 }
 
-pub record FitsSigned (owner : Labels) (class rtype : ℕ) (rdatas : List (List ℕ)) (sig : List ℕ) (key_link : ℕ) (key : List ℕ) : Type 0 where
+pub record FitsSigned (owner : Labels) (class rtype : ℕ) (rdatas : List (List ℕ)) (sig : List ℕ) (key_link : ℕ)
+    (key : List ℕ) : Type 0 where
   pub named : fitting_name owner ≡ true
   pub classed : is_u16 class ≡ true
   pub typed : is_u16 rtype ≡ true
@@ -76,7 +77,8 @@ pub fits_signed : (owner : Labels) (class rtype : ℕ) (rdatas : List (List ℕ)
     → FitsSigned owner class rtype rdatas sig key_link key
 fits_signed owner class rtype rdatas sig key_link key h =
     let a =
-    and_parts (fitting_name owner) (is_u16 class && (is_u16 rtype && (is_u32 key_link && (is_bytes key && (is_bytes sig && list_all is_bytes rdatas))))) h in
+    and_parts (fitting_name owner) (is_u16 class
+    && (is_u16 rtype && (is_u32 key_link && (is_bytes key && (is_bytes sig && list_all is_bytes rdatas))))) h in
     let b =
     and_parts (is_u16 class) (is_u16 rtype && (is_u32 key_link && (is_bytes key && (is_bytes sig && list_all is_bytes rdatas)))) a.1 in
     let c =
@@ -93,7 +95,13 @@ link_good (Anchored owner class key) h =
     (printed_word owner, class_good class f.classed, octets_is_word key f.keyed) refl
 link_good (Matched owner class key ds_link ds) h =
     let f = fits_matched owner class key ds_link ds h in
-    rw (printed_word owner, class_good class f.classed, octets_is_word key f.keyed, number_good ds_link f.linked, octets_is_word ds f.shown) refl
+    rw (
+      printed_word owner,
+      class_good class f.classed,
+      octets_is_word key f.keyed,
+      number_good ds_link f.linked,
+      octets_is_word ds f.shown,
+    ) refl
 link_good (KeySet owner class keys) h =
     let f =
     fits_key_set owner class keys h in rw (printed_word owner, class_good class f.classed, keys_good keys f.keyed) refl
@@ -199,7 +207,10 @@ chain_tells c d x y first second h =
     counted_tell (one_line link_of) fitting_link (one_line_tells link_of fitting_link link_tells) c.links d.links x y
     (decimal_injective (length c.links) (length d.links) one.count two.count count) one.links two.links
     (other_lines h) in
-    record { value = chain_same c.section d.section c.links d.links (section_injective c.section d.section section) links.value; rest = links.rest }
+    record {
+      value = chain_same c.section d.section c.links d.links (section_injective c.section d.section section) links.value;
+      rest = links.rest;
+    }
 
 -- the lines of chains tell the chains
 pub chains_tell : (cs ds : List ChainView) (x y : List Line) → list_all fitting_chain cs ≡ true

@@ -7,7 +7,7 @@ use Rattle.dns_model.specs.Bytes.{is_bytes}
 use Rattle.dns_model.specs.Names.{Label, Labels, is_name}
 use Rattle.dns_model.specs.NameText.{dot, backslash, is_special, is_printable, three_digits, printed_byte, printed_label, printed, read_name}
 use Rattle.dns_model.specs.declared.name_error.NameError.{NameError}
-use Rattle.dns_name.proofs.TextLemmas.{read_printed}
+use Rattle.dns_record.proofs.TextLemmas.{read_printed}
 use Rattle.dns_text.proofs.WordShapes.{is_word, word_append}
 
 digits_word : (byte : ℕ) → is_word (three_digits byte) ≡ true

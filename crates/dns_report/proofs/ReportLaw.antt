@@ -80,7 +80,8 @@ pub others_begin : (v : View)
 others_begin v =
     blocks_start (one_line (record_of Authority)) (named (section_word Answer)) (λ r x. refl) v.authorities
     (section_lines Additional v.additionals (later_lines v))
-    (blocks_start (one_line (record_of Additional)) (named (section_word Answer)) (λ r x. refl) v.additionals (later_lines v) (later_begins Answer v))
+    (blocks_start (one_line (record_of Additional)) (named (section_word Answer)) (λ r x. refl) v.additionals (later_lines v)
+    (later_begins Answer v))
 
 -- ---- the whole
 

@@ -19,8 +19,11 @@ use Rattle.dns_report.proofs.LineBlocks.{Block, blocks, one_line, blocks_are}
 use Rattle.dns_report.proofs.StepLines.{trail_lines, trail_is}
 
 abbrev pub record_of : Section → Rr → Line
-record_of section r =
-    (section_word section, printed r.owner ∷ class_word r.class ∷ type_word r.rtype ∷ decimal r.ttl ∷ mark_word r.proof ∷ octets_word r.rdata ∷ [])
+record_of section r = (
+  section_word section,
+  printed r.owner ∷ class_word r.class ∷ type_word r.rtype ∷ decimal r.ttl ∷ mark_word
+      r.proof ∷ octets_word r.rdata ∷ [],
+)
 
 -- the lines of a section's records, and those that follow
 abbrev pub section_lines : Section → List Rr → List Line → List Line
@@ -31,8 +34,11 @@ link_of (Anchored owner class key) = (codes "anchored", printed owner ∷ class_
 link_of (Matched owner class key ds_link ds) =
     (codes "matched", printed owner ∷ class_word class ∷ octets_word key ∷ decimal ds_link ∷ octets_word ds ∷ [])
 link_of (KeySet owner class keys) = (codes "keyset", printed owner ∷ class_word class ∷ key_words keys)
-link_of (Signed owner class rtype rdatas sig key_link key) =
-    (codes "signed", printed owner ∷ class_word class ∷ type_word rtype ∷ decimal key_link ∷ octets_word key ∷ octets_word sig ∷ map octets_word rdatas)
+link_of (Signed owner class rtype rdatas sig key_link key) = (
+  codes "signed",
+  printed owner ∷ class_word class ∷ type_word rtype ∷ decimal key_link ∷ octets_word key ∷ octets_word
+      sig ∷ map octets_word rdatas,
+)
 
 abbrev pub front_of : ChainView → Line
 front_of chain = (codes "chain", section_word chain.section ∷ decimal (length chain.links) ∷ [])

@@ -49,7 +49,14 @@ fits_told r h =
 pub told_good : (section : Section) (r : ToldRecord) → fitting_told r ≡ true → is_line (told_of section r) ≡ true
 told_good section r h =
     let f = fits_told r h in
-    rw (section_is_word section, printed_word r.owner, class_good r.class f.class, type_good r.rtype f.rtype, number_good r.ttl f.ttl, octets_is_word r.rdata f.rdata) refl
+    rw (
+      section_is_word section,
+      printed_word r.owner,
+      class_good r.class f.class,
+      type_good r.rtype f.rtype,
+      number_good r.ttl f.ttl,
+      octets_is_word r.rdata f.rdata,
+    ) refl
 
 told_same : (r q : ToldRecord) → r.owner ≡ q.owner → r.rtype ≡ q.rtype → r.class ≡ q.class → r.ttl ≡ q.ttl
     → r.rdata ≡ q.rdata → r ≡ q
@@ -255,7 +262,11 @@ sets_tell = blocks_tell (one_line set_of) fitting_set (named (codes "set")) (one
 pub ending_line_good : (e : EndingValue) (asks : List AskRef) → fitting_ending e ≡ true → list_all fitting_ask asks ≡ true
     → is_line (ending_of e asks) ≡ true
 ending_line_good e asks h asked =
-    rw (list_all-append is_word (ending_words e) (map ask_word asks), ending_good e h, each_good ask_word fitting_ask ask_good asks asked) refl
+    rw (
+      list_all-append is_word (ending_words e) (map ask_word asks),
+      ending_good e h,
+      each_good ask_word fitting_ask ask_good asks asked,
+    ) refl
 
 judged_start : (is_one : Line → Bool) (s : StepView) (more : List Line)
     → ((t : JudgedSetValue) → is_one (set_of t) ≡ false)
@@ -285,7 +296,8 @@ pub fits_step : (s : StepView) → fitting_step s ≡ true → FitsStep s
 fits_step s h =
     let last = fitting_ending s.ending && list_all fitting_ask s.excuse in
     let a =
-    and_parts (is_u16 s.depth) (fitting_name s.owner && (is_u16 s.rtype && (fitting_heard s.reply && (list_all fitting_set s.sets && last)))) h in
+    and_parts (is_u16 s.depth) (fitting_name s.owner
+    && (is_u16 s.rtype && (fitting_heard s.reply && (list_all fitting_set s.sets && last)))) h in
     let b =
     and_parts (fitting_name s.owner)
     (is_u16 s.rtype && (fitting_heard s.reply && (list_all fitting_set s.sets && last))) a.1 in

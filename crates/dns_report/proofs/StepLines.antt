@@ -24,8 +24,11 @@ abbrev pub got_of : HeardView → Line
 got_of reply = (codes "got", got_words reply)
 
 abbrev pub told_of : Section → ToldRecord → Line
-told_of section r =
-    (codes "told", section_word section ∷ printed r.owner ∷ class_word r.class ∷ type_word r.rtype ∷ decimal r.ttl ∷ octets_word r.rdata ∷ [])
+told_of section r = (
+  codes "told",
+  section_word section ∷ printed r.owner ∷ class_word r.class ∷ type_word r.rtype ∷ decimal
+      r.ttl ∷ octets_word r.rdata ∷ [],
+)
 
 -- the lines of a section's records as they were told, and those that follow
 abbrev pub told_in : Section → List ToldRecord → List Line → List Line
@@ -38,8 +41,11 @@ told_lines (Records code empty answers authorities additionals) more =
 told_lines Fault more = more
 
 abbrev pub set_of : JudgedSetValue → Line
-set_of s =
-    (codes "set", section_word s.section ∷ printed s.owner ∷ type_word s.rtype ∷ mark_word s.mark ∷ origin_word s.origin ∷ place_word s.sig ∷ map ask_word s.asked)
+set_of s = (
+  codes "set",
+  section_word s.section ∷ printed s.owner ∷ type_word s.rtype ∷ mark_word s.mark ∷ origin_word
+      s.origin ∷ place_word s.sig ∷ map ask_word s.asked,
+)
 
 abbrev pub ending_of : EndingValue → List AskRef → Line
 ending_of ending excuse = (codes "ending", ending_words ending ++ map ask_word excuse)

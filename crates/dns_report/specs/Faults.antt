@@ -53,7 +53,7 @@ dns_words DnssecBogus = codes "bogus" ∷ []
 abbrev pub line_of_fault : Words → List ℕ
 line_of_fault words = line (codes "fault") words
 
--- the line of an error; want of memory has none
+-- the line of an error; that memory ran out has none
 abbrev pub fault_text : ErrorValue → List ℕ
 fault_text Busy = line_of_fault (codes "busy" ∷ [])
 fault_text (Dns error) = line_of_fault (dns_words error)

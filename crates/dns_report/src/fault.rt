@@ -9,11 +9,10 @@ use crate::marks::mark_word;
 use crate::words::{end_line, push_front, push_number, push_text, push_type_word, push_word};
 use dns_handle::{DnsError, IoKind, NetError, ProtoError};
 use dns_message::DecodeKind;
-use dns_name::{Name, NoMemory};
-use dns_record::{DNSClass, RecordType};
+use dns_record::{DNSClass, Name, NoMemory, RecordType};
 use std::alloc::Global;
 
-/// The name of a kind of fault outside.
+// The name of a kind of fault outside.
 fn io_word(kind: IoKind) -> &'static [u8]
     ensures { result.now ≡ io_word kind }
 {
@@ -34,7 +33,7 @@ fn io_word(kind: IoKind) -> &'static [u8]
     }
 }
 
-/// The name of a kind of fault in bytes.
+// The name of a kind of fault in bytes.
 fn decode_word(kind: DecodeKind) -> &'static [u8]
     ensures { result.now ≡ decode_word kind }
 {
@@ -48,7 +47,7 @@ fn decode_word(kind: DecodeKind) -> &'static [u8]
     }
 }
 
-/// Appends the line on what is wrong with bytes.
+// Appends the line on what is wrong with bytes.
 fn push_proto(into: &mut Vec<u8>, error: ProtoError) -> Result<(), NoMemory>
     ensures { OnOk result (into.new.items ≡ into.old.items ++ line_of_fault (codes "proto" ∷ proto_words error)) }
 {
@@ -63,7 +62,7 @@ fn push_proto(into: &mut Vec<u8>, error: ProtoError) -> Result<(), NoMemory>
     }
 }
 
-/// Appends the line on what DNS answered.
+// Appends the line on what DNS answered.
 fn push_dns(into: &mut Vec<u8>, error: &DnsError) -> Result<(), NoMemory>
     ensures { OnOk result (into.new.items ≡ into.old.items ++ line_of_fault (dns_words (dns_error_of error.now))) }
 {
@@ -83,7 +82,7 @@ fn push_dns(into: &mut Vec<u8>, error: &DnsError) -> Result<(), NoMemory>
     }
 }
 
-/// Appends the line on a record of another class.
+// Appends the line on a record of another class.
 fn push_foreign(
     into: &mut Vec<u8>,
     owner: &Name,
@@ -98,7 +97,7 @@ fn push_foreign(
     end_line(into)
 }
 
-/// Appends a line of one fixed word.
+// Appends a line of one fixed word.
 fn push_single(into: &mut Vec<u8>, word: &[u8]) -> Result<(), NoMemory>
     ensures { OnOk result (into.new.items ≡ into.old.items ++ line_of_fault (word.now ∷ [])) }
 {
@@ -107,7 +106,7 @@ fn push_single(into: &mut Vec<u8>, word: &[u8]) -> Result<(), NoMemory>
     end_line(into)
 }
 
-/// Appends a line of two words.
+// Appends a line of two words.
 fn push_double(into: &mut Vec<u8>, first: &[u8], second: &[u8]) -> Result<(), NoMemory>
     ensures { OnOk result (into.new.items ≡ into.old.items ++ line_of_fault (first.now ∷ second.now ∷ [])) }
 {
@@ -117,7 +116,7 @@ fn push_double(into: &mut Vec<u8>, first: &[u8], second: &[u8]) -> Result<(), No
     end_line(into)
 }
 
-/// Appends the line of an error.
+// Appends the line of an error.
 fn push_fault(into: &mut Vec<u8>, error: &NetError) -> Result<(), NoMemory>
     ensures { OnOk result (into.new.items ≡ into.old.items ++ fault_text (error_of error.now)) }
 {
@@ -141,8 +140,8 @@ fn push_fault(into: &mut Vec<u8>, error: &NetError) -> Result<(), NoMemory>
     }
 }
 
-/// The line of an error, which ends with LF; want of memory has no line, and the text is empty. That there are no records is no
-/// answer of a lookup; its line is that of a message. The only error is want of memory.
+/// The line of an error, which ends with LF; that memory ran out has no line, and the text is empty. That there are no records is no
+/// answer of a lookup; its line is that of a message. It fails only where memory runs out.
 pub fn write_fault(alloc: Global, error: &NetError) -> Result<Vec<u8>, NoMemory>
     ensures { IfOk result (λ v. v.items ≡ fault_text (error_of error.now)) }
 {

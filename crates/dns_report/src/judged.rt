@@ -17,11 +17,10 @@ use crate::words::{
 };
 use dns_evidence::{Ending, JudgedSet};
 use dns_model::{AskRef, MarkOrigin};
-use dns_name::{Name, NoMemory};
-use dns_record::{DNSClass, RecordType};
+use dns_record::{DNSClass, Name, NoMemory, RecordType};
 use dns_text::push_decimal;
 
-/// Appends the word of an ask.
+// Appends the word of an ask.
 fn push_ask(into: &mut Vec<u8>, ask: AskRef) -> Result<(), NoMemory>
     ensures ok { OnOk result (into.new.items ≡ into.old.items ++ (32 ∷ ask_word ask)) }
     ensures fits { OnOk result (IsTrue (fitting_ask ask)) }
@@ -33,7 +32,7 @@ fn push_ask(into: &mut Vec<u8>, ask: AskRef) -> Result<(), NoMemory>
     }
 }
 
-/// Appends the words of asks, in order, and ends the line.
+// Appends the words of asks, in order, and ends the line.
 fn push_asks(into: &mut Vec<u8>, asks: &[AskRef]) -> Result<(), NoMemory>
     ensures ok { OnOk result (into.new.items ≡ into.old.items ++ line_rest (map ask_word asks.now)) }
     ensures fits { OnOk result (IsTrue (list_all fitting_ask asks.now)) }
@@ -46,7 +45,7 @@ fn push_asks(into: &mut Vec<u8>, asks: &[AskRef]) -> Result<(), NoMemory>
     end_line(into)
 }
 
-/// Appends the word of where a mark comes from.
+// Appends the word of where a mark comes from.
 fn push_origin(into: &mut Vec<u8>, origin: MarkOrigin) -> Result<(), NoMemory>
     ensures ok { OnOk result (into.new.items ≡ into.old.items ++ (32 ∷ origin_word origin)) }
     ensures fits { OnOk result (IsTrue (fitting_origin origin)) }
@@ -61,7 +60,7 @@ fn push_origin(into: &mut Vec<u8>, origin: MarkOrigin) -> Result<(), NoMemory>
     }
 }
 
-/// Appends the word of the place of the signature that decided.
+// Appends the word of the place of the signature that decided.
 fn push_place(into: &mut Vec<u8>, sig: Option<u32>) -> Result<(), NoMemory>
     ensures ok { OnOk result (into.new.items ≡ into.old.items ++ (32 ∷ place_word sig)) }
     ensures fits { OnOk result (IsTrue (option_map_or is_u32 sig true)) }
@@ -72,7 +71,7 @@ fn push_place(into: &mut Vec<u8>, sig: Option<u32>) -> Result<(), NoMemory>
     }
 }
 
-/// Appends the last words of a set's line: its mark, and on what that stands.
+// Appends the last words of a set's line: its mark, and on what that stands.
 fn push_found(into: &mut Vec<u8>, set: &JudgedSet) -> Result<(), NoMemory>
     ensures ok { OnOk result (into.new.items ≡ into.old.items ++ line_rest
         (mark_word set.now.mark ∷ origin_word set.now.origin ∷ place_word set.now.sig ∷ map ask_word set.now.asked)) }
@@ -86,7 +85,7 @@ fn push_found(into: &mut Vec<u8>, set: &JudgedSet) -> Result<(), NoMemory>
     push_asks(into, &set.asked)
 }
 
-/// Appends the line of a set and its mark.
+// Appends the line of a set and its mark.
 fn push_set(into: &mut Vec<u8>, set: &JudgedSet) -> Result<(), NoMemory>
     ensures ok { OnOk result (into.new.items ≡ into.old.items ++ set_line set.now) }
     ensures fits { OnOk result (IsTrue (fitting_set set.now)) }
@@ -109,7 +108,7 @@ pub(crate) fn push_sets(into: &mut Vec<u8>, sets: &[JudgedSet]) -> Result<(), No
     Ok(())
 }
 
-/// Appends the words of an ending at a record of another class.
+// Appends the words of an ending at a record of another class.
 fn push_foreign(
     into: &mut Vec<u8>,
     owner: &Name,
@@ -124,7 +123,7 @@ fn push_foreign(
     push_type_word(into, record_type)
 }
 
-/// Appends the words of an ending.
+// Appends the words of an ending.
 fn push_ending_words(into: &mut Vec<u8>, ending: &Ending) -> Result<(), NoMemory>
     ensures ok { OnOk result (into.new.items ≡ into.old.items ++ spaced (ending_words (ending_value ending.now))) }
     ensures fits { OnOk result (IsTrue (fitting_ending (ending_value ending.now))) }

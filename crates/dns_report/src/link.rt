@@ -17,10 +17,9 @@ use crate::words::{
     end_line, push_front, push_number, push_octets_word, push_text, push_type_word, push_word,
 };
 use dns_evidence::{Chain, Link, LinkSignature};
-use dns_name::{Name, NoMemory};
-use dns_record::{DNSClass, Rdata, RecordType};
+use dns_record::{DNSClass, Name, NoMemory, Rdata, RecordType};
 
-/// Appends the words of numbered keys, and ends the line.
+// Appends the words of numbered keys, and ends the line.
 #[tactic(auto, unfolding(crate::specs::Report::key_words, crate::specs::View::numbered))]
 fn push_keys(into: &mut Vec<u8>, keys: &[Rdata], numbers: &[u32]) -> Result<(), NoMemory>
     ensures ok { OnOk result (into.new.items ≡ into.old.items
@@ -41,7 +40,7 @@ fn push_keys(into: &mut Vec<u8>, keys: &[Rdata], numbers: &[u32]) -> Result<(), 
     end_line(into)
 }
 
-/// Appends the words of rdatas, and ends the line.
+// Appends the words of rdatas, and ends the line.
 fn push_rdatas(into: &mut Vec<u8>, rdatas: &[Rdata]) -> Result<(), NoMemory>
     ensures ok { OnOk result (into.new.items ≡ into.old.items ++ line_rest (map octets_word rdatas.now)) }
     ensures fits { OnOk result (IsTrue (list_all is_bytes rdatas.now)) }
@@ -54,7 +53,7 @@ fn push_rdatas(into: &mut Vec<u8>, rdatas: &[Rdata]) -> Result<(), NoMemory>
     end_line(into)
 }
 
-/// Appends the words of a signed set behind its owner and class, and ends the line.
+// Appends the words of a signed set behind its owner and class, and ends the line.
 fn push_signed(
     into: &mut Vec<u8>,
     record_type: RecordType,
@@ -76,7 +75,7 @@ fn push_signed(
     push_rdatas(into, rdatas)
 }
 
-/// Appends the words of a key that matches a DS record behind its owner and class, and ends the line.
+// Appends the words of a key that matches a DS record behind its owner and class, and ends the line.
 fn push_matched(into: &mut Vec<u8>, key: &Rdata, ds_link: u32, ds: &Rdata) -> Result<(), NoMemory>
     ensures ok { OnOk result (into.new.items ≡ into.old.items
         ++ line_rest (octets_word key.now ∷ decimal ds_link ∷ octets_word ds.now ∷ [])) }
@@ -89,7 +88,7 @@ fn push_matched(into: &mut Vec<u8>, key: &Rdata, ds_link: u32, ds: &Rdata) -> Re
     end_line(into)
 }
 
-/// Appends the line of a key set.
+// Appends the line of a key set.
 fn push_key_set(
     into: &mut Vec<u8>,
     owner: &Name,
@@ -105,7 +104,7 @@ fn push_key_set(
     push_keys(into, keys, links)
 }
 
-/// Appends the line of a link.
+// Appends the line of a link.
 fn push_link(into: &mut Vec<u8>, link: &Link) -> Result<(), NoMemory>
     ensures ok { OnOk result (into.new.items ≡ into.old.items ++ link_line (shown_link (link_value link.now))) }
     ensures fits { OnOk result (IsTrue (fitting_link (shown_link (link_value link.now)))) }
@@ -152,7 +151,7 @@ fn push_link(into: &mut Vec<u8>, link: &Link) -> Result<(), NoMemory>
     }
 }
 
-/// Appends the line that begins a chain.
+// Appends the line that begins a chain.
 fn push_chain_line(into: &mut Vec<u8>, chain: &Chain) -> Result<(), NoMemory>
     ensures ok { OnOk result (into.new.items ≡ into.old.items ++ chain_line (chain_view chain.now)) }
     ensures count { OnOk result (IsTrue (nat_lt (length (chain_view chain.now).links) (2 ^ 64))) }
@@ -163,7 +162,7 @@ fn push_chain_line(into: &mut Vec<u8>, chain: &Chain) -> Result<(), NoMemory>
     end_line(into)
 }
 
-/// Appends the lines of links, in order.
+// Appends the lines of links, in order.
 fn push_links(into: &mut Vec<u8>, links: &[Link]) -> Result<(), NoMemory>
     ensures ok { OnOk result (into.new.items ≡ into.old.items
         ++ flat_map link_line (map shown_link (map link_value links.now))) }
@@ -177,7 +176,7 @@ fn push_links(into: &mut Vec<u8>, links: &[Link]) -> Result<(), NoMemory>
     Ok(())
 }
 
-/// Appends the lines of a chain.
+// Appends the lines of a chain.
 fn push_chain(into: &mut Vec<u8>, chain: &Chain) -> Result<(), NoMemory>
     ensures ok { OnOk result (into.new.items ≡ into.old.items ++ chain_text (chain_view chain.now)) }
     ensures fits { OnOk result (IsTrue (fitting_chain (chain_view chain.now))) }

@@ -1,3 +1,4 @@
+//! How much a report shows.
 /// What a report shows of an answer.
 #[derive(Clone, Copy, Debug, PartialEq, Eq)]
 pub enum Parts {

@@ -16,10 +16,9 @@ use crate::words::{
     end_line, push_front, push_mark, push_number, push_octets_word, push_type_word,
 };
 use dns_model::Section;
-use dns_name::NoMemory;
-use dns_record::Record;
+use dns_record::{NoMemory, Record};
 
-/// Appends the last words of a record's line.
+// Appends the last words of a record's line.
 fn push_rest(into: &mut Vec<u8>, one: &Record) -> Result<(), NoMemory>
     ensures ok { OnOk result (into.new.items ≡ into.old.items ++ line_rest
         (type_word one.now.rtype ∷ decimal one.now.ttl ∷ mark_word one.now.proof ∷ octets_word one.now.rdata ∷ [])) }
@@ -34,7 +33,7 @@ fn push_rest(into: &mut Vec<u8>, one: &Record) -> Result<(), NoMemory>
     end_line(into)
 }
 
-/// Appends the line of a record of a section.
+// Appends the line of a record of a section.
 fn push_record(into: &mut Vec<u8>, section: Section, one: &Record) -> Result<(), NoMemory>
     ensures ok { OnOk result (into.new.items ≡ into.old.items ++ record_line section one.now) }
     ensures fits { OnOk result (IsTrue (fitting_record one.now)) }

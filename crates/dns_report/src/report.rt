@@ -19,11 +19,10 @@ use dns_evidence::Trail;
 use dns_handle::DnsResponse;
 use dns_message::Message;
 use dns_model::{Denial, Section};
-use dns_name::NoMemory;
-use dns_record::ResponseCode;
+use dns_record::{NoMemory, ResponseCode};
 use std::alloc::Global;
 
-/// Appends the line of a code.
+// Appends the line of a code.
 fn push_code(into: &mut Vec<u8>, code: ResponseCode) -> Result<(), NoMemory>
     ensures ok { OnOk result (into.new.items ≡ into.old.items ++ code_line code.0) }
     ensures fits { IsTrue (is_u16 code.0) }
@@ -33,7 +32,7 @@ fn push_code(into: &mut Vec<u8>, code: ResponseCode) -> Result<(), NoMemory>
     end_line(into)
 }
 
-/// Appends the line of a denial.
+// Appends the line of a denial.
 #[tactic(auto, using(crate::proofs::SpacedWords::rest_spaced))]
 fn push_denial(into: &mut Vec<u8>, denial: Denial) -> Result<(), NoMemory>
     ensures { OnOk result (into.new.items ≡ into.old.items ++ denial_line denial) }
@@ -43,7 +42,7 @@ fn push_denial(into: &mut Vec<u8>, denial: Denial) -> Result<(), NoMemory>
     end_line(into)
 }
 
-/// Appends the lines of a message's records: answers, then authorities, then additionals.
+// Appends the lines of a message's records: answers, then authorities, then additionals.
 #[tactic(auto, unfolding(crate::specs::Report::records_text))]
 fn push_records(into: &mut Vec<u8>, message: &Message) -> Result<(), NoMemory>
     ensures ok { OnOk result (into.new.items ≡ into.old.items
@@ -57,7 +56,7 @@ fn push_records(into: &mut Vec<u8>, message: &Message) -> Result<(), NoMemory>
     push_section(into, Section::Additional, &message.additionals)
 }
 
-/// Appends the lines before the records.
+// Appends the lines before the records.
 #[tactic(auto, unfolding(crate::specs::Report::head_text))]
 fn push_head(into: &mut Vec<u8>, code: ResponseCode, denial: Denial) -> Result<(), NoMemory>
     ensures ok { OnOk result (into.new.items ≡ into.old.items ++ head_text code.0 denial) }
@@ -68,7 +67,7 @@ fn push_head(into: &mut Vec<u8>, code: ResponseCode, denial: Denial) -> Result<(
     push_denial(into, denial)
 }
 
-/// Appends the lines of a trail, where it is asked for.
+// Appends the lines of a trail, where it is asked for.
 fn push_shown_trail(into: &mut Vec<u8>, parts: Parts, trail: &Trail) -> Result<(), NoMemory>
     ensures ok { OnOk result (into.new.items ≡ into.old.items ++ trail_text (trail_view parts trail.now)) }
     ensures fits { OnOk result (IsTrue (fitting_trail (trail_view parts trail.now))) }
@@ -79,7 +78,7 @@ fn push_shown_trail(into: &mut Vec<u8>, parts: Parts, trail: &Trail) -> Result<(
     }
 }
 
-/// Appends the lines of a report but the last.
+// Appends the lines of a report but the last.
 #[tactic(auto, unfolding(crate::specs::Report::view_body))]
 fn push_body(into: &mut Vec<u8>, parts: Parts, answer: &DnsResponse) -> Result<(), NoMemory>
     ensures ok { OnOk result (into.new.items ≡ into.old.items ++ view_body (view_of parts answer.now)) }
@@ -92,7 +91,8 @@ fn push_body(into: &mut Vec<u8>, parts: Parts, answer: &DnsResponse) -> Result<(
 }
 
 /// The report on an answer: its code, what it denies, each record with its mark, the chains of its Secure sets, and its trail
-/// where `parts` asks for it. Names are printed in the case in which they came. The only error is want of memory.
+/// where `parts` asks for it. Names are printed in the case in which they came. It fails only where memory
+/// runs out.
 ///
 /// The text tells what it shows, and whether it shows the trail: of all views with names, bytes and numbers that can stand in an
 /// answer, no other has it. Where all chains of two answers with one text are justified, the chains are the same too, whole.

@@ -21,17 +21,16 @@ use crate::words::{
 };
 use dns_evidence::{Asked, Reply, Told, Trail};
 use dns_model::Section;
-use dns_name::NoMemory;
-use dns_record::{Record, ResponseCode};
+use dns_record::{NoMemory, Record, ResponseCode};
 
-/// The word of what a reply is asked for.
+// The word of what a reply is asked for.
 fn purpose_word(judged: bool) -> &'static [u8]
     ensures { result.now ≡ purpose_word judged }
 {
     if judged { b"judged" } else { b"ns" }
 }
 
-/// Appends the line that begins a step.
+// Appends the line that begins a step.
 fn push_step_line(into: &mut Vec<u8>, step: &Asked) -> Result<(), NoMemory>
     ensures ok { OnOk result (into.new.items ≡ into.old.items ++ step_line (step_view step.now)) }
     ensures depth { OnOk result (IsTrue (is_u16 step.now.depth)) }
@@ -46,7 +45,7 @@ fn push_step_line(into: &mut Vec<u8>, step: &Asked) -> Result<(), NoMemory>
     end_line(into)
 }
 
-/// Appends the line of a reply that tells records.
+// Appends the line of a reply that tells records.
 fn push_got(into: &mut Vec<u8>, code: ResponseCode, empty: bool) -> Result<(), NoMemory>
     ensures ok { OnOk result (into.new.items ≡ into.old.items
         ++ line (codes "got") (decimal code.0 ∷ empty_words empty)) }
@@ -60,7 +59,7 @@ fn push_got(into: &mut Vec<u8>, code: ResponseCode, empty: bool) -> Result<(), N
     end_line(into)
 }
 
-/// Appends the last words of a told record's line.
+// Appends the last words of a told record's line.
 fn push_told_rest(into: &mut Vec<u8>, one: &Record) -> Result<(), NoMemory>
     ensures ok { OnOk result (into.new.items ≡ into.old.items
         ++ line_rest (type_word one.now.rtype ∷ decimal one.now.ttl ∷ octets_word one.now.rdata ∷ [])) }
@@ -74,7 +73,7 @@ fn push_told_rest(into: &mut Vec<u8>, one: &Record) -> Result<(), NoMemory>
     end_line(into)
 }
 
-/// Appends the line of a record that was told.
+// Appends the line of a record that was told.
 fn push_told_record(into: &mut Vec<u8>, section: Section, one: &Record) -> Result<(), NoMemory>
     ensures ok { OnOk result (into.new.items ≡ into.old.items ++ told_line section (unmarked one.now)) }
     ensures fits { OnOk result (IsTrue (fitting_told (unmarked one.now))) }
@@ -84,7 +83,7 @@ fn push_told_record(into: &mut Vec<u8>, section: Section, one: &Record) -> Resul
     push_told_rest(into, one)
 }
 
-/// Appends the lines of the records that were told in a section, in order.
+// Appends the lines of the records that were told in a section, in order.
 fn push_told_section(
     into: &mut Vec<u8>,
     section: Section,
@@ -100,7 +99,7 @@ fn push_told_section(
     Ok(())
 }
 
-/// Appends the lines of a reply that tells records.
+// Appends the lines of a reply that tells records.
 #[tactic(auto, unfolding(crate::specs::TrailLines::told_text))]
 fn push_told(into: &mut Vec<u8>, told: &Told) -> Result<(), NoMemory>
     ensures ok { OnOk result (into.new.items ≡ into.old.items
@@ -114,7 +113,7 @@ fn push_told(into: &mut Vec<u8>, told: &Told) -> Result<(), NoMemory>
     push_told_section(into, Section::Additional, &told.additionals)
 }
 
-/// Appends the lines of what was heard of a reply.
+// Appends the lines of what was heard of a reply.
 #[tactic(auto, unfolding(crate::specs::TrailLines::told_text))]
 fn push_reply(into: &mut Vec<u8>, reply: &Reply) -> Result<(), NoMemory>
     ensures ok { OnOk result (into.new.items ≡ into.old.items
@@ -127,7 +126,7 @@ fn push_reply(into: &mut Vec<u8>, reply: &Reply) -> Result<(), NoMemory>
     }
 }
 
-/// Appends the lines of a step.
+// Appends the lines of a step.
 #[tactic(auto, unfolding(crate::specs::TrailLines::step_text))]
 fn push_step(into: &mut Vec<u8>, step: &Asked) -> Result<(), NoMemory>
     ensures ok { OnOk result (into.new.items ≡ into.old.items ++ step_text (step_view step.now)) }
@@ -139,7 +138,7 @@ fn push_step(into: &mut Vec<u8>, step: &Asked) -> Result<(), NoMemory>
     push_ending(into, &step.ending, &step.excuse)
 }
 
-/// Appends the line that begins a trail.
+// Appends the line that begins a trail.
 fn push_count(into: &mut Vec<u8>, steps: &[Asked]) -> Result<(), NoMemory>
     ensures ok { OnOk result (into.new.items ≡ into.old.items ++ count_line (map step_view steps.now)) }
     ensures count { OnOk result (IsTrue (nat_lt (length (map step_view steps.now)) (2 ^ 64))) }
@@ -149,7 +148,7 @@ fn push_count(into: &mut Vec<u8>, steps: &[Asked]) -> Result<(), NoMemory>
     end_line(into)
 }
 
-/// Appends the lines of steps, in order.
+// Appends the lines of steps, in order.
 fn push_steps(into: &mut Vec<u8>, steps: &[Asked]) -> Result<(), NoMemory>
     ensures ok { OnOk result (into.new.items ≡ into.old.items ++ flat_map step_text (map step_view steps.now)) }
     ensures fits { OnOk result (IsTrue (list_all fitting_step (map step_view steps.now))) }

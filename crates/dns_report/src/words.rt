@@ -10,8 +10,7 @@ ghost use Rattle.dns_report.specs.Fields.{fitting_name, is_u16};
 
 use crate::marks::mark_word;
 use dns_model::{Denial, Proof};
-use dns_name::{Name, NameRef, NoMemory};
-use dns_record::{DNSClass, RecordType};
+use dns_record::{DNSClass, Name, NameRef, NoMemory, RecordType};
 use dns_text::{push_class, push_decimal, push_octets, push_type};
 
 /// Appends bytes as they are.
@@ -47,7 +46,7 @@ pub(crate) fn push_number(into: &mut Vec<u8>, number: u64) -> Result<(), NoMemor
     push_decimal(into, number)
 }
 
-/// The name, of which it is known that it is one.
+// The name, of which it is known that it is one.
 fn known_name<'a>(name: &'a Name) -> NameRef<'a>
     ensures same { result ≡ name.now }
     ensures fits { IsTrue (fitting_name name.now) }

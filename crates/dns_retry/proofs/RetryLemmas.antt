@@ -85,13 +85,15 @@ try_over one attempts from last new left busy reply trying sent over = record {
   last = last;
   tried = trying.tried;
   sent = sent;
-  over = ap (λ n. is_due n (times_busy trying.again) reply) (sym trying.left_is) ∙ ap (λ n. is_due left n reply) (sym trying.busy_is) ∙ over;
+  over = ap (λ n. is_due n (times_busy trying.again) reply) (sym trying.left_is) ∙ ap (λ n. is_due left n reply) (sym trying.busy_is)
+      ∙ over;
 }
 
 -- ---- what is known of each send is known of all
 
 module _ {H : Type 0} (one two : H → Reply → H → Type 0) (known : (a : H) (reply : Reply) (b : H) → one a reply b → two a reply b) where
-  tried_known : (attempts : ℕ) (from : H) (again : List Reply) (to : H) → Tried one attempts from again to → Tried two attempts from again to
+  tried_known : (attempts : ℕ) (from : H) (again : List Reply) (to : H) → Tried one attempts from again to
+      → Tried two attempts from again to
   unfolding Tried
   tried_known attempts from [] to tried = tried
   tried_known attempts from (reply ∷ before) to tried =
@@ -101,7 +103,8 @@ module _ {H : Type 0} (one two : H → Reply → H → Type 0) (known : (a : H) 
   send_known old reply new (inl sent) = inl (known old reply new sent)
   send_known old reply new (inr none) = inr none
 
-  pub retried_known : (attempts : ℕ) (old new : H) (reply : Reply) → IsRetried one attempts old new reply → IsRetried two attempts old new reply
+  pub retried_known : (attempts : ℕ) (old new : H) (reply : Reply) → IsRetried one attempts old new reply
+      → IsRetried two attempts old new reply
   retried_known attempts old new reply retried = record {
     again = retried.again;
     last = retried.last;
@@ -121,7 +124,8 @@ follows_retried one attempts from left busy mid [] new reply trying follows =
     try_over one attempts from mid new left busy reply trying follows.0 follows.1
 follows_retried one attempts from left busy mid (r ∷ rest) new reply trying follows =
     follows_retried one attempts from (left_after left r) (busy_after busy r) follows.0 rest new reply
-    (try_more one attempts from mid follows.0 left busy (left_after left r) (busy_after busy r) r trying (inl follows.1) follows.2 refl refl)
+    (try_more one attempts from mid follows.0 left busy (left_after left r) (busy_after busy r) r trying (inl follows.1)
+    follows.2 refl refl)
     follows.3
 
 -- ---- polls

@@ -1,3 +1,4 @@
+-- What contracts of this crate name, by subject.
 pub mod Retries
 pub mod RetryHandles
 pub mod RetrySends

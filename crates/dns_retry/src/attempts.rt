@@ -1,3 +1,4 @@
+//! What a call may still send.
 ghost use Rattle.std.specs.Prelude.{◌≡◌, ◌<◌, ◌+◌, ◌-◌, true, false, IfNone, IfSome};
 ghost use Rattle.dns_handle.specs.Replies.{reply_of};
 ghost use Rattle.dns_retry.specs.Retries.{is_due, left_after, busy_after};
@@ -48,6 +49,7 @@ impl Attempts {
             }
         }
     }
+
     /// The reply, unless another send is due after it, which is counted then.
     pub(crate) fn last_reply(
         &mut self,
@@ -60,10 +62,8 @@ impl Attempts {
         ensures less { IfNone result (self.new.left + (64 - self.new.busy) < self.old.left + (64 - self.old.busy)) }
     {
         if self.go_on_after(&reply) {
-            drop(reply);
-            None
-        } else {
-            Some(reply)
+            return None;
         }
+        Some(reply)
     }
 }

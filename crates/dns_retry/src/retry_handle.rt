@@ -1,3 +1,4 @@
+//! `RetryDnsHandle`, a handle that sends again after an error.
 ghost use Rattle.std.specs.Prelude.{◌≡◌};
 ghost use Rattle.dns_handle.specs.Requests.{RequestValue};
 
@@ -10,9 +11,9 @@ use std::alloc::Global;
 /// A handle that sends a request again after an error (RFC 1035, 4.2.1 and 7.1).
 ///
 /// Another send is due after an error while attempts are left, but not after one that it can't mend: `NoConnections`,
-/// `NoRecordsFound`, `DnssecBogus` and want of memory are answered at once. `Busy` costs no attempt, and is answered when it
-/// comes for the 64th time in one call. With no attempt left each error is answered. An error that is answered, other than that
-/// there are no records and want of memory, is a fault of this handle.
+/// `NoRecordsFound`, `DnssecBogus` and `NoMemory` are answered at once. `Busy` costs no attempt, and is answered when it
+/// comes for the 64th time in one call. With no attempt left each error is answered. An error that is answered, other than
+/// `NoRecordsFound` and `NoMemory`, is a fault of this handle.
 #[derive(Drop)]
 pub struct RetryDnsHandle<H: Drop> {
     pub(crate) handle: H,
@@ -28,6 +29,18 @@ impl<H: DnsHandle + Drop> RetryDnsHandle<H> {
     ghost use Rattle.dns_retry.specs.RetrySends.{state_of};
 
     /// So many sends at most follow errors other than `Busy` in one call; the first send isn't counted.
+    ///
+    /// ```
+    /// fn ask_again<H: DnsHandle + Drop>(
+    ///     alloc: Global,
+    ///     handle: H,
+    ///     request: DnsRequest,
+    ///     now: u64,
+    /// ) -> Result<DnsResponse, NetError> {
+    ///     let mut handle = RetryDnsHandle::new(handle, 2);
+    ///     handle.send(alloc, request, now)
+    /// }
+    /// ```
     pub fn new(handle: H, attempts: usize) -> RetryDnsHandle<H>
         ensures handle { inner_of result ≡ handle }
         ensures attempts { attempts_of result ≡ attempts }
@@ -84,7 +97,7 @@ impl<H: DnsHandle + Drop> RetryDnsHandle<H> {
     }
 }
 
-/// It tells what the handle inside tells, unless that serves its replies by turn.
+/// Its replies are known beforehand where those of the handle inside are, unless that serves them by turn.
 impl<H: DnsHandle + Drop> DnsHandle for RetryDnsHandle<H> {
     ghost use Rattle.dns_retry.specs.RetryHandles.{inner_of, sends_of, faults_of, RetriesQuestion, RetriesRequest};
     ghost use Rattle.dns_retry.specs.Telling.{still_told};
@@ -109,5 +122,9 @@ impl<H: DnsHandle + Drop> DnsHandle for RetryDnsHandle<H> {
         self.sends = self.sends.saturating_add(1);
         self.faults = faults_after(self.faults, &reply);
         reply
+    }
+
+    fn is_using_edns(&self) -> bool {
+        true
     }
 }

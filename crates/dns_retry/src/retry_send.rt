@@ -1,3 +1,4 @@
+//! A send that is made again, as a future.
 ghost use Rattle.std.specs.Prelude.{◌≡◌, ◌⊎◌, ⊤, false, true};
 ghost use Rattle.futures.specs.Task.{Covers, Keeps};
 ghost use Rattle.futures.specs.Poll.{IfReady, OnPending};
@@ -55,7 +56,6 @@ impl<H: DnsHandle + Drop> Future for RetrySend<H> {
         }
         let reply = send_copy(self.alloc, &mut self.retry.handle, &self.request, self.now);
         if self.attempts.go_on_after(&reply) {
-            drop(reply);
             return cx.yield_now();
         }
         self.is_done = true;

@@ -43,9 +43,8 @@ pub(crate) fn send_again<H: DnsHandle>(
     };
     'sends: loop {
         let reply = send_copy(alloc, handle, request, now);
-        match attempts.last_reply(reply) {
-            Some(answer) => return answer,
-            None => {}
+        if let Some(answer) = attempts.last_reply(reply) {
+            return answer;
         }
     }
 }

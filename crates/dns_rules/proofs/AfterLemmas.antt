@@ -30,7 +30,8 @@ length-after f before (x ∷ xs) = ap suc (length-after f (before ++ x ∷ []) x
 
 -- ---- what passes a test that the place doesn't matter to
 
-pass_step : {Y : Type 0} (b c : Bool) (y z : Y) (ys zs : List Y) → b ≡ c → (c ≡ true → y ≡ z) → ys ≡ zs → cond b (y ∷ ys) ys ≡ cond c (z ∷ zs) zs
+pass_step : {Y : Type 0} (b c : Bool) (y z : Y) (ys zs : List Y) → b ≡ c → (c ≡ true → y ≡ z) → ys ≡ zs
+    → cond b (y ∷ ys) ys ≡ cond c (z ∷ zs) zs
 pass_step true true y z ys zs same e rest = ap (λ v. v ∷ ys) (e refl) ∙ ap (λ vs. z ∷ vs) rest
 pass_step true false y z ys zs same e rest = cc
 pass_step false true y z ys zs same e rest = cc
@@ -74,8 +75,10 @@ unsigned_test = record {
 
 set_test : (l : Rr) → is_signature l ≡ false → IsPlainTest (same_set l)
 set_test l plain = record {
-  same = λ f keeps r. ap (λ o. name_eq l.owner o && (l.rtype == (f r).rtype)) (keeps.owner r) ∙ ap (λ k. name_eq l.owner r.owner && (l.rtype == k)) (keeps.rtype r);
-  plain = λ r h. ap (λ k. k == type_rrsig) (sym (number_same l.rtype r.rtype (and_parts (name_eq l.owner r.owner) (l.rtype == r.rtype) h).1)) ∙ plain;
+  same = λ f keeps r. ap (λ o. name_eq l.owner o && (l.rtype == (f r).rtype)) (keeps.owner r)
+      ∙ ap (λ k. name_eq l.owner r.owner && (l.rtype == k)) (keeps.rtype r);
+  plain = λ r h. ap (λ k. k == type_rrsig)
+      (sym (number_same l.rtype r.rtype (and_parts (name_eq l.owner r.owner) (l.rtype == r.rtype) h).1)) ∙ plain;
 }
 
 unsigned_set_of : (f : List Rr → Rr → Rr) → IsPlainChange f → (records : List Rr) (l : Rr) → is_signature l ≡ false

@@ -60,7 +60,8 @@ after_asks : (g : StepContext) (b : Bool) (v : Verdict) (asks : List AskRef) (o 
 after_asks g true v asks o vs h rest = last_asks g asks (v ∷ []) vs h
 after_asks g false v asks o vs h rest = let some = some_after v o vs h in rest some.rest some.found
 
-asked_asks : (g : StepContext) (b : Bool) (o : Option Question) (ask : AskRef) (asks : List AskRef) (x : Option (List Verdict)) (vs : List Verdict)
+asked_asks : (g : StepContext) (b : Bool) (o : Option Question) (ask : AskRef) (asks : List AskRef) (x : Option (List Verdict))
+    (vs : List Verdict)
     → is_ask_for g o ask ≡ b → (if b then x else None) ≡ Some vs → (x ≡ Some vs → AreAsksOf g asks) → AreAsksOf g (ask ∷ asks)
 asked_asks g true o ask asks x vs is h rest = (ask_of_question g o ask is, rest h)
 asked_asks g false o ask asks x vs is h rest = cc
@@ -72,7 +73,8 @@ skipped_asks g true v asks o x vs h rest asked = let some = some_after v o vs h 
 skipped_asks g false v asks o x vs h rest asked = asked h
 
 -- the asks of signatures that have verdicts
-pub verdicts_asks : (g : StepContext) (set : RrSet) (rs : List Rr) (asks : List AskRef) (vs : List Verdict) → verdicts_by g set rs asks ≡ Some vs
+pub verdicts_asks : (g : StepContext) (set : RrSet) (rs : List Rr) (asks : List AskRef) (vs : List Verdict)
+    → verdicts_by g set rs asks ≡ Some vs
     → AreAsksOf g asks
 unfolding verdicts_by
 verdicts_asks g set [] asks vs h = last_asks g asks [] vs h
@@ -87,7 +89,8 @@ verdicts_asks g set (r ∷ rs) (ask ∷ asks) vs h =
 -- ---- the ask of a key set
 
 -- the ask that leads to a DS verdict
-zone_asks : (g : StepContext) (class : ℕ) (name : Labels) (asks : List AskRef) (zone : ZoneVerdict) → zone_asked g class name asks ≡ Some zone
+zone_asks : (g : StepContext) (class : ℕ) (name : Labels) (asks : List AskRef) (zone : ZoneVerdict)
+    → zone_asked g class name asks ≡ Some zone
     → AreAsksOf g asks
 zone_asks g class name [] zone h = tt
 zone_asks g class name (ask ∷ asks) zone h =
@@ -113,7 +116,8 @@ keys_asks g placed entry h =
 
 -- ---- the asks of a search
 
-probe_asks : (g : StepContext) (class : ℕ) (name : Labels) (asks : List AskRef) (probe : NsProbe) (above : Option ZoneVerdict) (zone : ZoneVerdict)
+probe_asks : (g : StepContext) (class : ℕ) (name : Labels) (asks : List AskRef) (probe : NsProbe) (above : Option ZoneVerdict)
+    (zone : ZoneVerdict)
     → search_after g class name asks probe above ≡ Some zone → (above ≡ Some zone → AreAsksOf g asks) → AreAsksOf g asks
 probe_asks g class name asks probes.Found above zone h onward = zone_asks g class name asks zone h
 probe_asks g class name asks probes.Absent above zone h onward = onward h
@@ -140,13 +144,15 @@ search_asks g class start (label ∷ rest) (ask ∷ asks) zone h =
       probe_asks g class name asks probe above zone some.1 (λ k. search_asks g class start rest asks zone k),
     )
 
-searched_asks : (g : StepContext) (placed : PlacedSet) (entry : JudgedSetValue) (o : Option ZoneVerdict) → is_by_search placed entry o ≡ true
+searched_asks : (g : StepContext) (placed : PlacedSet) (entry : JudgedSetValue) (o : Option ZoneVerdict)
+    → is_by_search placed entry o ≡ true
     → ((zone : ZoneVerdict) → o ≡ Some zone → AreAsksOf g entry.asked) → AreAsksOf g entry.asked
 searched_asks g placed entry None h by = cc
 searched_asks g placed entry (Some zone) h by = by zone refl
 
 -- the asks of an unsigned set's entry
-pub unsigned_asks : (g : StepContext) (placed : PlacedSet) (entry : JudgedSetValue) → unsigned_holds g placed entry ≡ true → AreAsksOf g entry.asked
+pub unsigned_asks : (g : StepContext) (placed : PlacedSet) (entry : JudgedSetValue) → unsigned_holds g placed entry ≡ true
+    → AreAsksOf g entry.asked
 unsigned_asks g placed entry h =
     let start = set_start placed.set in
     searched_asks g placed entry (search_from g placed.set.class start entry.asked) h
@@ -162,11 +168,13 @@ rules_asks g false true x y placed entry o h of_keys of_search by = of_search h
 rules_asks g false false x y placed entry None h of_keys of_search by = cc
 rules_asks g false false x y placed entry (Some vs) h of_keys of_search by = by vs refl
 
-origin_asks : (g : StepContext) (placed : PlacedSet) (entry : JudgedSetValue) (origin : MarkOrigin) → is_by_origin g placed entry origin ≡ true
+origin_asks : (g : StepContext) (placed : PlacedSet) (entry : JudgedSetValue) (origin : MarkOrigin)
+    → is_by_origin g placed entry origin ≡ true
     → AreAsksOf g entry.asked
 origin_asks g placed entry Table h =
     let signatures = take most_signatures placed.set.signatures in
-    rules_asks g (placed.set.rtype == type_dnskey) (needs_zone placed.set) (keys_hold g placed entry) (unsigned_holds g placed entry) placed entry
+    rules_asks g (placed.set.rtype == type_dnskey) (needs_zone placed.set) (keys_hold g placed entry)
+    (unsigned_holds g placed entry) placed entry
     (verdicts_by g placed.set signatures entry.asked) h (keys_asks g placed entry) (unsigned_asks g placed entry)
     (λ vs k. verdicts_asks g placed.set signatures entry.asked vs k)
 origin_asks g placed entry (Repeat n) h =
@@ -174,7 +182,8 @@ origin_asks g placed entry (Repeat n) h =
 origin_asks g placed entry Cache h =
     no_asks g entry.asked ((and_parts (is_empty entry.asked) (list_any (is_served_by g.judge g.query placed entry) g.cached) h).0)
 
-pub entry_asks : (g : StepContext) (placed : PlacedSet) (entry : JudgedSetValue) → entry_holds g placed entry ≡ true → AreAsksOf g entry.asked
+pub entry_asks : (g : StepContext) (placed : PlacedSet) (entry : JudgedSetValue) → entry_holds g placed entry ≡ true
+    → AreAsksOf g entry.asked
 unfolding entry_holds
 entry_asks g placed entry h =
     let section = section_eq placed.section entry.section in
@@ -185,7 +194,8 @@ entry_asks g placed entry h =
     let two = and_parts owner (rtype && by_origin) one.1 in
     origin_asks g placed entry entry.origin ((and_parts rtype by_origin two.1).1)
 
-pub entries_asks : (g : StepContext) (ps : List PlacedSet) (es : List JudgedSetValue) → entries_hold g ps es ≡ true → AreAsksOf g (asks_of_sets es)
+pub entries_asks : (g : StepContext) (ps : List PlacedSet) (es : List JudgedSetValue) → entries_hold g ps es ≡ true
+    → AreAsksOf g (asks_of_sets es)
 unfolding entries_hold
 entries_asks g [] [] h = tt
 entries_asks g [] (e ∷ es) h = cc
@@ -211,7 +221,8 @@ excuse_found g step told None h by = cc
 excuse_found g step told (Some zone) h by = by zone refl
 
 -- the asks on which the ending stands
-ending_asks : (g : StepContext) (step : AskedValue) (told : Told) (o : Outcome) → ending_holds g step told o ≡ true → AreAsksOf g step.excuse
+ending_asks : (g : StepContext) (step : AskedValue) (told : Told) (o : Outcome) → ending_holds g step told o ≡ true
+    → AreAsksOf g step.excuse
 ending_asks g step told (outcome.Given d) h =
     no_asks g step.excuse ((and_parts (ending_eq (Answered d) step.ending) (is_empty step.excuse) h).1)
 ending_asks g step told outcome.NeedsZone h =
@@ -221,7 +232,8 @@ ending_asks g step told outcome.NeedsZone h =
 ending_asks g step told (outcome.Denied proof) h =
     no_asks g step.excuse ((and_parts (ending_eq (Denied proof) step.ending) (is_empty step.excuse) h).1)
 
-judged_asks : (g : StepContext) (step : AskedValue) (told : Told) (o : Option Rr) → judged_holds g step told o ≡ true → AreAsksOf g (asks_of step)
+judged_asks : (g : StepContext) (step : AskedValue) (told : Told) (o : Option Rr) → judged_holds g step told o ≡ true
+    → AreAsksOf g (asks_of step)
 judged_asks g step told (Some r) h = bare_asks g step ((and_parts (is_foreign r step.ending) (is_bare step) h).1)
 judged_asks g step told None h =
     let placed = judged_part step.depth told in
@@ -231,7 +243,8 @@ judged_asks g step told None h =
     (ending_asks g step told outcome_is parts.1)
 
 records_asks : (g : StepContext) (step : AskedValue) (told : Told) (b : Bool)
-    → (if b then judged_holds g step told (foreign_record step.query told) else is_seen step.ending && is_bare step) ≡ true → AreAsksOf g (asks_of step)
+    → (if b then judged_holds g step told (foreign_record step.query told) else is_seen step.ending && is_bare step) ≡ true
+    → AreAsksOf g (asks_of step)
 records_asks g step told true h = judged_asks g step told (foreign_record step.query told) h
 records_asks g step told false h = bare_asks g step ((and_parts (is_seen step.ending) (is_bare step) h).1)
 
@@ -256,7 +269,8 @@ pub record IsMade (g : StepContext) (n : ℕ) : Type 0 where
   pub depth : step.depth ≡ (if step.judged then g.depth + 1 else g.depth)
   pub within : g.depth ≤ g.limits.depth → step.depth ≤ g.limits.depth
 
-judged_made : (g : StepContext) (n : ℕ) (q : Question) (o : Option AskedValue) → slice_get g.earlier n ≡ o → nat_le (g.depth + 1) g.limits.depth ≡ true
+judged_made : (g : StepContext) (n : ℕ) (q : Question) (o : Option AskedValue) → slice_get g.earlier n ≡ o
+    → nat_le (g.depth + 1) g.limits.depth ≡ true
     → is_judged_ask (g.depth + 1) q o ≡ true → IsMade g n
 judged_made g n q None is fits h = cc
 judged_made g n q (Some step) is fits h =
@@ -271,7 +285,8 @@ judged_made g n q (Some step) is fits h =
       within = λ up_to. omega (arith, depth, fit);
     }
 
-plain_made : (g : StepContext) (n : ℕ) (q : Question) (o : Option AskedValue) → slice_get g.earlier n ≡ o → is_plain_step g.depth q o ≡ true → IsMade g n
+plain_made : (g : StepContext) (n : ℕ) (q : Question) (o : Option AskedValue) → slice_get g.earlier n ≡ o
+    → is_plain_step g.depth q o ≡ true → IsMade g n
 plain_made g n q None is h = cc
 plain_made g n q (Some step) is h =
     let alike = step.depth == g.depth in

@@ -116,7 +116,8 @@ unfolding chained_verdict
 good_verdict j set q r None proper other asked good =
     verdict_step j set r (verdict_of j set r None) (chain_by j set r None) (λ proved. absurd (none_proves j set r proved))
 good_verdict j set q r (Some cs) proper other asked good =
-    verdict_step j set r (verdict_of j set r (Some (bare cs))) (chain_by j set r (Some cs)) (proof_is_chain j set q r cs proper other asked good)
+    verdict_step j set r (verdict_of j set r (Some (bare cs))) (chain_by j set r (Some cs))
+    (proof_is_chain j set q r cs proper other asked good)
 
 -- ---- the sets of a step
 

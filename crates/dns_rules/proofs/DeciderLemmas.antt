@@ -37,7 +37,8 @@ at_place p (y ∷ ys) rest x h = place_step (p y) y x (filter p (ys ++ x ∷ res
 
 -- ---- a signature that is about a set covers it
 
-kind_covers : (r : Rr) (rtype : ℕ) (o : Option RrsigValue) → is_signature r ≡ true → (rtype == type_rrsig) ≡ false → rtype ≡ covered_rtype o r.rtype
+kind_covers : (r : Rr) (rtype : ℕ) (o : Option RrsigValue) → is_signature r ≡ true → (rtype == type_rrsig) ≡ false
+    → rtype ≡ covered_rtype o r.rtype
     → covers_rtype rtype o ≡ true
 kind_covers r rtype None is plain e = cc
 kind_covers r rtype (Some sig) is plain e = ap (λ k. sig.covered == k) e ∙ number_refl sig.covered
@@ -45,7 +46,8 @@ kind_covers r rtype (Some sig) is plain e = ap (λ k. sig.covered == k) e ∙ nu
 pub kind_of : (r : Rr) → is_signature r ≡ true → set_rtype r ≡ covered_rtype (rrsig_in r.rdata) r.rtype
 kind_of r is = ap (λ b. cond b (covered_rtype (rrsig_in r.rdata) r.rtype) r.rtype) is
 
-pub about_covers : (section : Section) (r : Rr) (s : MarkedSet) → IsProper s.set → IsAbout section r s → is_signature r ≡ true → covers_set s.set r ≡ true
+pub about_covers : (section : Section) (r : Rr) (s : MarkedSet) → IsProper s.set → IsAbout section r s → is_signature r ≡ true
+    → covers_set s.set r ≡ true
 about_covers section r s proper about is =
     and_from (is_signature r) (name_eq s.set.owner r.owner && covers_rtype s.set.rtype (rrsig_in r.rdata)) is
     (and_from (name_eq s.set.owner r.owner) (covers_rtype s.set.rtype (rrsig_in r.rdata)) about.owner
@@ -54,7 +56,8 @@ about_covers section r s proper about is =
 -- the signatures beside one that is about a set are those of the set
 pub about_agrees : (section : Section) (r : Rr) (s : MarkedSet) → IsAbout section r s → (b : Rr) → covers (covered r) b ≡ covers_set s.set b
 about_agrees section r s about b =
-    ap (λ x. is_signature b && (x && covers_rtype (set_rtype r) (rrsig_in b.rdata))) (sym (name_left s.set.owner r.owner b.owner about.owner))
+    ap (λ x. is_signature b && (x && covers_rtype (set_rtype r) (rrsig_in b.rdata)))
+    (sym (name_left s.set.owner r.owner b.owner about.owner))
     ∙ ap (λ k. is_signature b && (name_eq s.set.owner b.owner && covers_rtype k (rrsig_in b.rdata))) (sym about.rtype)
 
 -- what a signature that covers a record says
@@ -91,12 +94,14 @@ marked_place before r sig decides is =
     place_same sig (signature_place before r) (decides_from (is_signature r) (is_place sig (signature_place before r)) decides is)
 
 -- what stands in a list of which each element passes, passes
-passes_at : {X : Type 0} (p : X → Bool) (xs : List X) (n : ℕ) (x : X) → AllByRecursion (λ y. p y ≡ true) xs → slice_get xs n ≡ Some x → p x ≡ true
+passes_at : {X : Type 0} (p : X → Bool) (xs : List X) (n : ℕ) (x : X) → AllByRecursion (λ y. p y ≡ true) xs
+    → slice_get xs n ≡ Some x → p x ≡ true
 passes_at p [] n x all is = cc
 passes_at p (y ∷ ys) zero x all is = ap p (sym (same_Some y x is)) ∙ all.0
 passes_at p (y ∷ ys) (suc n) x all is = passes_at p ys n x all.1 is
 
-signs_step : (records : List Rr) (s : MarkedSet) (o : Option ℕ) (d : Rr) → IsSignedIn records s.set → option_and_then (slice_get s.set.signatures) o ≡ Some d
+signs_step : (records : List Rr) (s : MarkedSet) (o : Option ℕ) (d : Rr) → IsSignedIn records s.set
+    → option_and_then (slice_get s.set.signatures) o ≡ Some d
     → covers_set s.set d ≡ true
 signs_step records s None d signed is = cc
 signs_step records s (Some n) d signed is =
@@ -106,15 +111,19 @@ signs_step records s (Some n) d signed is =
 -- the one that decided is a signature
 pub decider_signs : (records : List Rr) (s : MarkedSet) → IsSignedIn records s.set → (d : Rr) → decider s ≡ Some d → is_signature d ≡ true
 decider_signs records s signed d is =
-    (and_parts (is_signature d) (name_eq s.set.owner d.owner && covers_rtype s.set.rtype (rrsig_in d.rdata)) (signs_step records s s.sig d signed is)).0
+    (and_parts (is_signature d) (name_eq s.set.owner d.owner && covers_rtype s.set.rtype (rrsig_in d.rdata))
+    (signs_step records s s.sig d signed is)).0
 
 -- it is the one that decided
-pub decider_is : (section : Section) (records before rest : List Rr) (r : Rr) (s : MarkedSet) → IsProper s.set → IsSignedIn records s.set → IsAbout section r s
-    → before ++ r ∷ rest ≡ records → (is_signature r && not (is_place s.sig (signature_place before r))) ≡ false → is_signature r ≡ true → decider s ≡ Some r
+pub decider_is : (section : Section) (records before rest : List Rr) (r : Rr) (s : MarkedSet) → IsProper s.set
+    → IsSignedIn records s.set → IsAbout section r s
+    → before ++ r ∷ rest ≡ records → (is_signature r && not (is_place s.sig (signature_place before r))) ≡ false
+    → is_signature r ≡ true → decider s ≡ Some r
 decider_is section records before rest r s proper signed about split decides is =
     let test = covers_set s.set in
     let count : signature_place before r ≡ length (filter test before) =
-    sym (length-filter (covers (covered r)) before) ∙ ap length (filter_agree (covers (covered r)) test (about_agrees section r s about) before) in
+    sym (length-filter (covers (covered r)) before)
+    ∙ ap length (filter_agree (covers (covered r)) test (about_agrees section r s about) before) in
     ap (signature_at s.set.signatures) (marked_place before r s.sig decides is ∙ ap Some count)
     ∙ ap (λ xs. slice_get xs (length (filter test before))) (signed.signed ∙ ap (filter test) (sym split))
     ∙ at_place test before rest r (about_covers section r s proper about is)

@@ -79,15 +79,18 @@ same_some a b o is same = ap (λ x. option_eq nat_eq x (Some b)) is ∙ ap (λ x
 -- the steps of the trail end in the order of their numbers
 top_ends : (j : Judge) (limits : Limits) (cached : List EntryValue) (b : List AskedValue) (step : AskedValue) (m : ℕ)
     (p : TrailPart j limits cached [] b (asks_of step) 1 m)
-    → option_eq nat_eq (end_step (length (b ++ step ∷ [])) (b ++ step ∷ []) (length (b ++ step ∷ []) - 1) 0) (Some (length (b ++ step ∷ []))) ≡ true
+    → option_eq nat_eq (end_step (length (b ++ step ∷ [])) (b ++ step ∷ []) (length (b ++ step ∷ []) - 1) 0)
+    (Some (length (b ++ step ∷ []))) ≡ true
 top_ends j limits cached b step m p =
     let one : length (b ++ step ∷ []) ≡ suc (length b) = as_suc b step in
     let last : length (b ++ step ∷ []) - 1 ≡ length b = last_number b step in
     let ended : end_step (suc (length b)) (b ++ step ∷ []) (length b) 0 ≡ Some (length b + 1) =
     end_step_at (length b) b [] step 0 (p.ends (step ∷ []) (length b) (omega arith)) in
     let is : end_step (length (b ++ step ∷ [])) (b ++ step ∷ []) (length (b ++ step ∷ []) - 1) 0 ≡ Some (length b + 1) =
-    ap (λ k. end_step k (b ++ step ∷ []) (length (b ++ step ∷ []) - 1) 0) one ∙ ap (λ k. end_step (suc (length b)) (b ++ step ∷ []) k 0) last ∙ ended in
-    same_some (length b + 1) (length (b ++ step ∷ [])) (end_step (length (b ++ step ∷ [])) (b ++ step ∷ []) (length (b ++ step ∷ []) - 1) 0) is (sym (length_push b step))
+    ap (λ k. end_step k (b ++ step ∷ []) (length (b ++ step ∷ []) - 1) 0) one
+    ∙ ap (λ k. end_step (suc (length b)) (b ++ step ∷ []) k 0) last ∙ ended in
+    same_some (length b + 1) (length (b ++ step ∷ []))
+    (end_step (length (b ++ step ∷ [])) (b ++ step ∷ []) (length (b ++ step ∷ []) - 1) 0) is (sym (length_push b step))
 
 -- ---- the whole
 
@@ -112,7 +115,8 @@ top_derivation j d cached b step m top =
     ∙ top_once j (effective d) cached b step m p in
     let whole : b ≡ p.more = p.grown in
     let hold : steps_hold j (effective d) cached [] trail ≡ true =
-    steps_hold_more j (effective d) cached [] b step (subst (λ t. steps_hold j (effective d) cached [] t ≡ true) (sym whole) p.hold) top.holds in
+    steps_hold_more j (effective d) cached [] b step (subst (λ t. steps_hold j (effective d) cached [] t ≡ true) (sym whole) p.hold)
+    top.holds in
     let ended = option_eq nat_eq (end_step (length trail) trail (length trail - 1) 0) (Some (length trail)) in
     let ends : ended ≡ true = top_ends j (effective d) cached b step m p in
     let sent = is_each_met_once (length trail) (send_order trail) in

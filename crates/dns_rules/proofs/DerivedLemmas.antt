@@ -52,7 +52,8 @@ each_once n None h = cc
 each_once n (Some order) h = record {
   order = order;
   found = refl;
-  once = λ k below. number_same (times k order) 1 (each_in_range (λ i. count_by (λ m. i == m) order == 1) 0 n h k (omega arith) (omega arith));
+  once = λ k below. number_same (times k order) 1
+      (each_in_range (λ i. count_by (λ m. i == m) order == 1) 0 n h k (omega arith) (omega arith));
 }
 
 pub derivation_parts : (j : Judge) (d : Limits) (cached : List EntryValue) (trail : List AskedValue)
@@ -107,11 +108,13 @@ ask_within j limits cached trail n step (Step m) asker h =
     let made = step_made (step_context_of j limits cached (take n trail) step) m h in
     record {
       step = made.step;
-      found = subst (λ t. slice_get t m ≡ Some made.step) (take-append-drop n trail) (slice_get-stays (take n trail) (drop n trail) m made.step made.found);
+      found = subst (λ t. slice_get t m ≡ Some made.step) (take-append-drop n trail)
+          (slice_get-stays (take n trail) (drop n trail) m made.step made.found);
       within = made.within asker;
     }
 
-same_within : (limits : Limits) (trail : List AskedValue) (n : ℕ) (step : AskedValue) (here : IsWithin limits trail n) → slice_get trail n ≡ Some step
+same_within : (limits : Limits) (trail : List AskedValue) (n : ℕ) (step : AskedValue) (here : IsWithin limits trail n)
+    → slice_get trail n ≡ Some step
     → step.depth ≤ limits.depth
 same_within limits trail n step here is =
     let same : here.step ≡ step = cc (here.found, is) in
@@ -122,7 +125,8 @@ hands_on : (j : Judge) (limits : Limits) (cached : List EntryValue) (trail : Lis
 hands_on j limits cached trail hold = record {
   on = λ n step here is.
       let g = step_context_of j limits cached (take n trail) step in
-      each_more (IsAskOf g) (OfAsk (IsWithin limits trail)) (λ ask. ask_within j limits cached trail n step ask (same_within limits trail n step here is))
+      each_more (IsAskOf g) (OfAsk (IsWithin limits trail))
+      (λ ask. ask_within j limits cached trail n step ask (same_within limits trail n step here is))
       (asks_of step) (step_asks j limits cached (take n trail) step (steps_hold_at j limits cached [] trail n step hold is));
 }
 
@@ -133,7 +137,8 @@ pub order_begins : (j : Judge) (d : Limits) (cached : List EntryValue) (trail : 
 order_begins j d cached trail g =
     let top : IsWithin (effective d) trail (length trail - 1) =
     record { step = g.top.step; found = g.top.found; within = omega (arith, g.top.top) } in
-    step_begins (IsWithin (effective d) trail) trail (length trail) (length trail - 1) g.sent.order (hands_on j (effective d) cached trail g.hold) top g.sent.found
+    step_begins (IsWithin (effective d) trail) trail (length trail) (length trail - 1) g.sent.order
+    (hands_on j (effective d) cached trail g.hold) top g.sent.found
 
 -- ---- how deep
 
@@ -157,7 +162,8 @@ derivation_depths j d cached trail h = λ k other below.
 
 -- ---- how many
 
-below_each : (limits : Limits) (trail : List AskedValue) (order : List ℕ) → AllByRecursion (IsWithin limits trail) order → AreBelow (length trail) order
+below_each : (limits : Limits) (trail : List AskedValue) (order : List ℕ) → AllByRecursion (IsWithin limits trail) order
+    → AreBelow (length trail) order
 below_each limits trail order each =
     each_more (IsWithin limits trail) (λ i. i < length trail) (λ i h. slice_get_within trail i h.step h.found) order each
 

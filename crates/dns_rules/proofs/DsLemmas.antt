@@ -57,7 +57,8 @@ pub shows_of : (j : Judge) (set : RrSet) (front : List LinkValue) (ds : List Rr)
 shows_of j set front ds test shows = record {
   held = shows.held;
   shown = λ more.
-      each_filter (λ r. shows_ds set.owner set.class r.rdata (slice_get (front ++ more) (length front - 1)) ≡ true) test ds (shows.shown more);
+      each_filter (λ r. shows_ds set.owner set.class r.rdata (slice_get (front ++ more) (length front - 1)) ≡ true) test ds
+      (shows.shown more);
 }
 
 kept_twice : {X : Type 0} (test : X → Bool) (x : X) (xs : List X) (b : Bool) → test x ≡ b
@@ -86,7 +87,8 @@ matched_step j set front ds key (Some d) shows is h =
     record {
       holds = λ more.
           let Shown = λ (r : Rr). shows_ds set.owner set.class r.rdata (slice_get (front ++ more) last) ≡ true in
-          let counted = each_taken Shown 2 (filter (is_ds_for set.owner key) ds) (each_filter Shown (is_ds_for set.owner key) ds (shows.shown more)) in
+          let counted = each_taken Shown 2 (filter (is_ds_for set.owner key) ds)
+          (each_filter Shown (is_ds_for set.owner key) ds (shows.shown more)) in
           let found = find_known test Shown (counted_ds set.owner key ds) d counted is in
           and_from (shows_ds set.owner set.class d.rdata (slice_get (front ++ more) last)) (test d) found.known found.passes;
       shown = matched_shown set.owner set.class key.rdata last d.rdata;
@@ -133,7 +135,8 @@ ds_shown set None name number ds is of_ds owner class member = cc
 ds_shown set (Some (Anchored o c k)) name number ds is of_ds owner class member = cc
 ds_shown set (Some (Matched o c k ds_link d)) name number ds is of_ds owner class member = cc
 ds_shown set (Some (KeySet o c ks links)) name number ds is of_ds owner class member =
-    let keys = (and_parts (set.rtype == type_dnskey) (name_eq set.owner o && ((set.class == c) && same_rdatas (rdatas_of set.records) ks)) is).0 in
+    let keys = (and_parts (set.rtype == type_dnskey) (name_eq set.owner o
+    && ((set.class == c) && same_rdatas (rdatas_of set.records) ks)) is).0 in
     let rtype = number_same set.rtype type_ds of_ds in
     let differ : (type_ds == type_dnskey) ≡ true = ap (λ n. n == type_dnskey) (sym rtype) ∙ keys in
     cc
@@ -155,7 +158,8 @@ record IsDsSetOf (class : ℕ) (name : Labels) (s : MarkedSet) : Type 0 where
 
 ds_set_parts : (class : ℕ) (name : Labels) (s : MarkedSet) → is_ds_set_of class name s ≡ true → IsDsSetOf class name s
 ds_set_parts class name s h =
-    let one = and_parts (section_eq Answer s.section) (name_eq name s.set.owner && ((s.set.rtype == type_ds) && (class == s.set.class))) h in
+    let one = and_parts (section_eq Answer s.section) (name_eq name s.set.owner
+    && ((s.set.rtype == type_ds) && (class == s.set.class))) h in
     let two = and_parts (name_eq name s.set.owner) ((s.set.rtype == type_ds) && (class == s.set.class)) one.1 in
     let three = and_parts (s.set.rtype == type_ds) (class == s.set.class) two.1 in
     record { owner = two.0; rtype = three.0; class_is = three.1 }
@@ -176,7 +180,8 @@ some_step answers name records ds false false h = cc
 
 signed_by_ds : (answers : VerifierAnswers) (name : Labels) (mark : Proof) (records ds : List Rr)
     → verdict_by_ds answers name mark records ≡ zone.Signed ds → IsSignedBy answers mark records ds
-signed_by_ds answers name Secure records ds h = some_step answers name records ds (list_any (is_supported_ds answers) records) (list_any is_readable_ds records) h
+signed_by_ds answers name Secure records ds h =
+    some_step answers name records ds (list_any (is_supported_ds answers) records) (list_any is_readable_ds records) h
 signed_by_ds answers name Insecure records ds h = cc
 signed_by_ds answers name Bogus records ds h = cc
 signed_by_ds answers name Indeterminate records ds h = cc
@@ -188,7 +193,8 @@ unsigned_step name true ds h = cc
 unsigned_step name false ds h = cc
 
 none_signed : (name : Labels) (answer : List MarkedSet) (ds : List Rr) → verdict_without_ds name answer ≡ zone.Signed ds → ⊥
-none_signed name answer ds h = unsigned_step name (list_any (shows_no_ds name) answer || (shows_no_ds_by_hash name answer || list_any (is_insecure_above name) answer)) ds h
+none_signed name answer ds h = unsigned_step name (list_any (shows_no_ds name) answer
+    || (shows_no_ds_by_hash name answer || list_any (is_insecure_above name) answer)) ds h
 
 abbrev verdict_found : VerifierAnswers → Labels → ZoneVerdict → Option MarkedSet → ZoneVerdict
 verdict_found answers name without found = option_map_or (λ s. verdict_by_ds answers name s.mark s.set.records) found without
@@ -222,7 +228,8 @@ found_step j set cs without (Some c) ds stand never is h =
 
 -- where the verdict of an answer says that the zone is signed, the chain of its DS set shows the DS records
 pub signed_zone : (j : Judge) (set : RrSet) (answer : Option (List ChainedSet)) (ds : List Rr) → IsGoodAnswer j answer
-    → zone_verdict j.answers set.class set.owner (option_map bare answer) ≡ zone.Signed ds → ShowsDs j set (ds_chain set.class set.owner answer) ds
+    → zone_verdict j.answers set.class set.owner (option_map bare answer) ≡ zone.Signed ds
+    → ShowsDs j set (ds_chain set.class set.owner answer) ds
 unfolding zone_verdict
 signed_zone j set None ds good h = cc
 signed_zone j set (Some cs) ds good h =

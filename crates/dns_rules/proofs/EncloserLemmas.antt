@@ -42,7 +42,8 @@ encloser_above name nsec = by (nat_lt (length (common_ancestor name nsec.owner))
 
 -- what is above the name, and above the owner or the next name, is above the closest encloser
 encloser_below : (above name : Labels) (nsec : OwnedNsec) → at_or_above above name ≡ true
-    → (at_or_above above nsec.owner ≡ true) ⊎ (at_or_above above nsec.fields.next ≡ true) → at_or_above above (closest_encloser name nsec) ≡ true
+    → (at_or_above above nsec.owner ≡ true) ⊎ (at_or_above above nsec.fields.next ≡ true)
+    → at_or_above above (closest_encloser name nsec) ≡ true
 unfolding closest_encloser
 encloser_below above name nsec h either =
     longer_below above (common_ancestor name nsec.owner) (common_ancestor name nsec.fields.next) name
@@ -57,13 +58,15 @@ encloser_below above name nsec h either =
 -- ---- what exists
 
 -- a name of the zone at or above an owner exists
-pub exists_above : (zone : Zone) (name owner : Labels) → at_or_above zone.apex name ≡ true → is_owner zone owner ≡ true → at_or_above name owner ≡ true
+pub exists_above : (zone : Zone) (name owner : Labels) → at_or_above zone.apex name ≡ true → is_owner zone owner ≡ true
+    → at_or_above name owner ≡ true
     → exists_in zone name ≡ true
 unfolding exists_in is_owner
 exists_above zone name owner h own above =
     let k = picked (λ set. name_eq set.owner owner) zone.sets own in
     let there : list_any (λ set. at_or_above name set.owner) zone.sets ≡ true =
-    k.member.any (λ set. at_or_above name set.owner) (below_alike name owner k.it.owner (name_equiv.symm owner k.it.owner ∙ k.passes) above) in
+    k.member.any (λ set. at_or_above name set.owner) (below_alike name owner k.it.owner (name_equiv.symm owner k.it.owner
+    ∙ k.passes) above) in
     rw (h, there) refl
 
 -- every owner is in the zone
@@ -93,7 +96,8 @@ spanned_is_missing zone nsec name t spanned leaf = false_from_ne_true (exists_in
         true≢false (ap is_eq (sym (order_if_alike name nsec.fields.next same) ∙ lt))
 
 -- no wildcard exists below a missing name at or below the apex
-pub no_wildcard : (zone : Zone) (name : Labels) → at_or_above zone.apex name ≡ true → exists_in zone name ≡ false → exists_in zone (star name) ≡ false
+pub no_wildcard : (zone : Zone) (name : Labels) → at_or_above zone.apex name ≡ true → exists_in zone name ≡ false
+    → exists_in zone (star name) ≡ false
 unfolding exists_in
 no_wildcard zone name inside gone = false_from_ne_true (exists_in zone (star name)) (λ h.
     let k = existing zone (star name) h in
@@ -118,12 +122,14 @@ existing_encloses zone nsec name above t spanned h there =
         (le_trans above name nsec.fields.next (above_comes_first above name h) (le_from_Less (name_cmp name nsec.fields.next) lt)) le)
 
 -- the closest encloser is in the zone
-pub encloser_inside : (zone : Zone) (nsec : OwnedNsec) (name : Labels) → is_zone zone ≡ true → IsTrueNsec zone nsec → at_or_above zone.apex name ≡ true
+pub encloser_inside : (zone : Zone) (nsec : OwnedNsec) (name : Labels) → is_zone zone ≡ true → IsTrueNsec zone nsec
+    → at_or_above zone.apex name ≡ true
     → at_or_above zone.apex (closest_encloser name nsec) ≡ true
 encloser_inside zone nsec name formed t h = encloser_below zone.apex name nsec h (inl (owner_inside zone nsec.owner formed t.owner))
 
 -- the closest encloser exists
-encloser_exists : (zone : Zone) (nsec : OwnedNsec) (name : Labels) → is_zone zone ≡ true → IsTrueNsec zone nsec → at_or_above zone.apex name ≡ true
+encloser_exists : (zone : Zone) (nsec : OwnedNsec) (name : Labels) → is_zone zone ≡ true → IsTrueNsec zone nsec
+    → at_or_above zone.apex name ≡ true
     → exists_in zone (closest_encloser name nsec) ≡ true
 encloser_exists zone nsec name formed t h = by (encloser_above name nsec)
   where
@@ -155,7 +161,8 @@ encloser_of zone (label ∷ front) last there only =
     too_long front last label h = omega (arith, length-append front last)
 
 -- the zone's closest encloser of a spanned name is the one that the record tells
-pub same_encloser : (zone : Zone) (nsec : OwnedNsec) (name : Labels) → is_zone zone ≡ true → IsTrueNsec zone nsec → at_or_above zone.apex name ≡ true
+pub same_encloser : (zone : Zone) (nsec : OwnedNsec) (name : Labels) → is_zone zone ≡ true → IsTrueNsec zone nsec
+    → at_or_above zone.apex name ≡ true
     → spans name nsec ≡ true → encloser zone name ≡ closest_encloser name nsec
 same_encloser zone nsec name formed t h spanned =
     let e = encloser_ends name nsec in
@@ -166,7 +173,8 @@ same_encloser zone nsec name formed t h spanned =
 -- ---- nothing ends the zone above a name that a record speaks of
 
 -- a delegation's record is a cut record
-pub delegation_is_cut : (zone : Zone) (nsec : OwnedNsec) → is_zone zone ≡ true → IsTrueNsec zone nsec → is_delegation zone nsec.owner ≡ true → is_cut nsec.fields.types ≡ true
+pub delegation_is_cut : (zone : Zone) (nsec : OwnedNsec) → is_zone zone ≡ true → IsTrueNsec zone nsec
+    → is_delegation zone nsec.owner ≡ true → is_cut nsec.fields.types ≡ true
 unfolding is_delegation
 delegation_is_cut zone nsec formed t h =
     let parts = and_parts (has_set zone nsec.owner type_ns) (not (name_eq nsec.owner zone.apex)) h in
@@ -191,7 +199,8 @@ ends_alike zone one two same =
     ∙ ap (λ b. is_delegation zone two || b) (has_set_alike zone one two type_dname same)
 
 -- the end of the zone above an owner is that owner
-pub end_is_owner : (zone : Zone) (set : SetKey) (owner : Labels) → is_zone zone ≡ true → IsMember set zone.sets → zone_ends_at zone set.owner ≡ true
+pub end_is_owner : (zone : Zone) (set : SetKey) (owner : Labels) → is_zone zone ≡ true → IsMember set zone.sets
+    → zone_ends_at zone set.owner ≡ true
     → is_owner zone owner ≡ true → at_or_above set.owner owner ≡ true → name_eq set.owner owner ≡ true
 unfolding is_owner
 end_is_owner zone set owner formed m ends own above =
@@ -201,8 +210,10 @@ end_is_owner zone set owner formed m ends own above =
     name_equiv.congr set.owner k.it.owner owner same ∙ k.passes
 
 -- where a true record spans a name and isn't silent on it, the zone goes on above the name
-pub no_end_above : (zone : Zone) (nsec : OwnedNsec) (name : Labels) (set : SetKey) → is_zone zone ≡ true → IsTrueNsec zone nsec → spans name nsec ≡ true
-    → is_silent_on name nsec ≡ false → IsMember set zone.sets → zone_ends_at zone set.owner ≡ true → strictly_above set.owner name ≡ true → ⊥
+pub no_end_above : (zone : Zone) (nsec : OwnedNsec) (name : Labels) (set : SetKey) → is_zone zone ≡ true → IsTrueNsec zone nsec
+    → spans name nsec ≡ true
+    → is_silent_on name nsec ≡ false → IsMember set zone.sets → zone_ends_at zone set.owner ≡ true
+    → strictly_above set.owner name ≡ true → ⊥
 no_end_above zone nsec name set formed t spanned speaks m ends above = by (sided zone nsec name set t spanned m)
   where
     higher : at_or_above set.owner name ≡ true

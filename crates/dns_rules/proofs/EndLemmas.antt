@@ -17,7 +17,8 @@ end_asks-append visit [] ys ended = refl
 end_asks-append visit (TooDeep ∷ xs) ys ended = end_asks-append visit xs ys ended
 end_asks-append visit (TooMany ∷ xs) ys ended = end_asks-append visit xs ys ended
 end_asks-append visit (Step m ∷ xs) ys ended =
-    agree_then (visit m ended) (end_asks visit (xs ++ ys)) (λ k. option_and_then (end_asks visit ys) (end_asks visit xs k)) (end_asks-append visit xs ys)
+    agree_then (visit m ended) (end_asks visit (xs ++ ys)) (λ k. option_and_then (end_asks visit ys) (end_asks visit xs k))
+    (end_asks-append visit xs ys)
     ∙ sym (then_then (visit m ended) (end_asks visit xs) (end_asks visit ys))
 
 pub end_none : (visit : ℕ → ℕ → Option ℕ) (ended : ℕ) → end_asks visit [] ended ≡ Some ended
@@ -45,7 +46,8 @@ pub end_step_at : (above : ℕ) (b later : List AskedValue) (step : AskedValue) 
     → end_step (suc above) (b ++ step ∷ later) (length b) ended ≡ Some (length b + 1)
 unfolding end_step
 end_step_at above b later step ended asks =
-    ap (λ o. option_and_then (λ s. option_and_then (λ k. if k == length b then Some (length b + 1) else None) (end_asks (end_step above (b ++ step ∷ later)) (asks_of s) ended)) o)
+    ap (λ o. option_and_then (λ s. option_and_then (λ k. if k == length b then Some (length b + 1)
+    else None) (end_asks (end_step above (b ++ step ∷ later)) (asks_of s) ended)) o)
     (slice_get_appended b step later)
     ∙ ap (λ o. option_and_then (λ k. if k == length b then Some (length b + 1) else None) o) asks
     ∙ ends_at (length b)

@@ -11,11 +11,14 @@ use Rattle.dns_rules.specs.Derivation.{StepContext, search_from, ending_eq, endi
 use Rattle.dns_rules.specs.DerivationParts.{is_ending, ends_by_search}
 
 -- the ending of an outcome for which no zone is searched
-pub ending_without : (g : StepContext) (step : AskedValue) (told : Told) (o : Outcome) → (o ≡ outcome.NeedsZone → ⊥) → is_ending o step.ending ≡ true
+pub ending_without : (g : StepContext) (step : AskedValue) (told : Told) (o : Outcome) → (o ≡ outcome.NeedsZone → ⊥)
+    → is_ending o step.ending ≡ true
     → is_empty step.excuse ≡ true → ending_holds g step told o ≡ true
-ending_without g step told (outcome.Given d) never ends none = and_from (ending_eq (Answered d) step.ending) (is_empty step.excuse) ends none
+ending_without g step told (outcome.Given d) never ends none =
+    and_from (ending_eq (Answered d) step.ending) (is_empty step.excuse) ends none
 ending_without g step told outcome.NeedsZone never ends none = absurd (never refl)
-ending_without g step told (outcome.Denied proof) never ends none = and_from (ending_eq (Denied proof) step.ending) (is_empty step.excuse) ends none
+ending_without g step told (outcome.Denied proof) never ends none =
+    and_from (ending_eq (Denied proof) step.ending) (is_empty step.excuse) ends none
 
 -- and of one for which the excuse names the search
 pub ending_by_search : (g : StepContext) (step : AskedValue) (told : Told) (zone : ZoneVerdict)

@@ -103,7 +103,8 @@ later_past rtype late =
     (past_window (32 ∷ 0 ∷ 0 ∷ 0 ∷ 0 ∷ 3 ∷ []) rtype (omega arith) late))
 
 all_types : (nsec : OwnedNsec) → below_all 48 (λ rtype. alike (has_set zone nsec.owner rtype) (told nsec rtype)) ≡ true
-    → ((rtype : ℕ) → 48 ≤ rtype → has_set zone nsec.owner rtype ≡ told nsec rtype) → (rtype : ℕ) → has_set zone nsec.owner rtype ≡ told nsec rtype
+    → ((rtype : ℕ) → 48 ≤ rtype → has_set zone nsec.owner rtype ≡ told nsec rtype) → (rtype : ℕ)
+    → has_set zone nsec.owner rtype ≡ told nsec rtype
 all_types nsec low high rtype = by (nat_lt rtype 48) refl
   where
     by : (b : Bool) → nat_lt rtype 48 ≡ b → has_set zone nsec.owner rtype ≡ told nsec rtype

@@ -32,7 +32,11 @@ zone = record {
   sets =
       record { owner = apex; rtype = type_soa } ∷ record { owner = apex; rtype = type_ns } ∷ record { owner = below 97; rtype = type_a }
       ∷ record { owner = below 99; rtype = type_cname } ∷ record { owner = below 100; rtype = type_dname }
-      ∷ record { owner = below 115; rtype = type_ns } ∷ record { owner = below 115; rtype = type_ds } ∷ record { owner = below 117; rtype = type_ns }
+      ∷ record { owner = below 115; rtype = type_ns } ∷ record { owner = below 115; rtype = type_ds } ∷ record {
+        owner =
+            below 117;
+        rtype = type_ns;
+      }
       ∷ record { owner = star (letter 120 ∷ below 110); rtype = type_a } ∷ record { owner = star (below 119); rtype = type_a }
       ∷ record { owner = star (below 112); rtype = type_ns } ∷ record { owner = star (below 113); rtype = type_dname } ∷ [];
 }

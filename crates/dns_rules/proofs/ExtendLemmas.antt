@@ -41,7 +41,8 @@ pub keys_stay : (g : StepContext) (more : List AskedValue) (placed : PlacedSet) 
 keys_stay g more placed entry h =
     let class = placed.set.class in
     let owner = placed.set.owner in
-    keys_step_stays g (needs_ds g.judge placed.set) (is_empty entry.asked && has_mark_of (judged_keys g.judge placed None) entry) placed entry
+    keys_step_stays g (needs_ds g.judge placed.set) (is_empty entry.asked && has_mark_of (judged_keys g.judge placed None) entry)
+    placed entry
     (zone_asked g class owner entry.asked) (zone_asked (later_step_context g more) class owner entry.asked) h
     (zone_stays g more class owner entry.asked)
 
@@ -53,7 +54,8 @@ searched_stays placed entry None p h stays = cc
 searched_stays placed entry (Some zone) p h stays = ap (is_by_search placed entry) (stays zone refl) ∙ h
 
 -- an unsigned set's entry, with the asks of its search, stays when steps are appended
-pub unsigned_stays : (g : StepContext) (more : List AskedValue) (placed : PlacedSet) (entry : JudgedSetValue) → unsigned_holds g placed entry ≡ true
+pub unsigned_stays : (g : StepContext) (more : List AskedValue) (placed : PlacedSet) (entry : JudgedSetValue)
+    → unsigned_holds g placed entry ≡ true
     → unsigned_holds (later_step_context g more) placed entry ≡ true
 unsigned_stays g more placed entry h =
     let class = placed.set.class in
@@ -65,7 +67,8 @@ unsigned_stays g more placed entry h =
 
 rules_stay : (keys searched x x' y y' : Bool) (placed : PlacedSet) (entry : JudgedSetValue) (o p : Option (List Verdict))
     → (if keys then x else if searched then y else is_by_verdicts placed entry o) ≡ true → (x ≡ true → x' ≡ true) → (y ≡ true → y' ≡ true)
-    → ((vs : List Verdict) → o ≡ Some vs → p ≡ Some vs) → (if keys then x' else if searched then y' else is_by_verdicts placed entry p) ≡ true
+    → ((vs : List Verdict) → o ≡ Some vs → p ≡ Some vs)
+    → (if keys then x' else if searched then y' else is_by_verdicts placed entry p) ≡ true
 rules_stay true searched x x' y y' placed entry o p h of_keys of_search stays = of_keys h
 rules_stay false true x x' y y' placed entry o p h of_keys of_search stays = of_search h
 rules_stay false false x x' y y' placed entry None p h of_keys of_search stays = cc
@@ -82,7 +85,8 @@ origin_stays : (g : StepContext) (more : List AskedValue) (placed : PlacedSet) (
     → is_by_origin g placed entry origin ≡ true → is_by_origin (later_step_context g more) placed entry origin ≡ true
 origin_stays g more placed entry Table h =
     let signatures = take most_signatures placed.set.signatures in
-    rules_stay (placed.set.rtype == type_dnskey) (needs_zone placed.set) (keys_hold g placed entry) (keys_hold (later_step_context g more) placed entry)
+    rules_stay (placed.set.rtype == type_dnskey) (needs_zone placed.set) (keys_hold g placed entry)
+    (keys_hold (later_step_context g more) placed entry)
     (unsigned_holds g placed entry) (unsigned_holds (later_step_context g more) placed entry) placed entry
     (verdicts_by g placed.set signatures entry.asked) (verdicts_by (later_step_context g more) placed.set signatures entry.asked) h
     (keys_stay g more placed entry) (unsigned_stays g more placed entry) (verdicts_stay g more placed.set signatures entry.asked)
@@ -93,7 +97,8 @@ origin_stays g more placed entry (Repeat n) h =
 origin_stays g more placed entry Cache h = h
 
 -- an entry stays when steps are appended
-pub entry_stays : (g : StepContext) (more : List AskedValue) (placed : PlacedSet) (entry : JudgedSetValue) → entry_holds g placed entry ≡ true
+pub entry_stays : (g : StepContext) (more : List AskedValue) (placed : PlacedSet) (entry : JudgedSetValue)
+    → entry_holds g placed entry ≡ true
     → entry_holds (later_step_context g more) placed entry ≡ true
 unfolding entry_holds
 entry_stays g more placed entry h =
@@ -125,7 +130,8 @@ pub entries_none : (g : StepContext) → entries_hold g [] [] ≡ true
 unfolding entries_hold
 entries_none g = refl
 
-pub entries_append : (g : StepContext) (ps qs : List PlacedSet) (es fs : List JudgedSetValue) → entries_hold g ps es ≡ true → entries_hold g qs fs ≡ true
+pub entries_append : (g : StepContext) (ps qs : List PlacedSet) (es fs : List JudgedSetValue) → entries_hold g ps es ≡ true
+    → entries_hold g qs fs ≡ true
     → entries_hold g (ps ++ qs) (es ++ fs) ≡ true
 unfolding entries_hold
 entries_append g [] qs [] fs h k = k
@@ -135,13 +141,15 @@ entries_append g (p ∷ ps) qs (e ∷ es) fs h k =
     let parts = and_parts (entry_holds g p e) (entries_hold g ps es) h in
     and_from (entry_holds g p e) (entries_hold g (ps ++ qs) (es ++ fs)) parts.0 (entries_append g ps qs es fs parts.1 k)
 
-pub entries_more : (g : StepContext) (ps : List PlacedSet) (p : PlacedSet) (es : List JudgedSetValue) (e : JudgedSetValue) → entries_hold g ps es ≡ true
+pub entries_more : (g : StepContext) (ps : List PlacedSet) (p : PlacedSet) (es : List JudgedSetValue) (e : JudgedSetValue)
+    → entries_hold g ps es ≡ true
     → entry_holds g p e ≡ true → entries_hold g (ps ++ p ∷ []) (es ++ e ∷ []) ≡ true
 unfolding entries_hold
 entries_more g ps p es e h k = entries_append g ps (p ∷ []) es (e ∷ []) h (and_from (entry_holds g p e) true k refl)
 
 -- there is an entry for each set
-pub entries_as_many : (g : StepContext) (ps : List PlacedSet) (es : List JudgedSetValue) → entries_hold g ps es ≡ true → length ps ≡ length es
+pub entries_as_many : (g : StepContext) (ps : List PlacedSet) (es : List JudgedSetValue) → entries_hold g ps es ≡ true
+    → length ps ≡ length es
 unfolding entries_hold
 entries_as_many g [] [] h = refl
 entries_as_many g [] (e ∷ es) h = cc
@@ -198,7 +206,8 @@ place_same (Some n) None h = cc
 place_same (Some n) (Some m) h = ap Some (number_same n m h)
 
 -- an entry with the mark and the signature of a judged set
-pub has_mark_from : (judged : MarkedSet) (entry : JudgedSetValue) → judged.mark ≡ entry.mark → judged.sig ≡ entry.sig → has_mark_of judged entry ≡ true
+pub has_mark_from : (judged : MarkedSet) (entry : JudgedSetValue) → judged.mark ≡ entry.mark → judged.sig ≡ entry.sig
+    → has_mark_of judged entry ≡ true
 has_mark_from judged entry mark sig =
     and_from (proof_eq judged.mark entry.mark) (place_eq judged.sig entry.sig)
     (ap (proof_eq judged.mark) (sym mark) ∙ proof_refl judged.mark) (ap (place_eq judged.sig) (sym sig) ∙ place_refl judged.sig)
@@ -209,7 +218,8 @@ pub record IsEntryOf (placed : PlacedSet) (entry : JudgedSetValue) : Type 0 wher
   pub owner : placed.set.owner ≡ entry.owner
   pub rtype : placed.set.rtype ≡ entry.rtype
 
-entry_from : (g : StepContext) (placed : PlacedSet) (entry : JudgedSetValue) → IsEntryOf placed entry → is_by_origin g placed entry entry.origin ≡ true
+entry_from : (g : StepContext) (placed : PlacedSet) (entry : JudgedSetValue) → IsEntryOf placed entry
+    → is_by_origin g placed entry entry.origin ≡ true
     → entry_holds g placed entry ≡ true
 unfolding entry_holds
 entry_from g placed entry is h =
@@ -222,7 +232,8 @@ entry_from g placed entry is h =
     (and_from rtype by_origin (ap (λ n. placed.set.rtype == n) (sym is.rtype) ∙ number_refl placed.set.rtype) h))
 
 -- the entry of a set that is judged by the rules, by the rule that is for it
-entry_of_table : (g : StepContext) (placed : PlacedSet) (entry : JudgedSetValue) (keys searched : Bool) → IsEntryOf placed entry → entry.origin ≡ Table
+entry_of_table : (g : StepContext) (placed : PlacedSet) (entry : JudgedSetValue) (keys searched : Bool) → IsEntryOf placed entry
+    → entry.origin ≡ Table
     → (placed.set.rtype == type_dnskey) ≡ keys → needs_zone placed.set ≡ searched
     → (if keys then keys_hold g placed entry
     else if searched then unsigned_holds g placed entry
@@ -237,7 +248,8 @@ entry_of_table g placed entry keys searched is origin is_keys is_unsigned holds 
     ∙ ap (λ b. if keys then keys_hold g placed entry else if b then unsigned else by_verdicts) is_unsigned ∙ holds)
 
 -- the entry of a key set that needs no DS verdict, and asks nothing
-pub entry_of_keys : (g : StepContext) (placed : PlacedSet) (entry : JudgedSetValue) → IsEntryOf placed entry → (placed.set.rtype == type_dnskey) ≡ true
+pub entry_of_keys : (g : StepContext) (placed : PlacedSet) (entry : JudgedSetValue) → IsEntryOf placed entry
+    → (placed.set.rtype == type_dnskey) ≡ true
     → needs_ds g.judge placed.set ≡ false → entry.asked ≡ [] → entry.origin ≡ Table
     → has_mark_of (judged_keys g.judge placed None) entry ≡ true → entry_holds g placed entry ≡ true
 entry_of_keys g placed entry is keys needs asked origin mark =
@@ -247,7 +259,8 @@ entry_of_keys g placed entry is keys needs asked origin mark =
     (ap (λ b. if b then by_zone else is_empty entry.asked && has) needs ∙ ap (λ asks. is_empty asks && has) asked ∙ mark)
 
 -- the entry of a key set that asks for the DS set of its owner
-pub entry_by_ds : (g : StepContext) (placed : PlacedSet) (entry : JudgedSetValue) (ask : AskRef) (zone : ZoneVerdict) → IsEntryOf placed entry
+pub entry_by_ds : (g : StepContext) (placed : PlacedSet) (entry : JudgedSetValue) (ask : AskRef) (zone : ZoneVerdict)
+    → IsEntryOf placed entry
     → (placed.set.rtype == type_dnskey) ≡ true → needs_ds g.judge placed.set ≡ true → entry.asked ≡ ask ∷ [] → entry.origin ≡ Table
     → is_ask g.limits.depth g.earlier (g.depth + 1) (ds_question placed.set.class placed.set.owner) ask ≡ true
     → zone ≡ zone_verdict g.judge.answers placed.set.class placed.set.owner (finished_answer g.earlier ask)
@@ -271,13 +284,15 @@ entry_of_search g placed entry zone is other unsigned origin found mark =
 -- the entry of another set, by the verdicts of its first signatures
 pub entry_of_verdicts : (g : StepContext) (placed : PlacedSet) (entry : JudgedSetValue) (vs : List Verdict) → IsEntryOf placed entry
     → (placed.set.rtype == type_dnskey) ≡ false → needs_zone placed.set ≡ false → entry.origin ≡ Table
-    → verdicts_by g placed.set (take most_signatures placed.set.signatures) entry.asked ≡ Some vs → has_mark_of (judged_by placed vs) entry ≡ true
+    → verdicts_by g placed.set (take most_signatures placed.set.signatures) entry.asked ≡ Some vs
+    → has_mark_of (judged_by placed vs) entry ≡ true
     → entry_holds g placed entry ≡ true
 entry_of_verdicts g placed entry vs is other signed origin verdicts mark =
     entry_of_table g placed entry false false is origin other signed (ap (is_by_verdicts placed entry) verdicts ∙ mark)
 
 -- the entry of a set that an earlier step found out about
-pub entry_of_repeat : (g : StepContext) (placed : PlacedSet) (entry : JudgedSetValue) (n : ℕ) → IsEntryOf placed entry → entry.origin ≡ Repeat n
+pub entry_of_repeat : (g : StepContext) (placed : PlacedSet) (entry : JudgedSetValue) (n : ℕ) → IsEntryOf placed entry
+    → entry.origin ≡ Repeat n
     → entry.asked ≡ [] → repeats_step g placed entry (slice_get g.earlier n) ≡ true → entry_holds g placed entry ≡ true
 entry_of_repeat g placed entry n is origin asked repeats =
     let by_step = repeats_step g placed entry (slice_get g.earlier n) in

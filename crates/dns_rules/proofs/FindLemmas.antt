@@ -9,7 +9,8 @@ use Rattle.std.proofs.lemmas.List.Folds.{find-append}
 
 -- ---- each element
 
-pub each_all : {X : Type 0} (p : X → Bool) (P : X → Type 0) → ((x : X) → p x ≡ true → P x) → (xs : List X) → list_all p xs ≡ true → AllByRecursion P xs
+pub each_all : {X : Type 0} (p : X → Bool) (P : X → Type 0) → ((x : X) → p x ≡ true → P x) → (xs : List X)
+    → list_all p xs ≡ true → AllByRecursion P xs
 each_all p P f [] h = tt
 each_all p P f (x ∷ xs) h = let parts = and_parts (p x) (list_all p xs) h in (f x parts.0, each_all p P f xs parts.1)
 

@@ -37,7 +37,8 @@ early_from all met (key ∷ keys) n is at =
     let longer : n + 1 ≡ length (met ++ key ∷ []) = omega (arith, length-append met (key ∷ [])) in
     early_step (is_early all (n, key)) n key (filter (is_early all) (enumerate_from (n + 1) keys)) (early_after (met ++ key ∷ []) keys)
     (early_from all (met ++ key ∷ []) keys (n + 1) next longer)
-    ∙ ap (λ ks. cond (nat_lt (count_by (same_tag key) ks) 2) (key ∷ early_after (met ++ key ∷ []) keys) (early_after (met ++ key ∷ []) keys)) before
+    ∙ ap (λ ks. cond (nat_lt (count_by (same_tag key) ks) 2) (key ∷ early_after (met ++ key ∷ []) keys)
+    (early_after (met ++ key ∷ []) keys)) before
 
 pub first_two-after : (keys : List Rr) → first_two keys ≡ early_after [] keys
 unfolding first_two
@@ -77,7 +78,8 @@ pub signed_more : (signer : Rr → Option Rr) (n : ℕ) (signature : Rr) (signat
     → signed_from signer n (signature ∷ signatures) ≡ signed_or n signature (signer signature) (signed_from signer (n + 1) signatures)
 unfolding signed_from
 signed_more signer n signature signatures =
-    signed_step n signature (signer signature) (filter_map (λ p. option_map (signed_as p.0 p.1) (signer p.1)) (enumerate_from (n + 1) signatures))
+    signed_step n signature (signer signature)
+    (filter_map (λ p. option_map (signed_as p.0 p.1) (signer p.1)) (enumerate_from (n + 1) signatures))
 
 -- signers that agree on each signature find the same
 pub signed_agree_each : (signer other : Rr → Option Rr) (n : ℕ) (signatures : List Rr) → AllByRecursion (λ r. signer r ≡ other r) signatures
@@ -91,7 +93,8 @@ signed_agree_each signer other n (r ∷ rs) same =
 
 pub signed_agree : (signer other : Rr → Option Rr) → ((r : Rr) → signer r ≡ other r) → (n : ℕ) (signatures : List Rr)
     → signed_from signer n signatures ≡ signed_from other n signatures
-signed_agree signer other same n signatures = signed_agree_each signer other n signatures (each_of (λ r. signer r ≡ other r) same signatures)
+signed_agree signer other same n signatures =
+    signed_agree_each signer other n signatures (each_of (λ r. signer r ≡ other r) same signatures)
 
 unsigned_step : (n : ℕ) (r : Rr) (o : Option Rr) (rest : Option SignedKeys) → signed_or n r o rest ≡ None → (o ≡ None) × (rest ≡ None)
 unsigned_step n r None rest h = (refl, h)

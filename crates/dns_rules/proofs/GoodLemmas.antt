@@ -4,7 +4,7 @@ use Rattle.std.specs.Prelude.{nat_le, if◌then◌else◌}
 use Rattle.std.proofs.lemmas.Bool.{and_parts, and_from}
 use Rattle.dns_model.specs.Names.{Labels, name_eq, at_or_above, num_labels}
 use Rattle.dns_model.specs.Types.{type_rrsig, type_dnskey}
-use Rattle.dns_model.specs.Views.{RrsigValue, DnskeyValue, rrsig_in, dnskey_in, is_zone_key}
+use Rattle.dns_model.specs.Views.{RrsigValue, DnskeyValue, rrsig_in, dnskey_in, is_zone_key, is_revoked}
 use Rattle.dns_model.specs.RecordViews.{rrsig_of, dnskey_of}
 use Rattle.dns_model.proofs.RecordViewLemmas.{rrsig_read, dnskey_read}
 use Rattle.dns_model.specs.Signing.{signed_bytes, key_tag_of}
@@ -12,7 +12,7 @@ use Rattle.dns_model.specs.Records.{Rr, RrSet}
 use Rattle.dns_model.specs.Keys.{usable_key}
 use Rattle.dns_model.specs.Chains.{LinkValue, Signed, Judge, is_nonempty, rdatas_of, signer_fits, never_expanded, right_below_signer, is_good, key_comes, is_signed, link_holds}
 use Rattle.dns_model.proofs.SetLemmas.{number_same, IsProper}
-use Rattle.dns_rules.specs.Validity.{Validity, ValidRrsig, ExpiredRrsig, WrongDnskey, WrongRrsig, is_of_set, is_by_key, validity, is_valid, is_good_by}
+use Rattle.dns_rules.specs.Validity.{Validity, ValidRrsig, ExpiredRrsig, WrongDnskey, WrongRrsig, is_of_set, is_by_key, validity, is_valid, is_accepted_where, is_good_by, usable_but_for_revoke, is_good_but_for_revoke, is_unrevoked}
 use Rattle.dns_rules.specs.MarkParts.{key_validity, sig_validity, is_accepted}
 
 -- ---- what a good signature is
@@ -54,14 +54,52 @@ pub good_parts : (j : Judge) (set : RrSet) (r key : Rr) (sig : RrsigValue) → r
     → IsGoodRead j set r key sig
 unfolding is_good_by validity
 good_parts j set r key sig is good =
-    let both = and_parts (is_valid (sig_validity j.is_timely set r key (rrsig_of r))) (is_accepted j set (rrsig_of r) (dnskey_of key)) good in
-    let valid : is_valid (sig_validity j.is_timely set r key (Some sig)) ≡ true = ap (λ o. is_valid (sig_validity j.is_timely set r key o)) (sym is) ∙ both.0 in
+    let both = and_parts (is_valid (sig_validity j.is_timely set r key (rrsig_of r)))
+    (is_accepted j set (rrsig_of r) (dnskey_of key)) good in
+    let valid : is_valid (sig_validity j.is_timely set r key (Some sig)) ≡ true =
+    ap (λ o. is_valid (sig_validity j.is_timely set r key o)) (sym is) ∙ both.0 in
     let accepted : is_accepted j set (Some sig) (dnskey_of key) ≡ true = ap (λ o. is_accepted j set o (dnskey_of key)) (sym is) ∙ both.1 in
     let parts = valid_parts (is_of_set set r sig) (j.is_timely sig) (key_validity sig key (dnskey_of key)) valid in
     good_by_key j set r key sig (dnskey_of key) refl parts.0 parts.1 parts.2 accepted
 
+-- ---- a good signature, and one that is good but for the flag REVOKE
+
+usable_parts : (zone revoked rest accepts : Bool)
+    → ((zone && (not revoked && rest)) && accepts) ≡ (((zone && rest) && accepts) && not revoked)
+usable_parts false revoked rest accepts = refl
+usable_parts true false false accepts = refl
+usable_parts true false true false = refl
+usable_parts true false true true = refl
+usable_parts true true false accepts = refl
+usable_parts true true true false = refl
+usable_parts true true true true = refl
+
+revoked_apart : (j : Judge) (set : RrSet) (read : Option RrsigValue) (key : Option DnskeyValue)
+    → is_accepted j set read key ≡ (is_accepted_where (usable_but_for_revoke j.answers) j set read key && is_unrevoked key)
+revoked_apart j set None key = refl
+revoked_apart j set (Some sig) None = refl
+revoked_apart j set (Some sig) (Some text) =
+    usable_parts (is_zone_key text) (is_revoked text) ((text.protocol == 3) && j.answers.supports text.algorithm)
+    (j.answers.accepts sig.algorithm text.key (signed_bytes set.owner set.rtype set.class (rdatas_of set.records) sig) sig.signature)
+
+and_again : (a b c : Bool) → (a && (b && c)) ≡ ((a && b) && c)
+and_again true b c = refl
+and_again false b c = refl
+
+-- a signature is good by a key exactly where it is but for the flag REVOKE, and the key isn't revoked
+pub good_unrevoked : (j : Judge) (set : RrSet) (r key : Rr)
+    → is_good_by j set r key ≡ (is_good_but_for_revoke j set r key && is_unrevoked (dnskey_of key))
+unfolding is_good_by is_good_but_for_revoke
+good_unrevoked j set r key =
+    ap (λ b. is_valid (validity j.is_timely set r key) && b) (revoked_apart j set (rrsig_of r) (dnskey_of key))
+    ∙ and_again (is_valid (validity j.is_timely set r key))
+    (is_accepted_where (usable_but_for_revoke j.answers) j set (rrsig_of r) (dnskey_of key)) (is_unrevoked (dnskey_of key))
+
+-- ---- what it is of
+
 -- the name that a good signature gives is that of its key
-pub signer_is_owner : (j : Judge) (set : RrSet) (r key : Rr) (sig : RrsigValue) → IsGoodRead j set r key sig → name_eq sig.signer key.owner ≡ true
+pub signer_is_owner : (j : Judge) (set : RrSet) (r key : Rr) (sig : RrsigValue) → IsGoodRead j set r key sig
+    → name_eq sig.signer key.owner ≡ true
 signer_is_owner j set r key sig good =
     (and_parts (name_eq sig.signer key.owner)
     ((good.text.algorithm == sig.algorithm) && ((key_tag_of key.rdata == sig.key_tag) && is_zone_key good.text)) good.by_key).0
@@ -83,11 +121,14 @@ pub good_in_link : (j : Judge) (set : RrSet) (r key : Rr) (sig : RrsigValue) →
     → is_good j set.owner set.class set.rtype (rdatas_of set.records) sig key.rdata (dnskey_in key.rdata) ≡ true
 good_in_link j set r key sig good =
     let text = good.text in
-    let accepts = j.answers.accepts sig.algorithm text.key (signed_bytes set.owner set.rtype set.class (rdatas_of set.records) sig) sig.signature in
-    let by = and_four (name_eq sig.signer key.owner) (text.algorithm == sig.algorithm) (key_tag_of key.rdata == sig.key_tag) (is_zone_key text) good.by_key in
+    let accepts = j.answers.accepts sig.algorithm text.key (signed_bytes set.owner set.rtype set.class (rdatas_of set.records) sig)
+    sig.signature in
+    let by = and_four (name_eq sig.signer key.owner) (text.algorithm == sig.algorithm) (key_tag_of key.rdata == sig.key_tag)
+    (is_zone_key text) good.by_key in
     let to = and_parts (usable_key j.answers text) accepts good.accepted in
     ap (is_good j set.owner set.class set.rtype (rdatas_of set.records) sig key.rdata) (dnskey_read key text good.read)
-    ∙ good_again (usable_key j.answers text) (text.algorithm == sig.algorithm) (key_tag_of key.rdata == sig.key_tag) (j.is_timely sig) accepts
+    ∙ good_again (usable_key j.answers text) (text.algorithm == sig.algorithm) (key_tag_of key.rdata == sig.key_tag)
+    (j.is_timely sig) accepts
     to.0 by.1 by.2 good.timely to.1
 
 -- the parts of a test that a signature is of a set
@@ -142,6 +183,8 @@ signed_holds j earlier set r key sig key_link proper is good fits =
     of_set.covered fits.signer of_set.labels fits.unexpanded fits.below (good_in_link j set r key sig text) fits.comes in
     let read : is_signed j earlier set.owner set.class set.rtype rdatas key_link key.rdata (rrsig_in r.rdata) ≡ true =
     ap (is_signed j earlier set.owner set.class set.rtype rdatas key_link key.rdata) (rrsig_read r sig is) ∙ signed in
-    and_from (not (set.rtype == type_rrsig)) (is_nonempty rdatas && is_signed j earlier set.owner set.class set.rtype rdatas key_link key.rdata (rrsig_in r.rdata))
+    and_from (not (set.rtype == type_rrsig)) (is_nonempty rdatas
+    && is_signed j earlier set.owner set.class set.rtype rdatas key_link key.rdata (rrsig_in r.rdata))
     (ap not proper.plain)
-    (and_from (is_nonempty rdatas) (is_signed j earlier set.owner set.class set.rtype rdatas key_link key.rdata (rrsig_in r.rdata)) proper.listed read)
+    (and_from (is_nonempty rdatas) (is_signed j earlier set.owner set.class set.rtype rdatas key_link key.rdata (rrsig_in r.rdata))
+    proper.listed read)

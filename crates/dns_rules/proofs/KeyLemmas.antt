@@ -44,7 +44,8 @@ wire_tells (l ∷ a) (m ∷ b) h =
 pub owner_same : (a b : Rr) → same_bytes a b ≡ true → a.owner ≡ b.owner
 owner_same a b h =
     let rest = (a.rtype == b.rtype) && ((a.class == b.class) && bytes_eq a.rdata b.rdata) in
-    wire_tells a.owner b.owner ((bytes_decides (wire a.owner) (wire b.owner)).0 (and_parts (bytes_eq (wire a.owner) (wire b.owner)) rest h).0)
+    wire_tells a.owner b.owner ((bytes_decides (wire a.owner) (wire b.owner)).0
+    (and_parts (bytes_eq (wire a.owner) (wire b.owner)) rest h).0)
 
 -- and one type
 pub rtype_same : (a b : Rr) → same_bytes a b ≡ true → a.rtype ≡ b.rtype

@@ -45,10 +45,12 @@ signed_step signer n r rs (Some key) rest s is later h =
       by = ap (λ x. signer x.signature) (sym same) ∙ is ∙ ap (λ x. Some x.key) same;
     }
 
-pub signed_at : (signer : Rr → Option Rr) (n : ℕ) (rs : List Rr) (s : SignedKeys) → signed_from signer n rs ≡ Some s → IsSignedAt signer rs n s
+pub signed_at : (signer : Rr → Option Rr) (n : ℕ) (rs : List Rr) (s : SignedKeys) → signed_from signer n rs ≡ Some s
+    → IsSignedAt signer rs n s
 signed_at signer n [] s h = let none : signed_from signer n [] ≡ None = signed_none signer n in cc
 signed_at signer n (r ∷ rs) s h =
-    signed_step signer n r rs (signer r) (signed_from signer (n + 1) rs) s refl (signed_at signer (n + 1) rs s) (sym (signed_more signer n r rs) ∙ h)
+    signed_step signer n r rs (signer r) (signed_from signer (n + 1) rs) s refl (signed_at signer (n + 1) rs s)
+    (sym (signed_more signer n r rs) ∙ h)
 
 -- a good signature can be read
 record IsRead (r : Rr) : Type 0 where
@@ -75,7 +77,8 @@ pub record IsKeyLink (j : Judge) (set : RrSet) (front : List LinkValue) (key : R
 
 -- ---- a key set signed by a trusted key of it
 
-signer_of_keys : (rtype : ℕ) (signer owner : Labels) → (rtype == type_dnskey) ≡ true → at_or_above signer owner ≡ true → signer_fits rtype signer owner ≡ true
+signer_of_keys : (rtype : ℕ) (signer owner : Labels) → (rtype == type_dnskey) ≡ true → at_or_above signer owner ≡ true
+    → signer_fits rtype signer owner ≡ true
 signer_of_keys rtype signer owner keys h = rw (number_same rtype type_dnskey keys) h
 
 comes_of_keys : (keys owner member shown other : Bool) → keys ≡ true → owner ≡ true → member ≡ true → shown ≡ true
@@ -83,14 +86,16 @@ comes_of_keys : (keys owner member shown other : Bool) → keys ≡ true → own
 comes_of_keys keys owner member shown other k o m s = rw (k, o, m, s) refl
 
 -- the links before, and the link of the key
-with_key_link : (j : Judge) (set : RrSet) (front : List LinkValue) (key : Rr) (link : LinkValue) → links_hold j [] front ≡ true → IsKeyLink j set front key link
+with_key_link : (j : Judge) (set : RrSet) (front : List LinkValue) (key : Rr) (link : LinkValue) → links_hold j [] front ≡ true
+    → IsKeyLink j set front key link
     → justified j (front ++ link ∷ []) ≡ true
 with_key_link j set front key link held by =
     let here : link_holds j front link ≡ true = ap (λ e. link_holds j e link) (sym (append-nil front)) ∙ by.holds [] in
     and_from (is_nonempty (front ++ link ∷ [])) (links_hold j [] (front ++ link ∷ [])) (is_nonempty-append front link)
     (links_hold-append j [] front link ∙ and_from (links_hold j [] front) (link_holds j front link) held here)
 
-pub self_signed : (may_sign : Rr → Bool) (j : Judge) (set : RrSet) (rs : List Rr) (s : SignedKeys) (front : List LinkValue) (link : LinkValue)
+pub self_signed : (may_sign : Rr → Bool) (j : Judge) (set : RrSet) (rs : List Rr) (s : SignedKeys) (front : List LinkValue)
+    (link : LinkValue)
     → IsProper set → (set.rtype == type_dnskey) ≡ true → links_hold j [] front ≡ true → IsSignedAt (signer_among may_sign j set) rs 0 s
     → (may_sign s.key ≡ true → IsKeyLink j set front s.key link) → IsChainFor j set (self_signed_chain set front link s) (Some s.signature)
 self_signed may_sign j set rs s front link proper keys held at trusted =
@@ -98,7 +103,8 @@ self_signed may_sign j set rs s front link proper keys held at trusted =
     let test = λ (key : Rr). may_sign key && is_good_by j set s.signature key in
     let Member = λ (key : Rr). has_bytes rdatas key.rdata ≡ true in
     let Own = λ (key : Rr). is_of set key ≡ true in
-    let found = find_known test (λ key. Member key × Own key) set.records s.key (each_both Member Own set.records (each_member set.records) proper.own) at.by in
+    let found = find_known test (λ key. Member key × Own key) set.records s.key
+    (each_both Member Own set.records (each_member set.records) proper.own) at.by in
     let passes = and_parts (may_sign s.key) (is_good_by j set s.signature s.key) found.passes in
     let by = trusted passes.0 in
     let read = good_is_read j set s.signature s.key passes.1 in
@@ -106,7 +112,8 @@ self_signed may_sign j set rs s front link proper keys held at trusted =
     let above = (of_set_parts set s.signature read.sig good.of_set).above in
     let own = and_parts (name_eq set.owner s.key.owner) (set.rtype == s.key.rtype) found.known.1 in
     let owner : name_eq set.owner read.sig.signer ≡ true =
-    name_trans set.owner s.key.owner read.sig.signer own.0 (name_back read.sig.signer s.key.owner (signer_is_owner j set s.signature s.key read.sig good)) in
+    name_trans set.owner s.key.owner read.sig.signer own.0
+    (name_back read.sig.signer s.key.owner (signer_is_owner j set s.signature s.key read.sig good)) in
     let earlier = front ++ link ∷ [] in
     let last = length front in
     let signed = Signed set.owner set.class set.rtype rdatas s.signature.rdata last s.key.rdata in
@@ -114,7 +121,8 @@ self_signed may_sign j set rs s front link proper keys held at trusted =
     ap (shows_key set.owner set.class s.key.rdata) (slice_get_appended front link []) ∙ by.shown in
     let comes : key_comes earlier set.owner set.class set.rtype rdatas read.sig.signer last s.key.rdata ≡ true =
     comes_of_keys (set.rtype == type_dnskey) (name_eq set.owner read.sig.signer) (has_bytes rdatas s.key.rdata)
-    (shows_key set.owner set.class s.key.rdata (slice_get earlier last)) (shows_member read.sig.signer set.class s.key.rdata (slice_get earlier last))
+    (shows_key set.owner set.class s.key.rdata (slice_get earlier last))
+    (shows_member read.sig.signer set.class s.key.rdata (slice_get earlier last))
     keys owner found.known.0 shown in
     let fits : Fits earlier set read.sig last s.key.rdata = record {
       unexpanded = keys_unexpanded set.rtype read.sig.labels set.owner keys;
@@ -161,9 +169,11 @@ keys_shown owner class front link (r ∷ rs) n is shown =
     let later : all_shown (front ++ link r ∷ rest) owner class keys (numbers_from (n + 1) keys) ≡ true =
     ap (λ e. all_shown e owner class keys (numbers_from (n + 1) keys)) (sym (append_assoc front (link r ∷ []) rest))
     ∙ keys_shown owner class (front ++ link r ∷ []) link rs (n + 1) longer shown.1 in
-    and_from (shows_key owner class r.rdata (slice_get (front ++ link r ∷ rest) n)) (all_shown (front ++ link r ∷ rest) owner class keys (numbers_from (n + 1) keys)) here later
+    and_from (shows_key owner class r.rdata (slice_get (front ++ link r ∷ rest) n))
+    (all_shown (front ++ link r ∷ rest) owner class keys (numbers_from (n + 1) keys)) here later
 
-pub wholly_trusted : (j : Judge) (set : RrSet) (front : List LinkValue) (link : Rr → LinkValue) → IsProper set → (set.rtype == type_dnskey) ≡ true
+pub wholly_trusted : (j : Judge) (set : RrSet) (front : List LinkValue) (link : Rr → LinkValue) → IsProper set
+    → (set.rtype == type_dnskey) ≡ true
     → links_hold j [] front ≡ true → AreKeyLinks j set front link set.records → IsChainFor j set (whole_chain set front link) None
 unfolding link_holds
 wholly_trusted j set front link proper keys held by =
@@ -185,7 +195,8 @@ wholly_trusted j set front link proper keys held by =
     links_hold-append j [] earlier whole ∙ and_from (links_hold j [] earlier) (link_holds j earlier whole) before holds in
     let ended = last_link-append earlier whole in
     record {
-      held = and_from (is_nonempty (earlier ++ whole ∷ [])) (links_hold j [] (earlier ++ whole ∷ [])) (is_nonempty-append earlier whole) both;
+      held = and_from (is_nonempty (earlier ++ whole ∷ [])) (links_hold j [] (earlier ++ whole ∷ []))
+          (is_nonempty-append earlier whole) both;
       ends = ap (link_is_for set) ended ∙ keys_are_for set numbers keys;
       named = ap (λ l. names_decider l None) ended;
     }

@@ -52,12 +52,14 @@ ds_step : (j : Judge) (placed : PlacedSet) (front : List LinkValue) (ds : List R
     → ((s : SignedKeys) → o ≡ Some s → stands j (keys_chained j placed front (SignedByMatched ds s)) ≡ true)
     → (all ≡ true → stands j (keys_chained j placed front (WhollyTrusted ds)) ≡ true)
     → stands j (keys_chained j placed front
-    (option_map_or (SignedByMatched ds) o (if all then WhollyTrusted ds else Refused proof.Bogus (DsRecordsButNoDnskey placed.set.owner)))) ≡ true
+    (option_map_or (SignedByMatched ds) o (if all then WhollyTrusted ds
+    else Refused proof.Bogus (DsRecordsButNoDnskey placed.set.owner)))) ≡ true
 ds_step j placed front ds (Some s) all signed whole = signed s refl
 ds_step j placed front ds None true signed whole = whole refl
 ds_step j placed front ds None false signed whole = refl
 
-ds_stands : (j : Judge) (placed : PlacedSet) (front : List LinkValue) (ds : List Rr) → IsProper placed.set → (placed.set.rtype == type_dnskey) ≡ true
+ds_stands : (j : Judge) (placed : PlacedSet) (front : List LinkValue) (ds : List Rr) → IsProper placed.set
+    → (placed.set.rtype == type_dnskey) ≡ true
     → ShowsDs j placed.set front ds → stands j (keys_chained j placed front (outcome_by_ds j placed.set ds)) ≡ true
 ds_stands j placed front ds proper keys shows =
     let set = placed.set in
@@ -66,9 +68,11 @@ ds_stands j placed front ds proper keys shows =
     let last = length front - 1 in
     ds_step j placed front ds (signed_by matched j set) (list_all trusted set.records)
     (λ s is. stands_from j (keys_chained j placed front (SignedByMatched ds s))
-    (signed_chain_for matched j set front (matched_by j set last ds) s proper keys shows.held (λ key h. matched_by_ds j set front ds key shows h) is))
+    (signed_chain_for matched j set front (matched_by j set last ds) s proper keys shows.held
+    (λ key h. matched_by_ds j set front ds key shows h) is))
     (λ all. stands_from j (keys_chained j placed front (WhollyTrusted ds))
-    (whole_chain_for trusted j set front (trusted_link j set last ds) proper keys shows.held (λ key h. trusted_by j set front ds key shows h) all))
+    (whole_chain_for trusted j set front (trusted_link j set last ds) proper keys shows.held
+    (λ key h. trusted_by j set front ds key shows h) all))
 
 -- by the DS verdict, where the links before show its DS records
 zone_stands : (j : Judge) (placed : PlacedSet) (front : List LinkValue) (zone : Option ZoneVerdict) → IsProper placed.set
@@ -76,7 +80,8 @@ zone_stands : (j : Judge) (placed : PlacedSet) (front : List LinkValue) (zone : 
     → stands j (keys_chained j placed front (outcome_by_verdict j placed.set zone)) ≡ true
 zone_stands j placed front None proper keys shows = refl
 zone_stands j placed front (Some (Signed ds)) proper keys shows =
-    ds_stands j placed front (filter (is_supported_ds j.answers) ds) proper keys (shows_of j placed.set front ds (is_supported_ds j.answers) (shows ds refl))
+    ds_stands j placed front (filter (is_supported_ds j.answers) ds) proper keys
+    (shows_of j placed.set front ds (is_supported_ds j.answers) (shows ds refl))
 zone_stands j placed front (Some (Insecure kind)) proper keys shows = refl
 zone_stands j placed front (Some (Bogus kind)) proper keys shows = refl
 
@@ -85,7 +90,8 @@ zone_stands j placed front (Some (Bogus kind)) proper keys shows = refl
 -- the rows before the DS verdict, by what they ask
 abbrev by_rows : RrSet → Option SignedKeys → Bool → Bool → KeysOutcome → KeysOutcome
 by_rows set o all root later =
-    option_map_or SignedByAnchored o (if all then WhollyAnchored else if root then Refused proof.Bogus (DnskeyNotFound set.owner) else later)
+    option_map_or SignedByAnchored o (if all then WhollyAnchored else if root then Refused proof.Bogus (DnskeyNotFound set.owner)
+    else later)
 
 rows_step : (j : Judge) (placed : PlacedSet) (front : List LinkValue) (o : Option SignedKeys) (all root : Bool) (later : KeysOutcome)
     → ((s : SignedKeys) → o ≡ Some s → stands j (keys_chained j placed front (SignedByAnchored s)) ≡ true)
@@ -112,7 +118,8 @@ outcome_stands j placed front zone proper keys shows =
     (zone_stands j placed front zone proper keys shows)
 
 -- a proper key set that asks for no DS set stands
-pub chained_keys-stands : (j : Judge) (placed : PlacedSet) → IsProper placed.set → (placed.set.rtype == type_dnskey) ≡ true → stands j (chained_keys j placed) ≡ true
+pub chained_keys-stands : (j : Judge) (placed : PlacedSet) → IsProper placed.set → (placed.set.rtype == type_dnskey) ≡ true
+    → stands j (chained_keys j placed) ≡ true
 unfolding chained_keys
 chained_keys-stands j placed proper keys = outcome_stands j placed [] None proper keys (λ ds h. cc)
 
@@ -128,7 +135,8 @@ chained_by_ds-stands j placed answer proper keys good =
 
 -- ---- which sets ask for a DS set
 
-needs_step : (set : RrSet) (o : Option SignedKeys) (all root : Bool) (later : KeysOutcome) → is_needing_ds (by_rows set o all root NeedsDs) ≡ true
+needs_step : (set : RrSet) (o : Option SignedKeys) (all root : Bool) (later : KeysOutcome)
+    → is_needing_ds (by_rows set o all root NeedsDs) ≡ true
     → by_rows set o all root later ≡ later
 needs_step set (Some s) all root later h = cc
 needs_step set None true root later h = cc

@@ -83,10 +83,12 @@ about_parts section r s h =
     let two = and_parts (name_eq s.set.owner r.owner) (s.set.rtype == set_rtype r) one.1 in
     record { section_is = section_same s.section section one.0; owner = two.0; rtype = number_same s.set.rtype (set_rtype r) two.1 }
 
-same_place_from : (section : Section) (r : Rr) (a b : MarkedSet) → IsAbout section r a → IsAbout section r b → same_place (placed_of a) (placed_of b) ≡ true
+same_place_from : (section : Section) (r : Rr) (a b : MarkedSet) → IsAbout section r a → IsAbout section r b
+    → same_place (placed_of a) (placed_of b) ≡ true
 same_place_from section r a b p q =
     let sections : section_eq a.section b.section ≡ true = rw (p.section_is, q.section_is) (section_refl section) in
-    let owners : name_eq a.set.owner b.set.owner ≡ true = name_trans a.set.owner r.owner b.set.owner p.owner (name_back b.set.owner r.owner q.owner) in
+    let owners : name_eq a.set.owner b.set.owner ≡ true =
+    name_trans a.set.owner r.owner b.set.owner p.owner (name_back b.set.owner r.owner q.owner) in
     let kinds : (a.set.rtype == b.set.rtype) ≡ true = rw (p.rtype, q.rtype) (number_refl (set_rtype r)) in
     and_from (section_eq a.section b.section) (same_key a.set b.set) sections
     (and_from (name_eq a.set.owner b.set.owner) (a.set.rtype == b.set.rtype) owners kinds)
@@ -102,9 +104,11 @@ not_about section r a b differ h =
 pub record IsFoundBy (ss : List MarkedSet) (s : MarkedSet) : Type 0 where
   pub found : (section : Section) (r : Rr) → is_about section r s ≡ true → find (is_about section r) ss ≡ Some s
 
-found_later : (a : MarkedSet) (ss : List MarkedSet) (s : MarkedSet) → (same_place (placed_of a) (placed_of s) ≡ false) × IsFoundBy ss s → IsFoundBy (a ∷ ss) s
+found_later : (a : MarkedSet) (ss : List MarkedSet) (s : MarkedSet) → (same_place (placed_of a) (placed_of s) ≡ false) × IsFoundBy ss s
+    → IsFoundBy (a ∷ ss) s
 found_later a ss s h = record {
-  found = λ section r is. ap (λ b. cond b (Some a) (find (is_about section r) ss)) (not_about section r a s h.0 is) ∙ h.1.found section r is;
+  found = λ section r is. ap (λ b. cond b (Some a) (find (is_about section r) ss)) (not_about section r a s h.0 is)
+      ∙ h.1.found section r is;
 }
 
 pub each_found : (ss : List MarkedSet) → Apart (λ a b. same_place (placed_of a) (placed_of b)) ss → AllByRecursion (IsFoundBy ss) ss
@@ -112,7 +116,8 @@ each_found [] apart = tt
 each_found (a ∷ ss) apart =
     let Differs = λ (s : MarkedSet). same_place (placed_of a) (placed_of s) ≡ false in (
       record { found = λ section r is. ap (λ b. cond b (Some a) (find (is_about section r) ss)) is },
-      each_more (λ s. Differs s × IsFoundBy ss s) (IsFoundBy (a ∷ ss)) (found_later a ss) ss (each_both Differs (IsFoundBy ss) ss apart.0 (each_found ss apart.1)),
+      each_more (λ s. Differs s × IsFoundBy ss s) (IsFoundBy (a ∷ ss)) (found_later a ss) ss
+          (each_both Differs (IsFoundBy ss) ss apart.0 (each_found ss apart.1)),
     )
 
 -- ---- what is known of each judged set of a message
@@ -155,7 +160,8 @@ each_chain_known j told cs judged =
     let Known = λ (c : ChainedSet). IsKnown told (bare cs) c.judged in
     let Stands = λ (c : ChainedSet). stands j c ≡ true in
     each_more (λ c. Known c × Stands c) (IsKnownChain j told (bare cs)) (λ c h. record { known = h.0; stand = h.1 }) cs
-    (each_both Known Stands cs (each_unmap (IsKnown told (bare cs)) (λ c. c.judged) cs (each_known told (bare cs) judged.grouped)) judged.stand)
+    (each_both Known Stands cs (each_unmap (IsKnown told (bare cs)) (λ c. c.judged) cs (each_known told (bare cs) judged.grouped))
+    judged.stand)
 
 -- ---- the records of a set
 
@@ -207,17 +213,20 @@ record IsSecureForm (r : Rr) (b secure : Bool) (mark : Proof) (ttl : ℕ) : Type
   form : (if b then cleared r else record r { proof = mark; ttl = if secure then ttl else r.ttl }) ≡ record r { proof = mark; ttl = ttl }
 
 secure_form : (r : Rr) (b secure : Bool) (mark : Proof) (ttl : ℕ) → is_secure mark ≡ secure
-    → is_secure ((if b then cleared r else record r { proof = mark; ttl = if secure then ttl else r.ttl }).proof) ≡ true → IsSecureForm r b secure mark ttl
+    → is_secure ((if b then cleared r else record r { proof = mark; ttl = if secure then ttl else r.ttl }).proof) ≡ true
+    → IsSecureForm r b secure mark ttl
 secure_form r true secure mark ttl is h = cc
 secure_form r false true mark ttl is h = record { is_kept = refl; is_secure_mark = refl; form = refl }
 secure_form r false false mark ttl is h = cc
 
-made_by : (now : ℕ) (ss : List MarkedSet) (section : Section) (before : List Rr) (r : Rr) (o : Option MarkedSet) → find (is_about section r) ss ≡ o
+made_by : (now : ℕ) (ss : List MarkedSet) (section : Section) (before : List Rr) (r : Rr) (o : Option MarkedSet)
+    → find (is_about section r) ss ≡ o
     → marked now ss section before r ≡ marked_by now (signature_place before r) r o
     → is_secure ((marked_by now (signature_place before r) r o).proof) ≡ true → IsMadeSecure now ss section before r
 made_by now ss section before r None is form h = cc
 made_by now ss section before r (Some s) is form h =
-    let f = secure_form r (is_signature r && not (is_place s.sig (signature_place before r))) (is_secure s.mark) s.mark (adjusted_by now s r (decider s)) refl h in
+    let f = secure_form r (is_signature r && not (is_place s.sig (signature_place before r))) (is_secure s.mark) s.mark
+    (adjusted_by now s r (decider s)) refl h in
     record { set = s; found = is; secure = f.is_secure_mark; decides = f.is_kept; form = form ∙ f.form }
 
 pub made_secure : (now : ℕ) (ss : List MarkedSet) (section : Section) (before : List Rr) (r : Rr)
@@ -232,7 +241,8 @@ plain_form r true secure mark ttl is h = refl
 plain_form r false true mark ttl is h = cc
 plain_form r false false mark ttl is h = refl
 
-plain_by : (now place : ℕ) (r : Rr) (o : Option MarkedSet) → is_secure ((marked_by now place r o).proof) ≡ false → (marked_by now place r o).ttl ≡ r.ttl
+plain_by : (now place : ℕ) (r : Rr) (o : Option MarkedSet) → is_secure ((marked_by now place r o).proof) ≡ false
+    → (marked_by now place r o).ttl ≡ r.ttl
 plain_by now place r None h = refl
 plain_by now place r (Some s) h =
     plain_form r (is_signature r && not (is_place s.sig place)) (is_secure s.mark) s.mark (adjusted_by now s r (decider s)) refl h

@@ -37,7 +37,8 @@ member_later x y xs m = record {
 later : {X : Type 0} (p : X → Bool) (x : X) (xs : List X) → IsPicked p xs → IsPicked p (x ∷ xs)
 later p x xs k = record { it = k.it; passes = k.passes; member = member_later x k.it xs k.member }
 
-pick : {X : Type 0} (p : X → Bool) (x : X) (xs : List X) (b : Bool) → p x ≡ b → (list_any p xs ≡ true → IsPicked p xs) → (b || list_any p xs) ≡ true
+pick : {X : Type 0} (p : X → Bool) (x : X) (xs : List X) (b : Bool) → p x ≡ b → (list_any p xs ≡ true → IsPicked p xs)
+    → (b || list_any p xs) ≡ true
     → IsPicked p (x ∷ xs)
 pick p x xs true e rest h = record { it = x; passes = e; member = member_here x xs }
 pick p x xs false e rest h = later p x xs (rest h)
@@ -52,7 +53,8 @@ pub record IsKnown {X : Type 0} (p : X → Bool) (P : X → Type 0) : Type 0 whe
   pub passes : p it ≡ true
   pub known : P it
 
-know : {X : Type 0} (p : X → Bool) (P : X → Type 0) (x : X) (rest : Bool) (b : Bool) → p x ≡ b → P x → (rest ≡ true → IsKnown p P) → (b || rest) ≡ true
+know : {X : Type 0} (p : X → Bool) (P : X → Type 0) (x : X) (rest : Bool) (b : Bool) → p x ≡ b → P x
+    → (rest ≡ true → IsKnown p P) → (b || rest) ≡ true
     → IsKnown p P
 know p P x rest true e k later h = record { it = x; passes = e; known = k }
 know p P x rest false e k later h = later h

@@ -36,7 +36,8 @@ count_more : {X : Type 0} (p : X → Bool) (before : List X) (x : X)
     → length (filter p (before ++ x ∷ [])) ≡ length (filter p before) + length (cond (p x) (x ∷ []) [])
 count_more p before x = ap length (filter-append p before (x ∷ [])) ∙ length-append (filter p before) (cond (p x) (x ∷ []) [])
 
-past_more : {X : Type 0} (p : X → Bool) (place : Option ℕ) (before : List X) (x : X) → IsPast p place before → IsPast p place (before ++ x ∷ [])
+past_more : {X : Type 0} (p : X → Bool) (place : Option ℕ) (before : List X) (x : X) → IsPast p place before
+    → IsPast p place (before ++ x ∷ [])
 past_more p place before x past n is = omega (arith, past n is, count_more p before x)
 
 -- one that passes and is at its place leaves it behind
@@ -56,13 +57,16 @@ choose_step chosen false y ys = refl
 abbrev chosen_in : {X Y : Type 0} → (Y → Bool) → (Y → Bool) → (List X → X → Y) → List X → List X → List Y
 chosen_in pass chosen f before xs = filter chosen (filter pass (map_after f before xs))
 
-chosen_more : {X Y : Type 0} (p : X → Bool) (pass chosen : Y → Bool) (f : List X → X → Y) (place : Option ℕ) → IsAtOnePlace p pass chosen f place
+chosen_more : {X Y : Type 0} (p : X → Bool) (pass chosen : Y → Bool) (f : List X → X → Y) (place : Option ℕ)
+    → IsAtOnePlace p pass chosen f place
     → (before : List X) (x : X) (xs : List X) → chosen_in pass chosen f before (x ∷ xs)
-    ≡ cond (p x && chosen (f before x)) (f before x ∷ chosen_in pass chosen f (before ++ x ∷ []) xs) (chosen_in pass chosen f (before ++ x ∷ []) xs)
+    ≡ cond (p x && chosen (f before x)) (f before x ∷ chosen_in pass chosen f (before ++ x ∷ []) xs)
+    (chosen_in pass chosen f (before ++ x ∷ []) xs)
 unfolding map_after
 chosen_more p pass chosen f place is before x xs =
     choose_step chosen (pass (f before x)) (f before x) (filter pass (map_after f (before ++ x ∷ []) xs))
-    ∙ ap (λ b. cond (b && chosen (f before x)) (f before x ∷ chosen_in pass chosen f (before ++ x ∷ []) xs) (chosen_in pass chosen f (before ++ x ∷ []) xs))
+    ∙ ap (λ b. cond (b && chosen (f before x)) (f before x ∷ chosen_in pass chosen f (before ++ x ∷ []) xs)
+    (chosen_in pass chosen f (before ++ x ∷ []) xs))
     (is.same before x)
 
 none_step : {Y : Type 0} (b : Bool) (y : Y) (ys : List Y) → (b ≡ true → ⊥) → ys ≡ [] → cond b (y ∷ ys) ys ≡ []
@@ -70,7 +74,8 @@ none_step true y ys never e = absurd (never refl)
 none_step false y ys never e = e
 
 -- behind its place none is chosen
-none_past : {X Y : Type 0} (p : X → Bool) (pass chosen : Y → Bool) (f : List X → X → Y) (place : Option ℕ) → IsAtOnePlace p pass chosen f place
+none_past : {X Y : Type 0} (p : X → Bool) (pass chosen : Y → Bool) (f : List X → X → Y) (place : Option ℕ)
+    → IsAtOnePlace p pass chosen f place
     → (before xs : List X) → IsPast p place before → chosen_in pass chosen f before xs ≡ []
 unfolding map_after
 none_past p pass chosen f place is before [] past = refl
@@ -91,7 +96,8 @@ one_step true y ys none le =
     omega (arith, empty)
 one_step false y ys none le = le
 
-one_chosen : {X Y : Type 0} (p : X → Bool) (pass chosen : Y → Bool) (f : List X → X → Y) (place : Option ℕ) → IsAtOnePlace p pass chosen f place
+one_chosen : {X Y : Type 0} (p : X → Bool) (pass chosen : Y → Bool) (f : List X → X → Y) (place : Option ℕ)
+    → IsAtOnePlace p pass chosen f place
     → (before xs : List X) → length (chosen_in pass chosen f before xs) ≤ 1
 unfolding map_after
 one_chosen p pass chosen f place is before [] = omega arith
@@ -127,15 +133,18 @@ covers_same l r c b =
     ∙ ap (λ k. is_signature b && (name_eq l.owner b.owner && covers_rtype k (rrsig_in b.rdata))) c.rtype
 
 there : (now : ℕ) (ss : List MarkedSet) (section : Section) (l : Rr) (before : List Rr) (r : Rr) → covers l r ≡ true
-    → is_secure ((marked now ss section before r).proof) ≡ true → place_decided (find (is_set_of section l) ss) ≡ Some (length (filter (covers l) before))
+    → is_secure ((marked now ss section before r).proof) ≡ true
+    → place_decided (find (is_set_of section l) ss) ≡ Some (length (filter (covers l) before))
 there now ss section l before r h secure =
     let c = covered_parts l r h in
     let made = made_secure now ss section before r secure in
     ap place_decided (find_agree (is_set_of section l) (is_about section r) (about_same section l r c) ss ∙ made.found)
     ∙ marked_place before r made.set.sig made.decides c.signs
-    ∙ ap Some (sym (length-filter (covers (covered r)) before) ∙ ap length (filter_agree (covers (covered r)) (covers l) (covers_same l r c) before))
+    ∙ ap Some (sym (length-filter (covers (covered r)) before)
+    ∙ ap length (filter_agree (covers (covered r)) (covers l) (covers_same l r c) before))
 
-one_secure : (now : ℕ) (ss : List MarkedSet) (section : Section) (records : List Rr) (l : Rr) → HasOneDecider (set_of (marked_section now ss section records) l)
+one_secure : (now : ℕ) (ss : List MarkedSet) (section : Section) (records : List Rr) (l : Rr)
+    → HasOneDecider (set_of (marked_section now ss section records) l)
 one_secure now ss section records l =
     let f = marked now ss section in
     let secures = λ (r : Rr). is_secure r.proof in
@@ -145,7 +154,8 @@ one_secure now ss section records l =
     subst (λ n. n ≤ 1) (length-filter secures (filter (covers l) (marked_section now ss section records)))
     (one_chosen (covers l) (covers l) secures f place is [] records)
 
-pub one_decider : (now : ℕ) (ss : List MarkedSet) (section : Section) (records : List Rr) → HaveOneDecider (marked_section now ss section records)
+pub one_decider : (now : ℕ) (ss : List MarkedSet) (section : Section) (records : List Rr)
+    → HaveOneDecider (marked_section now ss section records)
 unfolding sets_of
 one_decider now ss section records =
     let ys = marked_section now ss section records in

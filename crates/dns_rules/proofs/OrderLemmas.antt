@@ -9,11 +9,13 @@ use Rattle.dns_rules.specs.Asking.{most_sends}
 use Rattle.dns_rules.specs.Derivation.{asks_of, order_asks, order_step}
 use Rattle.dns_rules.specs.DerivationParts.{and_then_some}
 
-pub then_then : {X Y Z : Type 0} (o : Option X) (f : X → Option Y) (g : Y → Option Z) → and_then_some (and_then_some o f) g ≡ and_then_some o (λ x. and_then_some (f x) g)
+pub then_then : {X Y Z : Type 0} (o : Option X) (f : X → Option Y) (g : Y → Option Z)
+    → and_then_some (and_then_some o f) g ≡ and_then_some o (λ x. and_then_some (f x) g)
 then_then None f g = refl
 then_then (Some x) f g = refl
 
-if_then : {X Y : Type 0} (b : Bool) (o : Option X) (f : X → Option Y) → and_then_some (if b then o else None) f ≡ (if b then and_then_some o f else None)
+if_then : {X Y : Type 0} (b : Bool) (o : Option X) (f : X → Option Y)
+    → and_then_some (if b then o else None) f ≡ (if b then and_then_some o f else None)
 if_then true o f = refl
 if_then false o f = refl
 
@@ -53,7 +55,8 @@ unfolding order_asks
 order_many visit n met many = ap (λ b. if b then Some met else None) (le-leb most_sends (length met) many)
 
 -- a step that is met
-pub order_one : (visit : ℕ → List ℕ → Option (List ℕ)) (n m : ℕ) (met found : List ℕ) → m < n → length met < most_sends → visit m met ≡ Some found
+pub order_one : (visit : ℕ → List ℕ → Option (List ℕ)) (n m : ℕ) (met found : List ℕ) → m < n → length met < most_sends
+    → visit m met ≡ Some found
     → order_asks visit n (Step m ∷ []) met ≡ Some found
 unfolding order_asks
 order_one visit n m met found before few is =

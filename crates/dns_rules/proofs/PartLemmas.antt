@@ -95,23 +95,27 @@ part_then j limits cached a b c xs ys n k m first second =
     record {
       more = first.more ++ second.more;
       grown = second.grown ∙ ap (λ t. t ++ second.more) first.grown ∙ append_assoc a first.more second.more;
-      hold = steps_hold-append j limits cached a first.more second.more first.hold (subst (λ t. steps_hold j limits cached t second.more ≡ true) first.grown second.hold);
+      hold = steps_hold-append j limits cached a first.more second.more first.hold
+          (subst (λ t. steps_hold j limits cached t second.more ≡ true) first.grown second.hold);
       order = first.order ++ second.order;
       met = λ later above n' met long up_to before.
           let same : c ++ later ≡ b ++ (second.more ++ later) = ap (λ t. t ++ later) second.grown ∙ append_assoc b second.more later in
           let one : order_asks (order_step above (c ++ later)) n' xs met ≡ Some (met ++ first.order) =
           subst (λ t. order_asks (order_step above t) n' xs met ≡ Some (met ++ first.order)) (sym same)
           (first.met (second.more ++ later) above n' met long (omega arith) (omega arith)) in
-          let two = second.met later above n' (met ++ first.order) (length-append met first.order ∙ omega (arith, first.counted)) up_to before in
+          let two = second.met later above n' (met ++ first.order) (length-append met first.order
+          ∙ omega (arith, first.counted)) up_to before in
           then_met (order_step above (c ++ later)) n' xs ys met first.order second.order one two;
       ends = λ later above up_to.
           let same : c ++ later ≡ b ++ (second.more ++ later) = ap (λ t. t ++ later) second.grown ∙ append_assoc b second.more later in
           let one : end_asks (end_step above (c ++ later)) xs (length a) ≡ Some (length b) =
-          subst (λ t. end_asks (end_step above t) xs (length a) ≡ Some (length b)) (sym same) (first.ends (second.more ++ later) above (omega arith)) in
+          subst (λ t. end_asks (end_step above t) xs (length a) ≡ Some (length b)) (sym same)
+          (first.ends (second.more ++ later) above (omega arith)) in
           end_asks-append (end_step above (c ++ later)) xs ys (length a)
           ∙ ap (λ o. option_and_then (end_asks (end_step above (c ++ later)) ys) o) one ∙ second.ends later above up_to;
       once = λ i.
-          sum_by-append (λ x. if i == x then 1 else 0) first.order second.order ∙ ap (λ t. t + count_by (λ x. i == x) second.order) (first.once i)
+          sum_by-append (λ x. if i == x then 1 else 0) first.order second.order
+          ∙ ap (λ t. t + count_by (λ x. i == x) second.order) (first.once i)
           ∙ ap (λ t. once_between (length a) (length b) i + t) (second.once i)
           ∙ between_then (length a) (length b) (length c) i (omega arith) (omega arith);
       counted = omega (arith, first.counted, second.counted, length-append first.order second.order);
@@ -172,11 +176,13 @@ part_step j limits cached a b step n m p few holds =
       order = length b ∷ p.order;
       met = λ later above k met long up_to before.
           let one : length (b ++ step ∷ []) ≡ length b + 1 = length_push b step in
-          subst (λ t. order_asks (order_step above t) k (Step (length b) ∷ []) met ≡ Some (met ++ length b ∷ p.order)) (sym (append_assoc b (step ∷ []) later))
+          subst (λ t. order_asks (order_step above t) k (Step (length b) ∷ []) met ≡ Some (met ++ length b ∷ p.order))
+          (sym (append_assoc b (step ∷ []) later))
           (step_met_in j limits cached a b step n m p later above k met few long (omega arith) (omega arith));
       ends = λ later above up_to.
           let one : length (b ++ step ∷ []) ≡ length b + 1 = length_push b step in
-          subst (λ t. end_asks (end_step above t) (Step (length b) ∷ []) (length a) ≡ Some (length (b ++ step ∷ []))) (sym (append_assoc b (step ∷ []) later))
+          subst (λ t. end_asks (end_step above t) (Step (length b) ∷ []) (length a) ≡ Some (length (b ++ step ∷ [])))
+          (sym (append_assoc b (step ∷ []) later))
           (step_ends_in j limits cached a b step n m p later above (omega arith) ∙ ap Some (sym one));
       once = λ i.
           sum_by-cons (λ x. if i == x then 1 else 0) (length b) p.order ∙ ap (λ t. (if i == length b then 1 else 0) + t) (p.once i)

@@ -49,12 +49,15 @@ held_by : (b : Bool) (one two name : Labels) → name_eq one two ≡ true → co
 held_by false one two name same h = above_alike two one name (name_equiv.symm two one ∙ same) h
 held_by true one two name same h =
     let parts = strictly_parts two name h in
-    strictly_made one name (above_alike two one name (name_equiv.symm two one ∙ same) parts.0) (name_equiv.congr one two name same ∙ parts.1)
+    strictly_made one name (above_alike two one name (name_equiv.symm two one ∙ same) parts.0) (name_equiv.congr one two name same
+    ∙ parts.1)
 
-held : (zone : Zone) (apex : Labels) (query : Question) → name_eq zone.apex apex ≡ true → holds_query apex query ≡ true → holds_query zone.apex query ≡ true
+held : (zone : Zone) (apex : Labels) (query : Question) → name_eq zone.apex apex ≡ true → holds_query apex query ≡ true
+    → holds_query zone.apex query ≡ true
 held zone apex query same h = held_by (query.rtype == type_ds) zone.apex apex query.owner same h
 
-inside_by : (b : Bool) (apex name : Labels) → cond b (strictly_above apex name) (at_or_above apex name) ≡ true → at_or_above apex name ≡ true
+inside_by : (b : Bool) (apex name : Labels) → cond b (strictly_above apex name) (at_or_above apex name) ≡ true
+    → at_or_above apex name ≡ true
 inside_by false apex name h = h
 inside_by true apex name h = (strictly_parts apex name h).0
 
@@ -63,7 +66,8 @@ inside apex query h = inside_by (query.rtype == type_ds) apex query.owner h
 
 -- ---- what the zone answers
 
-there_without : (zone : Zone) (name : Labels) (rtype : ℕ) → IsReached zone name rtype → exists_in zone name ≡ true → has_data zone name rtype ≡ false
+there_without : (zone : Zone) (name : Labels) (rtype : ℕ) → IsReached zone name rtype → exists_in zone name ≡ true
+    → has_data zone name rtype ≡ false
     → lookup zone name rtype ≡ NoData
 there_without zone name rtype r there none =
     reached zone name rtype r
@@ -99,12 +103,14 @@ missing_without zone name rtype e r gone same m =
     ∙ ap (λ (n : Labels). from_wildcard zone (star n) rtype) same ∙ mute_answer zone (star e) rtype m in
     by (exists_in zone (star e)) is
   where
-    by : (b : Bool) → lookup zone name rtype ≡ cond b NoData NxDomain → (lookup zone name rtype ≡ NoData) ⊎ (lookup zone name rtype ≡ NxDomain)
+    by : (b : Bool) → lookup zone name rtype ≡ cond b NoData NxDomain
+        → (lookup zone name rtype ≡ NoData) ⊎ (lookup zone name rtype ≡ NxDomain)
     by true is = inl is
     by false is = inr is
 
 -- a wildcard that a record covers
-mute_covered : (zone : Zone) (nsecs : List OwnedNsec) (wildcard : Labels) (rtype : ℕ) (found : Option OwnedNsec) → AllByRecursion (IsTrueNsec zone) nsecs
+mute_covered : (zone : Zone) (nsecs : List OwnedNsec) (wildcard : Labels) (rtype : ℕ) (found : Option OwnedNsec)
+    → AllByRecursion (IsTrueNsec zone) nsecs
     → covering wildcard nsecs ≡ found → is_some found ≡ true → IsMute zone wildcard rtype
 mute_covered zone nsecs wildcard rtype None each e h = absurd (true≢false (sym h))
 mute_covered zone nsecs wildcard rtype (Some nsec) each e h =
@@ -123,11 +129,15 @@ mute_listed zone nsecs wildcard rtype each h =
     let k = picked_known (λ nsec. is_owned_by wildcard nsec && wildcard_lacks rtype nsec.fields.types) (IsTrueNsec zone) nsecs each h in
     by k.it k.known (and_parts (is_owned_by wildcard k.it) (wildcard_lacks rtype k.it.fields.types) k.passes)
   where
-    by : (nsec : OwnedNsec) → IsTrueNsec zone nsec → (is_owned_by wildcard nsec ≡ true) × (wildcard_lacks rtype nsec.fields.types ≡ true) → IsMute zone wildcard rtype
+    by : (nsec : OwnedNsec) → IsTrueNsec zone nsec → (is_owned_by wildcard nsec ≡ true) × (wildcard_lacks rtype nsec.fields.types ≡ true)
+        → IsMute zone wildcard rtype
     by nsec t parts =
-        let lacks = and_parts (lacks_data rtype nsec.fields.types) (not (has_type type_ns nsec.fields.types || has_type type_dname nsec.fields.types)) parts.1 in
-        let ends = or_parts (has_type type_ns nsec.fields.types) (has_type type_dname nsec.fields.types) (not-true (has_type type_ns nsec.fields.types || has_type type_dname nsec.fields.types) lacks.1) in
-        let ns : has_set zone wildcard type_ns ≡ false = sym (has_set_alike zone nsec.owner wildcard type_ns parts.0) ∙ t.types type_ns ∙ ends.0 in
+        let lacks = and_parts (lacks_data rtype nsec.fields.types)
+        (not (has_type type_ns nsec.fields.types || has_type type_dname nsec.fields.types)) parts.1 in
+        let ends = or_parts (has_type type_ns nsec.fields.types) (has_type type_dname nsec.fields.types)
+        (not-true (has_type type_ns nsec.fields.types || has_type type_dname nsec.fields.types) lacks.1) in
+        let ns : has_set zone wildcard type_ns ≡ false = sym (has_set_alike zone nsec.owner wildcard type_ns parts.0)
+        ∙ t.types type_ns ∙ ends.0 in
         record {
           delegation = no_delegation zone wildcard ns;
           data_none = lacking zone nsec wildcard rtype t parts.0 lacks.0;
@@ -139,7 +149,8 @@ mute_listed zone nsecs wildcard rtype each h =
 no_name_error : (code : ℕ) → (code == code_no_error) ≡ true → code ≡ code_nx_domain → ⊥
 no_name_error code h e = true≢false (sym h ∙ ap (λ c. c == code_no_error) e)
 
-denied_at : (zone : Zone) (apex : Labels) (query : Question) (code : ℕ) (nsec : OwnedNsec) → is_zone zone ≡ true → holds_query zone.apex query ≡ true
+denied_at : (zone : Zone) (apex : Labels) (query : Question) (code : ℕ) (nsec : OwnedNsec) → is_zone zone ≡ true
+    → holds_query zone.apex query ≡ true
     → IsTrueNsec zone nsec → name_eq nsec.owner query.owner ≡ true
     → ((code == code_no_error) && denies_at_owner query.rtype nsec.fields.types) ≡ true → HasNone query code zone
 denied_at zone apex query code nsec formed holds t same h =
@@ -155,7 +166,8 @@ denied_at zone apex query code nsec formed holds t same h =
     }
 
 denied_above : (zone : Zone) (query : Question) (code : ℕ) (nsec : OwnedNsec) → is_zone zone ≡ true → holds_query zone.apex query ≡ true
-    → IsCovering zone query.owner nsec → strictly_above query.owner nsec.fields.next ≡ true → (code == code_no_error) ≡ true → HasNone query code zone
+    → IsCovering zone query.owner nsec → strictly_above query.owner nsec.fields.next ≡ true → (code == code_no_error) ≡ true
+    → HasNone query code zone
 denied_above zone query code nsec formed holds c above no_error =
     let there = exists_above zone query.owner nsec.fields.next (inside zone.apex query holds) (next_is_owner zone nsec formed c.is_true)
     (strictly_parts query.owner nsec.fields.next above).0 in
@@ -168,7 +180,8 @@ denied_above zone query code nsec formed holds c above no_error =
 
 denied_missing : (zone : Zone) (query : Question) (code : ℕ) (nsecs : List OwnedNsec) (nsec : OwnedNsec) → is_zone zone ≡ true
     → holds_query zone.apex query ≡ true → AllByRecursion (IsTrueNsec zone) nsecs → IsCovering zone query.owner nsec
-    → strictly_above query.owner nsec.fields.next ≡ false → missing_name No code query.rtype (closest_encloser query.owner nsec) nsecs ≡ true
+    → strictly_above query.owner nsec.fields.next ≡ false
+    → missing_name No code query.rtype (closest_encloser query.owner nsec) nsecs ≡ true
     → HasNone query code zone
 denied_missing zone query code nsecs nsec formed holds each c leaf h =
     let e = closest_encloser query.owner nsec in
@@ -183,7 +196,8 @@ denied_missing zone query code nsecs nsec formed holds each c leaf h =
     by : (b : Bool) → cond b (is_some (covering (star (closest_encloser query.owner nsec)) nsecs))
         (wildcard_denies query.rtype (star (closest_encloser query.owner nsec)) nsecs) ≡ true
         → IsMute zone (star (closest_encloser query.owner nsec)) query.rtype
-    by true h = mute_covered zone nsecs (star (closest_encloser query.owner nsec)) query.rtype (covering (star (closest_encloser query.owner nsec)) nsecs) each refl h
+    by true h = mute_covered zone nsecs (star (closest_encloser query.owner nsec)) query.rtype
+        (covering (star (closest_encloser query.owner nsec)) nsecs) each refl h
     by false h = mute_listed zone nsecs (star (closest_encloser query.owner nsec)) query.rtype each h
 
 denied_by : (zone : Zone) (query : Question) (code : ℕ) (nsecs : List OwnedNsec) (found : Option OwnedNsec) → is_zone zone ≡ true
@@ -194,7 +208,8 @@ denied_by zone query code nsecs (Some nsec) formed holds each e h =
     by (strictly_above query.owner nsec.fields.next) refl (covered zone query.owner nsecs nsec each e) h
   where
     by : (b : Bool) → strictly_above query.owner nsec.fields.next ≡ b → IsCovering zone query.owner nsec
-        → cond b (code == code_no_error) (missing_name No code query.rtype (closest_encloser query.owner nsec) nsecs) ≡ true → HasNone query code zone
+        → cond b (code == code_no_error) (missing_name No code query.rtype (closest_encloser query.owner nsec) nsecs) ≡ true
+        → HasNone query code zone
     by true above c h = denied_above zone query code nsec formed holds c above h
     by false leaf c h = denied_missing zone query code nsecs nsec formed holds each c leaf h
 
@@ -215,7 +230,8 @@ denial_holds query apex code nsecs h =
     let v = secure_parts (can_deny code) (holds_query apex query) (is_plain No)
     (proved_at_name query code No nsecs (find (is_owned_by query.owner) nsecs)) h in
     λ plain zone shown.
-    denied zone query code nsecs (find (is_owned_by query.owner) nsecs) shown.formed (held zone apex query shown.apex_is v.holds) shown.each_true refl v.proved
+    denied zone query code nsecs (find (is_owned_by query.owner) nsecs) shown.formed (held zone apex query shown.apex_is v.holds)
+    shown.each_true refl v.proved
 
 -- ---- expansions
 
@@ -232,13 +248,16 @@ none_closer zone name labels nsec formed within c leaf h =
       itself = absent zone name within (spanned_is_missing zone nsec name c.is_true c.spanned leaf);
       ancestors = λ ancestor above more.
           let fits : length zone.apex ≤ length ancestor = omega (arith, long, short, more) in
-          absent zone ancestor (above_nested zone.apex ancestor name within above fits) (false_from_ne_true (exists_in zone ancestor) (λ there.
-          let up = above_is_shorter ancestor (closest_encloser name nsec) (existing_encloses zone nsec name ancestor c.is_true c.spanned above there) in
+          absent zone ancestor (above_nested zone.apex ancestor name within above fits)
+          (false_from_ne_true (exists_in zone ancestor) (λ there.
+          let up = above_is_shorter ancestor (closest_encloser name nsec)
+          (existing_encloses zone nsec name ancestor c.is_true c.spanned above there) in
           omega arith));
     }
 
 expanded_by : (zone : Zone) (query : Question) (code labels : ℕ) (nsecs : List OwnedNsec) (found : Option OwnedNsec) → is_zone zone ≡ true
-    → at_or_above zone.apex query.owner ≡ true → AllByRecursion (IsTrueNsec zone) nsecs → covering query.owner nsecs ≡ found → proved_by_covering query code (Expanded labels) nsecs found ≡ true
+    → at_or_above zone.apex query.owner ≡ true → AllByRecursion (IsTrueNsec zone) nsecs → covering query.owner nsecs ≡ found
+    → proved_by_covering query code (Expanded labels) nsecs found ≡ true
     → HasNoneCloser query.owner labels zone
 expanded_by zone query code labels nsecs None formed within each e h = absurd (true≢false (sym h))
 expanded_by zone query code labels nsecs (Some nsec) formed within each e h =
@@ -249,15 +268,19 @@ expanded_by zone query code labels nsecs (Some nsec) formed within each e h =
         → HasNoneCloser query.owner labels zone
     by true above c h = absurd (true≢false (sym h))
     by false leaf c h =
-        none_closer zone query.owner labels nsec formed within c leaf (and_parts (code == code_no_error) (length (closest_encloser query.owner nsec) == labels) h).1
+        none_closer zone query.owner labels nsec formed within c leaf
+        (and_parts (code == code_no_error) (length (closest_encloser query.owner nsec) == labels) h).1
 
 expanded : (zone : Zone) (query : Question) (code labels : ℕ) (nsecs : List OwnedNsec) (found : Option OwnedNsec) → is_zone zone ≡ true
-    → at_or_above zone.apex query.owner ≡ true → AllByRecursion (IsTrueNsec zone) nsecs → proved_at_name query code (Expanded labels) nsecs found ≡ true → HasNoneCloser query.owner labels zone
-expanded zone query code labels nsecs None formed within each h = expanded_by zone query code labels nsecs (covering query.owner nsecs) formed within each refl h
+    → at_or_above zone.apex query.owner ≡ true → AllByRecursion (IsTrueNsec zone) nsecs
+    → proved_at_name query code (Expanded labels) nsecs found ≡ true → HasNoneCloser query.owner labels zone
+expanded zone query code labels nsecs None formed within each h =
+    expanded_by zone query code labels nsecs (covering query.owner nsecs) formed within each refl h
 expanded zone query code labels nsecs (Some nsec) formed within each h = absurd (true≢false (sym h))
 
 -- a Secure verdict on an expanded answer holds in each zone
-expansion_holds : (query : Question) (apex : Labels) (code labels : ℕ) (nsecs : List OwnedNsec) → nsec_verdict query apex code (Expanded labels) nsecs ≡ Secure
+expansion_holds : (query : Question) (apex : Labels) (code labels : ℕ) (nsecs : List OwnedNsec)
+    → nsec_verdict query apex code (Expanded labels) nsecs ≡ Secure
     → IsExpandedIn query apex labels nsecs
 unfolding nsec_verdict
 expansion_holds query apex code labels nsecs h =
@@ -275,23 +298,27 @@ denial_of query apex code answered nsecs proof is secure unanswered =
     denial_holds query apex code nsecs (ap (λ a. nsec_verdict query apex code a nsecs) (sym unanswered) ∙ sym is ∙ secure)
 
 pub expansion_of : (query : Question) (apex : Labels) (code : ℕ) (answered : Answered) (nsecs : List OwnedNsec) (proof : Proof) (labels : ℕ)
-    → proof ≡ nsec_verdict query apex code answered nsecs → proof ≡ Secure → answered ≡ Expanded labels → IsExpandedIn query apex labels nsecs
+    → proof ≡ nsec_verdict query apex code answered nsecs → proof ≡ Secure → answered ≡ Expanded labels
+    → IsExpandedIn query apex labels nsecs
 expansion_of query apex code answered nsecs proof labels is secure expanded =
     expansion_holds query apex code labels nsecs (ap (λ a. nsec_verdict query apex code a nsecs) (sym expanded) ∙ sym is ∙ secure)
 
 -- ---- covered names
 
 -- a name that a record covers owns no RRset
-covered_is_ownerless : (name : Labels) (nsecs : List OwnedNsec) (nsec : OwnedNsec) → covering name nsecs ≡ Some nsec → IsOwnerless name nsecs
+covered_is_ownerless : (name : Labels) (nsecs : List OwnedNsec) (nsec : OwnedNsec) → covering name nsecs ≡ Some nsec
+    → IsOwnerless name nsecs
 covered_is_ownerless name nsecs nsec h =
     λ zone each. let c = covered zone name nsecs nsec each h in spans_no_owner zone nsec name c.is_true c.spanned
 
-numbered_by : (name : Labels) (nsecs : List OwnedNsec) (number : ℕ) (found : Option OwnedNsec) (place : Option ℕ) → covering name nsecs ≡ found
+numbered_by : (name : Labels) (nsecs : List OwnedNsec) (number : ℕ) (found : Option OwnedNsec) (place : Option ℕ)
+    → covering name nsecs ≡ found
     → number_if_covered place found ≡ Some number → IsOwnerless name nsecs
 numbered_by name nsecs number None place e h = let none : None ≡ Some number = h in cc
 numbered_by name nsecs number (Some nsec) place e h = covered_is_ownerless name nsecs nsec e
 
-pub ownerless_of : (name : Labels) (nsecs : List OwnedNsec) (result : Option ℕ) (number : ℕ) → result ≡ covering_number name nsecs → result ≡ Some number
+pub ownerless_of : (name : Labels) (nsecs : List OwnedNsec) (result : Option ℕ) (number : ℕ) → result ≡ covering_number name nsecs
+    → result ≡ Some number
     → IsOwnerless name nsecs
 unfolding covering_number
 ownerless_of name nsecs result number is found =

@@ -29,7 +29,8 @@ covering_speaks : (name : Labels) (found : OwnedNsec) (nsec : OwnedNsec) (b : Bo
 covering_speaks name found nsec true e h = cc
 covering_speaks name found nsec false e h = let same : found ≡ nsec = cc in (same, refl)
 
-covered_by : (zone : Zone) (name : Labels) (nsecs : List OwnedNsec) (nsec : OwnedNsec) (found : Option OwnedNsec) → AllByRecursion (IsTrueNsec zone) nsecs
+covered_by : (zone : Zone) (name : Labels) (nsecs : List OwnedNsec) (nsec : OwnedNsec) (found : Option OwnedNsec)
+    → AllByRecursion (IsTrueNsec zone) nsecs
     → find (counts_for name nsecs) nsecs ≡ found → unless_silent name found ≡ Some nsec → IsCovering zone name nsec
 covered_by zone name nsecs nsec None each e h = cc
 covered_by zone name nsecs nsec (Some one) each e h =
@@ -54,8 +55,10 @@ lookup_past : (zone : Zone) (name : Labels) (rtype : ℕ) → list_any (is_cut_o
     ≡ cond (exists_in zone name) (cond (has_data zone name rtype) Data NoData) (from_wildcard zone (star (encloser zone name)) rtype)
 unfolding lookup
 lookup_past zone name rtype cut dname =
-    let rest = cond (exists_in zone name) (cond (has_data zone name rtype) Data NoData) (from_wildcard zone (star (encloser zone name)) rtype) in
-    ap (λ (o : Option SetKey). below_cut o (cond (list_any (is_dname_over name) zone.sets) Data rest)) (find_none (is_cut_over zone name rtype) zone.sets cut)
+    let rest = cond (exists_in zone name) (cond (has_data zone name rtype) Data NoData)
+    (from_wildcard zone (star (encloser zone name)) rtype) in
+    ap (λ (o : Option SetKey). below_cut o (cond (list_any (is_dname_over name) zone.sets) Data rest))
+    (find_none (is_cut_over zone name rtype) zone.sets cut)
     ∙ ap (λ b. cond b Data rest) dname
 
 owns : (zone : Zone) (set : SetKey) (name : Labels) → IsMember set zone.sets → name_eq set.owner name ≡ true → is_owner zone name ≡ true
@@ -64,12 +67,14 @@ owns zone set name m same = m.any (λ other. name_eq other.owner name) same
 
 has_own : (zone : Zone) (set : SetKey) → IsMember set zone.sets → has_set zone set.owner set.rtype ≡ true
 unfolding has_set
-has_own zone set m = m.any (λ other. name_eq other.owner set.owner && (other.rtype == set.rtype)) (rw (name_equiv.refl set.owner) (grind (arith, nat_tests)))
+has_own zone set m = m.any (λ other. name_eq other.owner set.owner && (other.rtype == set.rtype))
+    (rw (name_equiv.refl set.owner) (grind (arith, nat_tests)))
 
 dname_ends : (zone : Zone) (set : SetKey) → IsMember set zone.sets → (set.rtype == type_dname) ≡ true → zone_ends_at zone set.owner ≡ true
 dname_ends zone set m is =
     let same : set.rtype ≡ type_dname = grind (arith, nat_tests, is) in
-    or_right (is_delegation zone set.owner) (has_set zone set.owner type_dname) (ap (has_set zone set.owner) (sym same) ∙ has_own zone set m)
+    or_right (is_delegation zone set.owner) (has_set zone set.owner type_dname) (ap (has_set zone set.owner) (sym same)
+    ∙ has_own zone set m)
 
 cut_ends : (zone : Zone) (set : SetKey) → is_delegation zone set.owner ≡ true → zone_ends_at zone set.owner ≡ true
 cut_ends zone set h = ap (λ b. b || has_set zone set.owner type_dname) h
@@ -77,7 +82,8 @@ cut_ends zone set h = ap (λ b. b || has_set zone set.owner type_dname) h
 -- no cut and no DNAME is above the name, and no cut is at it for this type
 pub record IsReached (zone : Zone) (name : Labels) (rtype : ℕ) : Type 0 where
   pub none_above : (set : SetKey) → IsMember set zone.sets → zone_ends_at zone set.owner ≡ true → strictly_above set.owner name ≡ true → ⊥
-  pub none_at : (set : SetKey) → IsMember set zone.sets → is_delegation zone set.owner ≡ true → name_eq set.owner name ≡ true → not (rtype == type_ds) ≡ true → ⊥
+  pub none_at : (set : SetKey) → IsMember set zone.sets → is_delegation zone set.owner ≡ true → name_eq set.owner name ≡ true
+      → not (rtype == type_ds) ≡ true → ⊥
 
 pub reached : (zone : Zone) (name : Labels) (rtype : ℕ) → IsReached zone name rtype
     → lookup zone name rtype
@@ -87,7 +93,8 @@ reached zone name rtype r = lookup_past zone name rtype (false_from_ne_true _ no
     no_cut : list_any (is_cut_over zone name rtype) zone.sets ≡ true → ⊥
     no_cut h =
         let k = picked (is_cut_over zone name rtype) zone.sets h in
-        let parts = and_parts (is_delegation zone k.it.owner) (strictly_above k.it.owner name || (name_eq k.it.owner name && not (rtype == type_ds))) k.passes in
+        let parts = and_parts (is_delegation zone k.it.owner) (strictly_above k.it.owner name
+        || (name_eq k.it.owner name && not (rtype == type_ds))) k.passes in
         by k.it k.member parts.0 (or_cases (strictly_above k.it.owner name) (name_eq k.it.owner name && not (rtype == type_ds)) parts.1)
       where
         by : (set : SetKey) → IsMember set zone.sets → is_delegation zone set.owner ≡ true
@@ -121,35 +128,44 @@ no_delegation zone name none = ap (λ b. b && not (name_eq name zone.apex)) none
 
 -- ---- a record at the name
 
-pub covered_reach : (zone : Zone) (name : Labels) (rtype : ℕ) (nsec : OwnedNsec) → is_zone zone ≡ true → IsCovering zone name nsec → IsReached zone name rtype
+pub covered_reach : (zone : Zone) (name : Labels) (rtype : ℕ) (nsec : OwnedNsec) → is_zone zone ≡ true
+    → IsCovering zone name nsec → IsReached zone name rtype
 covered_reach zone name rtype nsec formed c = record {
   none_above = λ set m ends above. no_end_above zone nsec name set formed c.is_true c.spanned c.speaks m ends above;
   none_at = λ set m cut same other. true≢false (sym (owns zone set name m same) ∙ spans_no_owner zone nsec name c.is_true c.spanned);
 }
 
-pub owner_reach : (zone : Zone) (query : Question) (nsec : OwnedNsec) → is_zone zone ≡ true → IsTrueNsec zone nsec → name_eq nsec.owner query.owner ≡ true
+pub owner_reach : (zone : Zone) (query : Question) (nsec : OwnedNsec) → is_zone zone ≡ true → IsTrueNsec zone nsec
+    → name_eq nsec.owner query.owner ≡ true
     → is_right_side query.rtype nsec.fields.types ≡ true → IsReached zone query.owner query.rtype
 owner_reach zone query nsec formed t same right = record {
   none_above = λ set m ends above.
       let parts = strictly_parts set.owner query.owner above in
-      true≢false (sym (end_is_owner zone set query.owner formed m ends (sym (is_owner_alike zone nsec.owner query.owner same) ∙ t.owner) parts.0) ∙ parts.1);
+      true≢false (sym (end_is_owner zone set query.owner formed m ends (sym (is_owner_alike zone nsec.owner query.owner same)
+      ∙ t.owner) parts.0) ∙ parts.1);
   none_at = λ set m cut at other.
       let there : is_delegation zone nsec.owner ≡ true =
-      is_delegation_alike zone nsec.owner set.owner (name_equiv.congr nsec.owner query.owner set.owner same ∙ name_equiv.symm query.owner set.owner ∙ at) ∙ cut in
+      is_delegation_alike zone nsec.owner set.owner (name_equiv.congr nsec.owner query.owner set.owner same
+      ∙ name_equiv.symm query.owner set.owner ∙ at) ∙ cut in
       wrong_side query.rtype nsec right (delegation_is_cut zone nsec formed t there) other;
 }
   where
-    wrong_side_by : (b : Bool) (nsec : OwnedNsec) → cond b (not (has_type type_soa nsec.fields.types)) (not (is_cut nsec.fields.types)) ≡ true → is_cut nsec.fields.types ≡ true → not b ≡ true → ⊥
+    wrong_side_by : (b : Bool) (nsec : OwnedNsec)
+        → cond b (not (has_type type_soa nsec.fields.types)) (not (is_cut nsec.fields.types)) ≡ true
+        → is_cut nsec.fields.types ≡ true → not b ≡ true → ⊥
     wrong_side_by true nsec right cut other = true≢false (sym other)
     wrong_side_by false nsec right cut other = true≢false (sym right ∙ ap not cut)
 
-    wrong_side : (rtype : ℕ) (nsec : OwnedNsec) → is_right_side rtype nsec.fields.types ≡ true → is_cut nsec.fields.types ≡ true → not (rtype == type_ds) ≡ true → ⊥
+    wrong_side : (rtype : ℕ) (nsec : OwnedNsec) → is_right_side rtype nsec.fields.types ≡ true → is_cut nsec.fields.types ≡ true
+        → not (rtype == type_ds) ≡ true → ⊥
     wrong_side rtype nsec right cut other = wrong_side_by (rtype == type_ds) nsec right cut other
 
 pub lacking : (zone : Zone) (nsec : OwnedNsec) (name : Labels) (rtype : ℕ) → IsTrueNsec zone nsec → name_eq nsec.owner name ≡ true
     → lacks_data rtype nsec.fields.types ≡ true → has_data zone name rtype ≡ false
 lacking zone nsec name rtype t same h =
-    let parts = or_parts (has_type rtype nsec.fields.types) (has_type type_cname nsec.fields.types) (not-true (has_type rtype nsec.fields.types || has_type type_cname nsec.fields.types) h) in
+    let parts = or_parts (has_type rtype nsec.fields.types) (has_type type_cname nsec.fields.types)
+    (not-true (has_type rtype nsec.fields.types || has_type type_cname nsec.fields.types) h) in
     let one : has_set zone name rtype ≡ false = sym (has_set_alike zone nsec.owner name rtype same) ∙ t.types rtype ∙ parts.0 in
-    let two : has_set zone name type_cname ≡ false = sym (has_set_alike zone nsec.owner name type_cname same) ∙ t.types type_cname ∙ parts.1 in
+    let two : has_set zone name type_cname ≡ false = sym (has_set_alike zone nsec.owner name type_cname same)
+    ∙ t.types type_cname ∙ parts.1 in
     rw (one, two) refl

@@ -22,9 +22,11 @@ use Rattle.dns_rules.proofs.StayLemmas.{slice_get-stays, later_step_context, ask
 -- ---- the ask for a DS set
 
 -- the DS verdict that an ask leads to
-pub zone_from : (g : StepContext) (class : ℕ) (name : Labels) (ask : AskRef) → is_ask g.limits.depth g.earlier (g.depth + 1) (ds_question class name) ask ≡ true
+pub zone_from : (g : StepContext) (class : ℕ) (name : Labels) (ask : AskRef)
+    → is_ask g.limits.depth g.earlier (g.depth + 1) (ds_question class name) ask ≡ true
     → zone_asked g class name (ask ∷ []) ≡ Some (zone_verdict g.judge.answers class name (finished_answer g.earlier ask))
-zone_from g class name ask asks = ap (λ b. if b then Some (zone_verdict g.judge.answers class name (finished_answer g.earlier ask)) else None) asks
+zone_from g class name ask asks =
+    ap (λ b. if b then Some (zone_verdict g.judge.answers class name (finished_answer g.earlier ask)) else None) asks
 
 -- it stays when steps are appended
 pub zone_stays : (g : StepContext) (more : List AskedValue) (class : ℕ) (name : Labels) (asks : List AskRef) (zone : ZoneVerdict)
@@ -52,7 +54,8 @@ pub record PlainStays (earlier more : List AskedValue) (depth : ℕ) (q : Questi
   pub asks : is_plain_ask (earlier ++ more) depth q ask ≡ true
   pub sees : probe_by (earlier ++ more) name ask ≡ probe_by earlier name ask
 
-pub plain_stays : (earlier more : List AskedValue) (depth : ℕ) (q : Question) (name : Labels) (ask : AskRef) → is_plain_ask earlier depth q ask ≡ true
+pub plain_stays : (earlier more : List AskedValue) (depth : ℕ) (q : Question) (name : Labels) (ask : AskRef)
+    → is_plain_ask earlier depth q ask ≡ true
     → PlainStays earlier more depth q name ask
 plain_stays earlier more depth q name (Step n) h =
     let same = plain_step_stays depth q earlier more n (slice_get earlier n) refl h in
@@ -80,7 +83,8 @@ pub search_root : (g : StepContext) (class : ℕ) (start : Labels) → search_by
 unfolding search_by
 search_root g class start = refl
 
-search_step : (g : StepContext) (class : ℕ) (start : Labels) (label : List ℕ) (rest : Labels) (ask : AskRef) (asks : List AskRef) (probe : NsProbe)
+search_step : (g : StepContext) (class : ℕ) (start : Labels) (label : List ℕ) (rest : Labels) (ask : AskRef)
+    (asks : List AskRef) (probe : NsProbe)
     → is_plain_ask g.earlier g.depth (ns_question class (label ∷ rest)) ask ≡ true → probe_by g.earlier (label ∷ rest) ask ≡ probe
     → search_by g class start (label ∷ rest) (ask ∷ asks)
     ≡ search_after g class (label ∷ rest) asks probe (search_by g class start rest asks)
@@ -92,16 +96,19 @@ search_step g class start label rest ask asks probe plain sees =
     ∙ ap (λ s. search_after g class name asks s above) sees
 
 -- where the NS records of a name are seen, its DS verdict decides
-pub search_cut : (g : StepContext) (class : ℕ) (start : Labels) (label : List ℕ) (rest : Labels) (ask : AskRef) (asks : List AskRef) (zone : ZoneVerdict)
+pub search_cut : (g : StepContext) (class : ℕ) (start : Labels) (label : List ℕ) (rest : Labels) (ask : AskRef)
+    (asks : List AskRef) (zone : ZoneVerdict)
     → is_plain_ask g.earlier g.depth (ns_question class (label ∷ rest)) ask ≡ true → probe_by g.earlier (label ∷ rest) ask ≡ probes.Found
     → zone_asked g class (label ∷ rest) asks ≡ Some zone → search_by g class start (label ∷ rest) (ask ∷ asks) ≡ Some zone
 search_cut g class start label rest ask asks zone plain sees by = search_step g class start label rest ask asks probes.Found plain sees ∙ by
 
 -- where they aren't, the search goes on at the parent
-pub search_onward : (g : StepContext) (class : ℕ) (start : Labels) (label : List ℕ) (rest : Labels) (ask : AskRef) (asks : List AskRef) (zone : ZoneVerdict)
+pub search_onward : (g : StepContext) (class : ℕ) (start : Labels) (label : List ℕ) (rest : Labels) (ask : AskRef)
+    (asks : List AskRef) (zone : ZoneVerdict)
     → is_plain_ask g.earlier g.depth (ns_question class (label ∷ rest)) ask ≡ true → probe_by g.earlier (label ∷ rest) ask ≡ probes.Absent
     → search_by g class start rest asks ≡ Some zone → search_by g class start (label ∷ rest) (ask ∷ asks) ≡ Some zone
-search_onward g class start label rest ask asks zone plain sees above = search_step g class start label rest ask asks probes.Absent plain sees ∙ above
+search_onward g class start label rest ask asks zone plain sees above =
+    search_step g class start label rest ask asks probes.Absent plain sees ∙ above
 
 -- and after a fault or a refusal nothing more is asked
 pub search_unseen : (g : StepContext) (class : ℕ) (start : Labels) (label : List ℕ) (rest : Labels) (ask : AskRef)
@@ -111,7 +118,8 @@ search_unseen g class start label rest ask plain sees = search_step g class star
 
 -- ---- further steps
 
-after_stays : (g : StepContext) (more : List AskedValue) (class : ℕ) (name : Labels) (asks : List AskRef) (probe : NsProbe) (o p : Option ZoneVerdict)
+after_stays : (g : StepContext) (more : List AskedValue) (class : ℕ) (name : Labels) (asks : List AskRef) (probe : NsProbe)
+    (o p : Option ZoneVerdict)
     (zone : ZoneVerdict) → search_after g class name asks probe o ≡ Some zone → (o ≡ Some zone → p ≡ Some zone)
     → search_after (later_step_context g more) class name asks probe p ≡ Some zone
 after_stays g more class name asks probes.Found o p zone h above = zone_stays g more class name asks zone h
@@ -159,7 +167,8 @@ search_done_stays g more class start name asks rest done = record {
 }
 
 -- it goes on at the parent
-pub search_goes_on : (g : StepContext) (class : ℕ) (start name : Labels) (asks : List AskRef) (label : List ℕ) (rest : Labels) (ask : AskRef)
+pub search_goes_on : (g : StepContext) (class : ℕ) (start name : Labels) (asks : List AskRef) (label : List ℕ) (rest : Labels)
+    (ask : AskRef)
     → SearchDone g class start name asks (label ∷ rest) → is_plain_ask g.earlier g.depth (ns_question class (label ∷ rest)) ask ≡ true
     → probe_by g.earlier (label ∷ rest) ask ≡ probes.Absent → SearchDone g class start name (asks ++ ask ∷ []) rest
 search_goes_on g class start name asks label rest ask done plain sees = record {
@@ -171,9 +180,12 @@ search_goes_on g class start name asks label rest ask done plain sees = record {
 }
 
 -- and ends with what the last asks come to
-pub search_ends : (g : StepContext) (class : ℕ) (start name : Labels) (asks : List AskRef) (rest : Labels) (rest_asks : List AskRef) (zone : ZoneVerdict)
-    → SearchDone g class start name asks rest → search_by g class start rest rest_asks ≡ Some zone → search_by g class start name (asks ++ rest_asks) ≡ Some zone
+pub search_ends : (g : StepContext) (class : ℕ) (start name : Labels) (asks : List AskRef) (rest : Labels)
+    (rest_asks : List AskRef) (zone : ZoneVerdict)
+    → SearchDone g class start name asks rest → search_by g class start rest rest_asks ≡ Some zone
+    → search_by g class start name (asks ++ rest_asks) ≡ Some zone
 search_ends g class start name asks rest rest_asks zone done h =
     let same = append-nil g.earlier in
     subst (λ steps. search_by (record g { earlier = steps }) class start name (asks ++ rest_asks) ≡ Some zone) same
-    (done.more [] rest_asks zone (subst (λ steps. search_by (record g { earlier = steps }) class start rest rest_asks ≡ Some zone) (sym same) h))
+    (done.more [] rest_asks zone (subst (λ steps. search_by (record g { earlier = steps }) class start rest rest_asks ≡ Some zone)
+    (sym same) h))

@@ -70,7 +70,8 @@ asks_meet Q visit n (Step m ∷ asks) met found v each h =
 pub record HandsOn (Q : ℕ → Type 0) (trail : List AskedValue) : Type 0 where
   pub on : (n : ℕ) (step : AskedValue) → Q n → slice_get trail n ≡ Some step → OfAsks Q (asks_of step)
 
-step_meets_at : (Q : ℕ → Type 0) (trail : List AskedValue) (visit : ℕ → List ℕ → Option (List ℕ)) (n : ℕ) (o : Option AskedValue) (met found : List ℕ)
+step_meets_at : (Q : ℕ → Type 0) (trail : List AskedValue) (visit : ℕ → List ℕ
+    → Option (List ℕ)) (n : ℕ) (o : Option AskedValue) (met found : List ℕ)
     → HandsOn Q trail → Visits Q visit → Q n → slice_get trail n ≡ o
     → option_and_then (λ s. order_asks visit n (asks_of s) (met ++ n ∷ [])) o ≡ Some found → Meets Q (met ++ n ∷ []) found
 step_meets_at Q trail visit n None met found hands v here is h = cc
@@ -82,7 +83,8 @@ unfolding order_step
 step_visits Q trail hands zero = record { visits = λ n met found here h. cc }
 step_visits Q trail hands (suc above) = record {
   visits = λ n met found here h.
-      let rest = step_meets_at Q trail (order_step above trail) n (slice_get trail n) met found hands (step_visits Q trail hands above) here refl h in
+      let rest = step_meets_at Q trail (order_step above trail) n (slice_get trail n) met found hands
+      (step_visits Q trail hands above) here refl h in
       record { more = n ∷ rest.more; grown = rest.grown ∙ append_assoc met (n ∷ []) rest.more; each = (here, rest.each) };
 }
 
@@ -97,12 +99,14 @@ pub step_begins : (Q : ℕ → Type 0) (trail : List AskedValue) (above n : ℕ)
 unfolding order_step
 step_begins Q trail zero n order hands here h = cc
 step_begins Q trail (suc above) n order hands here h =
-    let rest = step_meets_at Q trail (order_step above trail) n (slice_get trail n) [] order hands (step_visits Q trail hands above) here refl h in
+    let rest = step_meets_at Q trail (order_step above trail) n (slice_get trail n) [] order hands
+    (step_visits Q trail hands above) here refl h in
     record { rest = rest.more; is = rest.grown; each = subst (AllByRecursion Q) (sym rest.grown) (here, rest.each) }
 
 -- ---- each number once
 
-in_range_step : (test : ℕ → Bool) (a k : ℕ) (t : Bool) → nat_lt a k ≡ t → a ≤ k → test a ≡ true → (a + 1 ≤ k → test k ≡ true) → test k ≡ true
+in_range_step : (test : ℕ → Bool) (a k : ℕ) (t : Bool) → nat_lt a k ≡ t → a ≤ k → test a ≡ true → (a + 1 ≤ k → test k ≡ true)
+    → test k ≡ true
 in_range_step test a k true is from here later = later (grind (arith, nat_tests))
 in_range_step test a k false is from here later =
     let same : a ≡ k = grind (arith, nat_tests) in

@@ -34,7 +34,8 @@ pub signed_among : (may_sign : Rr → Bool) (j : Judge) (set : RrSet) (keys : Li
     → signed_from (λ r. find (is_good_by j set r) keys) 0 (take most_signatures set.signatures) ≡ signed_by may_sign j set
 signed_among may_sign j set keys same =
     let rs = take most_signatures set.signatures in
-    signed_agree (λ r. find (is_good_by j set r) keys) (signer_among may_sign j set) (λ r. same r ∙ sym (signer_among-filter may_sign j set r)) 0 rs
+    signed_agree (λ r. find (is_good_by j set r) keys) (signer_among may_sign j set) (λ r. same r
+    ∙ sym (signer_among-filter may_sign j set r)) 0 rs
     ∙ sym (first_signed-from may_sign j set rs)
 
 -- ---- keys of a set
@@ -53,14 +54,16 @@ typed : {X : Type 0} (is : Bool) (o : Option X) (test : X → Bool) → option_m
 typed true o test h = refl
 typed false o test h = cc
 
-matched_step : (j : Judge) (set : RrSet) (ds : List Rr) (key : Rr) (o : Option Rr) → matching_ds j.answers set.owner key ds ≡ o → is_some o ≡ true
+matched_step : (j : Judge) (set : RrSet) (ds : List Rr) (key : Rr) (o : Option Rr) → matching_ds j.answers set.owner key ds ≡ o
+    → is_some o ≡ true
     → (key.rtype == type_dnskey) ≡ true
 matched_step j set ds key None is h = cc
 matched_step j set ds key (Some d) is h =
     let For = λ (r : Rr). is_ds_for set.owner key r ≡ true in
     let counted = each_taken For 2 (filter (is_ds_for set.owner key) ds) (each_passes (is_ds_for set.owner key) ds) in
     let found = find_known (λ r. matches j.answers set.owner key.rdata r.rdata) For (counted_ds set.owner key ds) d counted is in
-    let of_key = λ (text : DnskeyValue). option_map_or (λ v. (text.algorithm == v.algorithm) && (key_tag_of key.rdata == v.key_tag)) (ds_of d) false in
+    let of_key = λ (text : DnskeyValue). option_map_or (λ v. (text.algorithm == v.algorithm)
+    && (key_tag_of key.rdata == v.key_tag)) (ds_of d) false in
     typed (key.rtype == type_dnskey) (dnskey_in key.rdata) of_key
     (and_parts (name_eq set.owner d.owner) (option_map_or of_key (dnskey_of key) false) found.known).1
 
@@ -78,7 +81,8 @@ good_by j set r sig is_signer tag text =
     (if not (is_of_set set r sig) then WrongRrsig
     else if not (j.is_timely sig) then ExpiredRrsig
     else option_map_or
-    (λ key. if is_signer && ((key.algorithm == sig.algorithm) && ((tag == sig.key_tag) && is_zone_key key)) then ValidRrsig else WrongDnskey)
+    (λ key. if is_signer && ((key.algorithm == sig.algorithm) && ((tag == sig.key_tag) && is_zone_key key)) then ValidRrsig
+    else WrongDnskey)
     text WrongDnskey)
     && is_accepted j set (Some sig) text
 
@@ -86,7 +90,8 @@ abbrev good_read : Judge → RrSet → Rr → Rr → Option RrsigValue → Bool
 good_read j set r key None = false
 good_read j set r key (Some sig) = good_by j set r sig (name_eq sig.signer key.owner) (key_tag_of key.rdata) (dnskey_of key)
 
-good_step : (j : Judge) (set : RrSet) (r key : Rr) (o : Option RrsigValue) → rrsig_of r ≡ o → is_good_by j set r key ≡ good_read j set r key o
+good_step : (j : Judge) (set : RrSet) (r key : Rr) (o : Option RrsigValue) → rrsig_of r ≡ o
+    → is_good_by j set r key ≡ good_read j set r key o
 unfolding is_good_by validity
 good_step j set r key None is = rw is refl
 good_step j set r key (Some sig) is = rw is refl
@@ -111,7 +116,8 @@ read_step j set r a b (Some sig) h k same =
     ∙ ap (good_by j set r sig (name_eq sig.signer b.owner) (key_tag_of b.rdata)) (same_text a b h.rtype k.rtype same)
 
 -- a signature is good by both of two keys with one rdata, or by neither
-pub good_alike : (j : Judge) (set : RrSet) (r a b : Rr) → IsKeyOf set a → IsKeyOf set b → a.rdata ≡ b.rdata → is_good_by j set r a ≡ is_good_by j set r b
+pub good_alike : (j : Judge) (set : RrSet) (r a b : Rr) → IsKeyOf set a → IsKeyOf set b → a.rdata ≡ b.rdata
+    → is_good_by j set r a ≡ is_good_by j set r b
 good_alike j set r a b h k same =
     good_step j set r a (rrsig_of r) refl ∙ read_step j set r a b (rrsig_of r) h k same ∙ sym (good_step j set r b (rrsig_of r) refl)
 

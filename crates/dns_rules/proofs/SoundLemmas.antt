@@ -39,9 +39,11 @@ first_is_head (r ∷ rs) = refl
 test_agrees : (set : RrSet) (owner : Labels) (rtype : ℕ) → name_eq set.owner owner ≡ true → set.rtype ≡ rtype → (r : Rr)
     → is_of set r ≡ (name_eq owner r.owner && (rtype == r.rtype))
 test_agrees set owner rtype named rtype_is r =
-    ap (λ b. b && (set.rtype == r.rtype)) (name_left set.owner owner r.owner named) ∙ ap (λ k. name_eq owner r.owner && (k == r.rtype)) rtype_is
+    ap (λ b. b && (set.rtype == r.rtype)) (name_left set.owner owner r.owner named)
+    ∙ ap (λ k. name_eq owner r.owner && (k == r.rtype)) rtype_is
 
-first_is : (set : RrSet) (section : List Rr) (owner : Labels) (rtype : ℕ) → BeginsIn section set → name_eq set.owner owner ≡ true → set.rtype ≡ rtype
+first_is : (set : RrSet) (section : List Rr) (owner : Labels) (rtype : ℕ) → BeginsIn section set → name_eq set.owner owner ≡ true
+    → set.rtype ≡ rtype
     → ttl_of (first_record set.records) ≡ first_ttl section owner rtype
 first_is set section owner rtype begins named rtype_is =
     ap ttl_of (first_is_head set.records ∙ begins.head
@@ -51,12 +53,14 @@ ttl_of-cleared : (o : Option Rr) → ttl_of (option_map cleared o) ≡ ttl_of o
 ttl_of-cleared None = refl
 ttl_of-cleared (Some r) = refl
 
-first_ttl-cleared : (section : List Rr) (owner : Labels) (rtype : ℕ) → first_ttl (map cleared section) owner rtype ≡ first_ttl section owner rtype
+first_ttl-cleared : (section : List Rr) (owner : Labels) (rtype : ℕ)
+    → first_ttl (map cleared section) owner rtype ≡ first_ttl section owner rtype
 first_ttl-cleared section owner rtype =
     let test = λ (r : Rr). name_eq owner r.owner && (rtype == r.rtype) in
     ap ttl_of (find-map test cleared section) ∙ ttl_of-cleared (find test section)
 
-section_of-cleared : (m : MessageValue) (section : Section) → section_of (told_by (cleared_message m)) section ≡ map cleared (section_of (told_by m) section)
+section_of-cleared : (m : MessageValue) (section : Section)
+    → section_of (told_by (cleared_message m)) section ≡ map cleared (section_of (told_by m) section)
 section_of-cleared m Answer = refl
 section_of-cleared m Authority = refl
 section_of-cleared m Additional = refl
@@ -79,14 +83,16 @@ signature_is r d sig named decides =
     let same : d ≡ r = cc in
     ap (λ x. x.rdata) (sym same) ∙ sym (bytes_same sig d.rdata named)
 
-secure_by_link : (now : ℕ) (section : List Rr) (t r : Rr) (mark : Proof) (s : MarkedSet) (link : Option LinkValue) (d : Option Rr) → names_decider link d ≡ true
+secure_by_link : (now : ℕ) (section : List Rr) (t r : Rr) (mark : Proof) (s : MarkedSet) (link : Option LinkValue) (d : Option Rr)
+    → names_decider link d ≡ true
     → ((x : Rr) → d ≡ Some x → is_signature x ≡ true) → (is_signature r ≡ true → d ≡ Some r) → r.ttl ≡ t.ttl
     → ttl_of (first_record s.set.records) ≡ first_ttl section r.owner (set_rtype r)
     → IsSecureTtl now section t (record r { proof = mark; ttl = adjusted_by now s r d }) link
 secure_by_link now section t r mark s None d named signs decides kept first = cc
 secure_by_link now section t r mark s (Some (Anchored owner class key)) d named signs decides kept first = cc
 secure_by_link now section t r mark s (Some (Matched owner class key ds_link ds)) d named signs decides kept first = cc
-secure_by_link now section t r mark s (Some (KeySet owner class keys links)) None named signs decides kept first = (none_decides r (is_signature r) decides, kept)
+secure_by_link now section t r mark s (Some (KeySet owner class keys links)) None named signs decides kept first =
+    (none_decides r (is_signature r) decides, kept)
 secure_by_link now section t r mark s (Some (KeySet owner class keys links)) (Some d) named signs decides kept first = cc
 secure_by_link now section t r mark s (Some (Signed owner class rtype rdatas sig key_link key)) None named signs decides kept first = cc
 secure_by_link now section t r mark s (Some (Signed owner class rtype rdatas sig key_link key)) (Some d) named signs decides kept first = (
@@ -118,7 +124,10 @@ record IsChainedSecure (now : ℕ) (cs : List ChainedSet) (section : Section) (b
   found : find (λ c. is_about section r c.judged) cs ≡ Some set
   secure : is_secure set.judged.mark ≡ true
   decides : (is_signature r && not (is_place set.judged.sig (signature_place before r))) ≡ false
-  form : marked now (bare cs) section before r ≡ record r { proof = set.judged.mark; ttl = adjusted_by now set.judged r (decider set.judged) }
+  form : marked now (bare cs) section before r ≡ record r {
+    proof = set.judged.mark;
+    ttl = adjusted_by now set.judged r (decider set.judged);
+  }
 
 chained_secure : (now : ℕ) (cs : List ChainedSet) (section : Section) (before : List Rr) (r : Rr)
     → is_secure ((marked now (bare cs) section before r).proof) ≡ true → IsChainedSecure now cs section before r
@@ -153,24 +162,29 @@ kept_one j now m cs section judged before rest t split =
       secure = λ h.
           let made = chained_secure now cs section before r h in
           let s = made.set.judged in
-          let found = find_known (λ c. is_about section r c.judged) (IsKnownChain j told ss) cs made.set (each_chain_known j told cs judged) made.found in
+          let found = find_known (λ c. is_about section r c.judged) (IsKnownChain j told ss) cs made.set
+          (each_chain_known j told cs judged) made.found in
           let known = found.known.known in
           let about = about_parts section r s found.passes in
           let chain = stands_parts j made.set found.known.stand made.secure in
-          let here : section_of told s.section ≡ map cleared section_told = ap (section_of told) about.section_is ∙ section_of-cleared m section in
+          let here : section_of told s.section ≡ map cleared section_told = ap (section_of told) about.section_is
+          ∙ section_of-cleared m section in
           let begins : BeginsIn (map cleared section_told) s.set = subst (λ xs. BeginsIn xs s.set) here known.begins in
           let signed : IsSignedIn (map cleared section_told) s.set = subst (λ xs. IsSignedIn xs s.set) here known.signed in
           let first : ttl_of (first_record s.set.records) ≡ first_ttl section_told r.owner (set_rtype r) =
-          first_is s.set (map cleared section_told) r.owner (set_rtype r) begins about.owner about.rtype ∙ first_ttl-cleared section_told r.owner (set_rtype r) in
+          first_is s.set (map cleared section_told) r.owner (set_rtype r) begins about.owner about.rtype
+          ∙ first_ttl-cleared section_told r.owner (set_rtype r) in
           let decides = decider_is section (map cleared section_told) before rest r s known.proper signed about split made.decides in
-          let by_link = secure_by_link now section_told t r s.mark s (last_link made.set.chain) (decider s) chain.named (decider_signs (map cleared section_told) s signed) decides refl first in
+          let by_link = secure_by_link now section_told t r s.mark s (last_link made.set.chain) (decider s) chain.named
+          (decider_signs (map cleared section_told) s signed) decides refl first in
           let decided = decided_link j cs section r made.set judged.stand made.found made.secure in
           let made_record : Rr = record r { proof = s.mark; ttl = adjusted_by now s r (decider s) } in
           subst (λ x. IsSecureTtl now section_told t x (deciding_link (chains_of cs) section x)) (sym made.form)
           (subst (λ l. IsSecureTtl now section_told t made_record l) (sym decided) by_link);
     }
 
-kept : (j : Judge) (now : ℕ) (m : MessageValue) (cs : List ChainedSet) (section : Section) → AreJudged j (placed_sets (told_by (cleared_message m))) cs
+kept : (j : Judge) (now : ℕ) (m : MessageValue) (cs : List ChainedSet) (section : Section)
+    → AreJudged j (placed_sets (told_by (cleared_message m))) cs
     → ArePaired (IsKept now (chains_of cs) section (section_of (told_by m) section)) (section_of (told_by m) section)
     (marked_section now (bare cs) section (map cleared (section_of (told_by m) section)))
 kept j now m cs section judged =
@@ -196,19 +210,25 @@ own_marks now told ss s known =
 one_mark : (f : Rr → Rr) (mark : Proof) (records : List Rr) → AllByRecursion (λ r. (f r).proof ≡ mark) records
     → AllByRecursion (λ r. r.proof ≡ first_mark (map f records)) (map f records)
 one_mark f mark [] h = tt
-one_mark f mark (x ∷ xs) h =
-    (refl, each_map (λ r. r.proof ≡ (f x).proof) f xs (each_more (λ r. (f r).proof ≡ mark) (λ r. (f r).proof ≡ (f x).proof) (λ r e. e ∙ sym h.0) xs h.1))
+one_mark f mark (x ∷ xs) h = (
+  refl,
+  each_map (λ r. r.proof ≡ (f x).proof) f xs
+      (each_more (λ r. (f r).proof ≡ mark) (λ r. (f r).proof ≡ (f x).proof) (λ r e. e ∙ sym h.0) xs h.1),
+)
 
-set_has_one : (now : ℕ) (told : Told) (ss : List MarkedSet) (s : MarkedSet) → IsKnown told ss s → HasOneMark (on_set (marked_first now ss s.section) s.set)
+set_has_one : (now : ℕ) (told : Told) (ss : List MarkedSet) (s : MarkedSet) → IsKnown told ss s
+    → HasOneMark (on_set (marked_first now ss s.section) s.set)
 set_has_one now told ss s known =
     let f = marked_first now ss s.section in
     one_mark f s.mark s.set.records
-    (each_more (λ r. f r ≡ record r { proof = s.mark; ttl = adjusted_ttl now s r }) (λ r. (f r).proof ≡ s.mark) (λ r e. ap (λ x. x.proof) e) s.set.records
+    (each_more (λ r. f r ≡ record r { proof = s.mark; ttl = adjusted_ttl now s r }) (λ r. (f r).proof ≡ s.mark)
+    (λ r e. ap (λ x. x.proof) e) s.set.records
     (own_marks now told ss s known))
 
 -- the sets of a marked section, signatures aside, are those of the section with their records marked
 pub sets_of-marked : (now : ℕ) (ss : List MarkedSet) (section : Section) (records : List Rr)
-    → map unsigned (sets_of (marked_section now ss section records)) ≡ map unsigned (map (on_set (marked_first now ss section)) (sets_of records))
+    → map unsigned (sets_of (marked_section now ss section records))
+    ≡ map unsigned (map (on_set (marked_first now ss section)) (sets_of records))
 sets_of-marked now ss section records =
     unsigned_sets (marked now ss section) (plain_change now ss section) records
     ∙ ap (map unsigned) (sets_of-map (marked_first now ss section) (marked-keeps now ss section []) records)
@@ -221,10 +241,13 @@ have_one now told ss section grouped =
     let P = λ (p : PlacedSet). HasOneMark (on_set (marked_first now ss p.section) p.set) in
     let placed : AllByRecursion P (placed_sets told) =
     subst (λ ps. AllByRecursion P ps) grouped
-    (each_map P placed_of ss (each_more (IsKnown told ss) (λ s. P (placed_of s)) (set_has_one now told ss) ss (each_known told ss grouped))) in
-    let one : AllByRecursion HasOneMark (map (on_set f) (sets_of records)) = each_map HasOneMark (on_set f) (sets_of records) (placed_each P told section placed) in
+    (each_map P placed_of ss (each_more (IsKnown told ss) (λ s. P (placed_of s)) (set_has_one now told ss) ss
+    (each_known told ss grouped))) in
+    let one : AllByRecursion HasOneMark (map (on_set f) (sets_of records)) =
+    each_map HasOneMark (on_set f) (sets_of records) (placed_each P told section placed) in
     each_unmap HasOneMark unsigned (sets_of (marked_section now ss section records))
-    (subst (λ sets. AllByRecursion HasOneMark sets) (sym (sets_of-marked now ss section records)) (each_map HasOneMark unsigned (map (on_set f) (sets_of records)) one))
+    (subst (λ sets. AllByRecursion HasOneMark sets) (sym (sets_of-marked now ss section records))
+    (each_map HasOneMark unsigned (map (on_set f) (sets_of records)) one))
 
 -- ---- the chains
 
@@ -257,18 +280,21 @@ placed_marked now ss m =
     let second = map (in_section Authority) (sets_of (marked_section now ss Authority m.authorities)) in
     let third = map (in_section Additional) (sets_of (marked_section now ss Additional m.additionals)) in
     let f = on_placed now ss in
-    map-append unsigned_placed (first ++ second) third ∙ ap (λ xs. xs ++ map unsigned_placed third) (map-append unsigned_placed first second)
+    map-append unsigned_placed (first ++ second) third
+    ∙ ap (λ xs. xs ++ map unsigned_placed third) (map-append unsigned_placed first second)
     ∙ ap (λ xs. xs ++ map unsigned_placed second ++ map unsigned_placed third) (placed_part now ss Answer m.answers)
     ∙ ap (λ xs. map f one ++ xs ++ map unsigned_placed third) (placed_part now ss Authority m.authorities)
     ∙ ap (λ xs. map f one ++ map f two ++ xs) (placed_part now ss Additional m.additionals)
     ∙ ap (λ xs. xs ++ map f three) (sym (map-append f one two)) ∙ sym (map-append f (one ++ two) three)
 
-pub first_marked : (f : Rr → Rr) (mark : Proof) (records : List Rr) → is_nonempty (rdatas_of records) ≡ true → AllByRecursion (λ r. (f r).proof ≡ mark) records
+pub first_marked : (f : Rr → Rr) (mark : Proof) (records : List Rr) → is_nonempty (rdatas_of records) ≡ true
+    → AllByRecursion (λ r. (f r).proof ≡ mark) records
     → first_mark (map f records) ≡ mark
 first_marked f mark [] listed h = cc
 first_marked f mark (x ∷ xs) listed h = h.0
 
-link_is_for-kept : (f : Rr → Rr) → KeepsKey f → (set : RrSet) (link : Option LinkValue) → link_is_for (unsigned (on_set f set)) link ≡ link_is_for set link
+link_is_for-kept : (f : Rr → Rr) → KeepsKey f → (set : RrSet) (link : Option LinkValue)
+    → link_is_for (unsigned (on_set f set)) link ≡ link_is_for set link
 link_is_for-kept f keeps set None = refl
 link_is_for-kept f keeps set (Some (Anchored owner class key)) = refl
 link_is_for-kept f keeps set (Some (Matched owner class key ds_link ds)) = refl
@@ -283,7 +309,8 @@ link_is_for-unsigned set (Some (KeySet owner class keys links)) = refl
 link_is_for-unsigned set (Some (Signed owner class rtype rdatas sig key_link key)) = refl
 
 -- no signature of a set matters to its chain
-chains_unsigned : (j : Judge) (cs : List ChainValue) (ps : List PlacedSet) → ArePaired (IsChainOf j) cs (map unsigned_placed ps) → ArePaired (IsChainOf j) cs ps
+chains_unsigned : (j : Judge) (cs : List ChainValue) (ps : List PlacedSet) → ArePaired (IsChainOf j) cs (map unsigned_placed ps)
+    → ArePaired (IsChainOf j) cs ps
 chains_unsigned j [] [] h = tt
 chains_unsigned j [] (p ∷ ps) h = h
 chains_unsigned j (c ∷ cs) [] h = h
@@ -292,7 +319,8 @@ chains_unsigned j (c ∷ cs) (p ∷ ps) h = (
   chains_unsigned j cs ps h.1,
 )
 
-chain_step : (j : Judge) (b c : Bool) (s : ChainedSet) (ss : List ChainedSet) (p : PlacedSet) (ps : List PlacedSet) → c ≡ b → (b ≡ true → IsChainOf j (chain_value s) p)
+chain_step : (j : Judge) (b c : Bool) (s : ChainedSet) (ss : List ChainedSet) (p : PlacedSet) (ps : List PlacedSet) → c ≡ b
+    → (b ≡ true → IsChainOf j (chain_value s) p)
     → ArePaired (IsChainOf j) (map chain_value ss) ps → ArePaired (IsChainOf j) (map chain_value (cond b (s ∷ ss) ss)) (cond c (p ∷ ps) ps)
 chain_step j true true s ss p ps same one rest = (one refl, rest)
 chain_step j true false s ss p ps same one rest = cc
@@ -306,10 +334,12 @@ chains_hold j now told ss (c ∷ cs) known =
     let s = c.judged in
     let f = marked_first now ss s.section in
     let marks : AllByRecursion (λ r. (f r).proof ≡ s.mark) s.set.records =
-    each_more (λ r. f r ≡ record r { proof = s.mark; ttl = adjusted_ttl now s r }) (λ r. (f r).proof ≡ s.mark) (λ r e. ap (λ x. x.proof) e) s.set.records
+    each_more (λ r. f r ≡ record r { proof = s.mark; ttl = adjusted_ttl now s r }) (λ r. (f r).proof ≡ s.mark)
+    (λ r e. ap (λ x. x.proof) e) s.set.records
     (own_marks now told ss s known.0.known) in
     let p = on_placed now ss (placed_of s) in
-    let same : is_secure_set p.set ≡ is_secure s.mark = ap is_secure (first_marked f s.mark s.set.records known.0.known.proper.listed marks) in
+    let same : is_secure_set p.set ≡ is_secure s.mark =
+    ap is_secure (first_marked f s.mark s.set.records known.0.known.proper.listed marks) in
     chain_step j (is_secure s.mark) (is_secure_set p.set) c (filter (λ x. is_secure x.judged.mark) cs) p
     (filter (λ q. is_secure_set q.set) (map (on_placed now ss) (map placed_of (bare cs)))) same
     (λ secure.
@@ -329,13 +359,15 @@ chains j now m cs judged =
     let sets = placed_sets (told_by (marked_message now ss m)) in
     chains_unsigned j (chains_of cs) (filter secures sets)
     (subst (λ ps. ArePaired (IsChainOf j) (chains_of cs) ps)
-    (ap (filter secures) (ap (map (on_placed now ss)) judged.grouped ∙ sym (placed_marked now ss m)) ∙ filter-map secures unsigned_placed sets)
+    (ap (filter secures) (ap (map (on_placed now ss)) judged.grouped ∙ sym (placed_marked now ss m))
+    ∙ filter-map secures unsigned_placed sets)
     (chains_hold j now (told_by m) ss cs (each_chain_known j (told_by m) cs judged)))
 
 -- ---- the answer
 
 sound_of_judged : (j : Judge) (now : ℕ) (m : MessageValue) (cs : List ChainedSet) (denial : Denial) (trail : List AskedValue)
-    → AreJudged j (placed_sets (told_by (cleared_message m))) cs → Sound j now (told_by m) (finished now cs (cleared_message m) denial trail)
+    → AreJudged j (placed_sets (told_by (cleared_message m))) cs
+    → Sound j now (told_by m) (finished now cs (cleared_message m) denial trail)
 sound_of_judged j now m cs denial trail judged =
     let told = told_by (cleared_message m) in
     let ss = bare cs in

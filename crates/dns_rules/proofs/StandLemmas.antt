@@ -43,19 +43,22 @@ stands_step true held ends named h s =
     (one.0, two.0, two.1)
 stands_step false held ends named h s = cc
 
-pub stands_parts : (j : Judge) (c : ChainedSet) → stands j c ≡ true → is_secure c.judged.mark ≡ true → IsChainFor j c.judged.set c.chain (decider c.judged)
+pub stands_parts : (j : Judge) (c : ChainedSet) → stands j c ≡ true → is_secure c.judged.mark ≡ true
+    → IsChainFor j c.judged.set c.chain (decider c.judged)
 stands_parts j c h secure =
     let parts = stands_step (is_secure c.judged.mark) (justified j c.chain) (ends_at c.chain c.judged.set)
     (names_decider (last_link c.chain) (decider c.judged)) h secure in
     record { held = parts.0; ends = parts.1; named = parts.2 }
 
-stands_back : (secure held ends named : Bool) → held ≡ true → ends ≡ true → named ≡ true → (if secure then held && (ends && named) else true) ≡ true
+stands_back : (secure held ends named : Bool) → held ≡ true → ends ≡ true → named ≡ true
+    → (if secure then held && (ends && named) else true) ≡ true
 stands_back true held ends named p q r = rw (p, q, r) refl
 stands_back false held ends named p q r = refl
 
 pub stands_from : (j : Judge) (c : ChainedSet) → IsChainFor j c.judged.set c.chain (decider c.judged) → stands j c ≡ true
 stands_from j c h =
-    stands_back (is_secure c.judged.mark) (justified j c.chain) (ends_at c.chain c.judged.set) (names_decider (last_link c.chain) (decider c.judged))
+    stands_back (is_secure c.judged.mark) (justified j c.chain) (ends_at c.chain c.judged.set)
+    (names_decider (last_link c.chain) (decider c.judged))
     h.held h.ends h.named
 
 -- ---- the verdict of one signature
@@ -89,7 +92,8 @@ record ByMark (j : Judge) (set : RrSet) (r : Rr) (mark : Proof) (keys : List Rr)
   secure : is_secure mark ≡ true
   by : ByKey (find (is_good_by j set r) keys)
 
-proved_mark : (j : Judge) (set : RrSet) (r : Rr) (mark : Proof) (keys : List Rr) → by_keys j set r mark keys ≡ Proved → ByMark j set r mark keys
+proved_mark : (j : Judge) (set : RrSet) (r : Rr) (mark : Proof) (keys : List Rr) → by_keys j set r mark keys ≡ Proved
+    → ByMark j set r mark keys
 proved_mark j set r Secure keys h = record { secure = refl; by = proved_by (find (is_good_by j set r) keys) h }
 proved_mark j set r Insecure keys h = absurd (excused_only keys h)
 proved_mark j set r Bogus keys h = cc
@@ -137,12 +141,14 @@ proved_read j set r answer (Some sig) is h =
       chain_is = ap (chain_by_read j set r answer) is ∙ by.chain_is;
     }
 
-pub proved_parts : (j : Judge) (set : RrSet) (r : Rr) (answer : List ChainedSet) → verdict_of j set r (Some (bare answer)) ≡ Proved → IsProof j set r answer
+pub proved_parts : (j : Judge) (set : RrSet) (r : Rr) (answer : List ChainedSet) → verdict_of j set r (Some (bare answer)) ≡ Proved
+    → IsProof j set r answer
 unfolding verdict_of
 proved_parts j set r answer h = proved_read j set r answer (rrsig_of r) refl h
 
 -- a signature that isn't skipped has a signer that fits
-skipped_step : (set : RrSet) (asked : Question) (o : Option RrsigValue) (sig : RrsigValue) → o ≡ Some sig → is_skipped_read asked set o ≡ false
+skipped_step : (set : RrSet) (asked : Question) (o : Option RrsigValue) (sig : RrsigValue) → o ≡ Some sig
+    → is_skipped_read asked set o ≡ false
     → signer_fits set.rtype sig.signer set.owner ≡ true
 skipped_step set asked None sig is h = cc
 skipped_step set asked (Some text) sig is h =
@@ -165,9 +171,11 @@ each_early P met (r ∷ rs) h =
     two_step P (nat_lt (count_by (same_tag r) met) 2) r (early_after (met ++ r ∷ []) rs) h.0 (each_early P (met ++ r ∷ []) rs h.1)
 
 -- what is shown of each record is shown of each counted key
-pub each_counted : (P : Rr → Type 0) (zone : Labels) (records : List Rr) → AllByRecursion P records → AllByRecursion P (counted_keys zone records)
+pub each_counted : (P : Rr → Type 0) (zone : Labels) (records : List Rr) → AllByRecursion P records
+    → AllByRecursion P (counted_keys zone records)
 each_counted P zone records h =
-    rw (first_two-after (filter (is_key_of_zone zone) records)) (each_early P [] (filter (is_key_of_zone zone) records) (each_filter P (is_key_of_zone zone) records h))
+    rw (first_two-after (filter (is_key_of_zone zone) records))
+    (each_early P [] (filter (is_key_of_zone zone) records) (each_filter P (is_key_of_zone zone) records h))
 
 -- the parts of a test that a set is a signer's key set
 record IsKeySetOf (class : ℕ) (signer : Labels) (s : MarkedSet) : Type 0 where
@@ -177,7 +185,8 @@ record IsKeySetOf (class : ℕ) (signer : Labels) (s : MarkedSet) : Type 0 where
 
 key_set_parts : (class : ℕ) (signer : Labels) (s : MarkedSet) → is_key_set_of class signer s ≡ true → IsKeySetOf class signer s
 key_set_parts class signer s h =
-    let one = and_parts (section_eq Answer s.section) (name_eq signer s.set.owner && ((s.set.rtype == type_dnskey) && (class == s.set.class))) h in
+    let one = and_parts (section_eq Answer s.section) (name_eq signer s.set.owner
+    && ((s.set.rtype == type_dnskey) && (class == s.set.class))) h in
     let two = and_parts (name_eq signer s.set.owner) ((s.set.rtype == type_dnskey) && (class == s.set.class)) one.1 in
     let three = and_parts (s.set.rtype == type_dnskey) (class == s.set.class) two.1 in
     record { owner = two.0; rtype = three.0; class_is = three.1 }
@@ -203,12 +212,15 @@ proof_is_chain j set asked r answer proper other asked_for stand is =
     let link = Signed set.owner set.class set.rtype (rdatas_of set.records) r.rdata last p.key.rdata in
     let shown : shows_member p.sig.signer set.class p.key.rdata (slice_get p.keys.chain last) ≡ true =
     ap (shows_member p.sig.signer set.class p.key.rdata) (slice_get-last p.keys.chain)
-    ∙ member_shown keys.set (last_link p.keys.chain) p.sig.signer set.class p.key.rdata below.ends key_set.rtype key_set.owner key_set.class_is key.known in
+    ∙ member_shown keys.set (last_link p.keys.chain) p.sig.signer set.class p.key.rdata below.ends key_set.rtype key_set.owner
+    key_set.class_is key.known in
     let comes : key_comes p.keys.chain set.owner set.class set.rtype (rdatas_of set.records) p.sig.signer last p.key.rdata ≡ true =
     comes_step (set.rtype == type_dnskey) (shows_member p.sig.signer set.class p.key.rdata (slice_get p.keys.chain last))
-    (name_eq set.owner p.sig.signer && (has_bytes (rdatas_of set.records) p.key.rdata && shows_key set.owner set.class p.key.rdata (slice_get p.keys.chain last)))
+    (name_eq set.owner p.sig.signer
+    && (has_bytes (rdatas_of set.records) p.key.rdata && shows_key set.owner set.class p.key.rdata (slice_get p.keys.chain last)))
     other shown in
-    let fits : Fits p.keys.chain set p.sig last p.key.rdata = record { unexpanded = p.unexpanded; below = p.below; signer = asked_fits set asked r p.sig p.read asked_for; comes = comes } in
+    let fits : Fits p.keys.chain set p.sig last p.key.rdata =
+    record { unexpanded = p.unexpanded; below = p.below; signer = asked_fits set asked r p.sig p.read asked_for; comes = comes } in
     let holds = signed_holds j p.keys.chain set r p.key p.sig last proper p.read key.passes fits in
     let ended = last_link-append p.keys.chain link in
     record {
@@ -272,13 +284,15 @@ chained_at placed o e chain = record {
 }
 
 marked_stands : (j : Judge) (placed : PlacedSet) (chain : List LinkValue) (o e : Option ℕ)
-    → ((n : ℕ) → o ≡ Some n → IsChainFor j placed.set chain (slice_get placed.set.signatures n)) → stands j (chained_at placed o e chain) ≡ true
+    → ((n : ℕ) → o ≡ Some n → IsChainFor j placed.set chain (slice_get placed.set.signatures n))
+    → stands j (chained_at placed o e chain) ≡ true
 marked_stands j placed chain (Some n) e h = stands_from j (chained_at placed (Some n) e chain) (h n refl)
 marked_stands j placed chain None (Some n) h = refl
 marked_stands j placed chain None None h = refl
 
 -- a set that is judged by good verdicts of its first signatures stands
-pub chained_by-stands : (j : Judge) (placed : PlacedSet) (n : ℕ) (vs : List ChainedVerdict) → AreGood j placed.set (take n placed.set.signatures) vs
+pub chained_by-stands : (j : Judge) (placed : PlacedSet) (n : ℕ) (vs : List ChainedVerdict)
+    → AreGood j placed.set (take n placed.set.signatures) vs
     → stands j (chained_by placed vs) ≡ true
 unfolding judged_by
 chained_by-stands j placed n [] good = refl

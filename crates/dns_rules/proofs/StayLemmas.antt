@@ -33,7 +33,8 @@ pub record AskStays (limit : ℕ) (earlier more : List AskedValue) (depth : ℕ)
   pub asks : is_ask limit (earlier ++ more) depth q ask ≡ true
   pub answer : finished_answer (earlier ++ more) ask ≡ finished_answer earlier ask
 
-pub ask_stays : (limit : ℕ) (earlier more : List AskedValue) (depth : ℕ) (q : Question) (ask : AskRef) → is_ask limit earlier depth q ask ≡ true
+pub ask_stays : (limit : ℕ) (earlier more : List AskedValue) (depth : ℕ) (q : Question) (ask : AskRef)
+    → is_ask limit earlier depth q ask ≡ true
     → AskStays limit earlier more depth q ask
 ask_stays limit earlier more depth q (Step n) h =
     let parts = and_parts (nat_le depth limit) (is_judged_ask depth q (slice_get earlier n)) h in
@@ -47,7 +48,8 @@ pub record AskForStays (g : StepContext) (more : List AskedValue) (o : Option Qu
   pub asks : is_ask_for (later_step_context g more) o ask ≡ true
   pub answer : finished_answer (g.earlier ++ more) ask ≡ finished_answer g.earlier ask
 
-pub ask_for_stays : (g : StepContext) (more : List AskedValue) (o : Option Question) (ask : AskRef) → is_ask_for g o ask ≡ true → AskForStays g more o ask
+pub ask_for_stays : (g : StepContext) (more : List AskedValue) (o : Option Question) (ask : AskRef) → is_ask_for g o ask ≡ true
+    → AskForStays g more o ask
 ask_for_stays g more None ask h = cc
 ask_for_stays g more (Some q) ask h =
     let stays = ask_stays g.limits.depth g.earlier more (g.depth + 1) q ask h in
@@ -84,7 +86,8 @@ skipped_stays true v o p x y vs h stays asked = after_stays v o p vs h stays
 skipped_stays false v o p x y vs h stays asked = asked h
 
 -- one signature whose ask stays, before others whose verdicts stay
-asked_stays : (g : StepContext) (more : List AskedValue) (set : RrSet) (r : Rr) (ask : AskRef) (asks : List AskRef) (o p : Option (List Verdict))
+asked_stays : (g : StepContext) (more : List AskedValue) (set : RrSet) (r : Rr) (ask : AskRef) (asks : List AskRef)
+    (o p : Option (List Verdict))
     (vs : List Verdict) → verdicts_asked g set r (ask ∷ asks) (λ x. o) ≡ Some vs → ((rest : List Verdict) → o ≡ Some rest → p ≡ Some rest)
     → verdicts_asked (later_step_context g more) set r (ask ∷ asks) (λ x. p) ≡ Some vs
 asked_stays g more set r ask asks o p vs h stays =
@@ -92,7 +95,8 @@ asked_stays g more set r ask asks o p vs h stays =
     let some = if_some (is_ask_for g (ask_of set r) ask) (verdicts_after v asks (λ x. o)) vs h in
     let ask_stays = ask_for_stays g more (ask_of set r) ask some.0 in
     let kept = verdicts_after_stay (is_proved v) v asks o p vs some.1 stays in
-    ap (λ b. if b then verdicts_after (verdict_of g.judge set r (finished_answer (g.earlier ++ more) ask)) asks (λ x. p) else None) ask_stays.asks
+    ap (λ b. if b then verdicts_after (verdict_of g.judge set r (finished_answer (g.earlier ++ more) ask)) asks (λ x. p)
+    else None) ask_stays.asks
     ∙ ap (λ a. verdicts_after (verdict_of g.judge set r a) asks (λ x. p)) ask_stays.answer
     ∙ kept
 
@@ -102,10 +106,12 @@ pub verdicts_stay : (g : StepContext) (more : List AskedValue) (set : RrSet) (rs
 unfolding verdicts_by
 verdicts_stay g more set [] asks vs h = h
 verdicts_stay g more set (r ∷ rs) [] vs h =
-    skipped_stays (is_skipped g.query set r) marks.Failed (verdicts_by g set rs []) (verdicts_by (later_step_context g more) set rs []) None None vs h
+    skipped_stays (is_skipped g.query set r) marks.Failed (verdicts_by g set rs [])
+    (verdicts_by (later_step_context g more) set rs []) None None vs h
     (λ rest. verdicts_stay g more set rs [] rest) (λ k. k)
 verdicts_stay g more set (r ∷ rs) (ask ∷ asks) vs h =
-    skipped_stays (is_skipped g.query set r) marks.Failed (verdicts_by g set rs (ask ∷ asks)) (verdicts_by (later_step_context g more) set rs (ask ∷ asks))
+    skipped_stays (is_skipped g.query set r) marks.Failed (verdicts_by g set rs (ask ∷ asks))
+    (verdicts_by (later_step_context g more) set rs (ask ∷ asks))
     (verdicts_asked g set r (ask ∷ asks) (verdicts_by g set rs))
     (verdicts_asked (later_step_context g more) set r (ask ∷ asks) (verdicts_by (later_step_context g more) set rs)) vs h
     (λ rest. verdicts_stay g more set rs (ask ∷ asks) rest)

@@ -28,7 +28,8 @@ pub verdicts_done_stay : (g : StepContext) (more : List AskedValue) (set : RrSet
 verdicts_done_stay g more set front asks vs done = record {
   more = λ later rest rest_asks rest_verdicts h.
       let same = append_assoc g.earlier more later in
-      subst (λ steps. verdicts_by (record g { earlier = steps }) set (front ++ rest) (asks ++ rest_asks) ≡ Some (vs ++ rest_verdicts)) (sym same)
+      subst (λ steps. verdicts_by (record g { earlier = steps }) set (front ++ rest) (asks ++ rest_asks) ≡ Some (vs ++ rest_verdicts))
+      (sym same)
       (done.more (more ++ later) rest rest_asks rest_verdicts
       (subst (λ steps. verdicts_by (record g { earlier = steps }) set rest rest_asks ≡ Some rest_verdicts) same h));
 }
@@ -36,7 +37,8 @@ verdicts_done_stay g more set front asks vs done = record {
 -- ---- one more signature
 
 -- others after signatures, asks and verdicts with one more at their end
-regroup : (g : StepContext) (set : RrSet) (front : List Rr) (r : Rr) (rest : List Rr) (asks more rest_asks : List AskRef) (vs : List Verdict) (v : Verdict)
+regroup : (g : StepContext) (set : RrSet) (front : List Rr) (r : Rr) (rest : List Rr) (asks more rest_asks : List AskRef)
+    (vs : List Verdict) (v : Verdict)
     (rest_verdicts : List Verdict)
     → verdicts_by g set (front ++ r ∷ rest) (asks ++ (more ++ rest_asks)) ≡ Some (vs ++ v ∷ rest_verdicts)
     → verdicts_by g set ((front ++ r ∷ []) ++ rest) ((asks ++ more) ++ rest_asks) ≡ Some ((vs ++ v ∷ []) ++ rest_verdicts)
@@ -45,16 +47,20 @@ regroup g set front r rest asks more rest_asks vs v rest_verdicts h =
 
 -- one that isn't asked for
 pub verdicts_skip : (g : StepContext) (set : RrSet) (front : List Rr) (r : Rr) (asks : List AskRef) (vs : List Verdict)
-    → VerdictsDone g set front asks vs → is_skipped g.query set r ≡ true → VerdictsDone g set (front ++ r ∷ []) asks (vs ++ marks.Failed ∷ [])
+    → VerdictsDone g set front asks vs → is_skipped g.query set r ≡ true
+    → VerdictsDone g set (front ++ r ∷ []) asks (vs ++ marks.Failed ∷ [])
 unfolding verdicts_by
 verdicts_skip g set front r asks vs done skipped = record {
   more = λ later rest rest_asks rest_verdicts h.
       let g' = later_step_context g later in
       let one : verdicts_by g' set (r ∷ rest) rest_asks ≡ Some (marks.Failed ∷ rest_verdicts) =
-      ap (λ b. if b then after_verdict marks.Failed (verdicts_by g' set rest rest_asks) else verdicts_asked g' set r rest_asks (verdicts_by g' set rest)) skipped
+      ap (λ b. if b then after_verdict marks.Failed (verdicts_by g' set rest rest_asks)
+      else verdicts_asked g' set r rest_asks (verdicts_by g' set rest)) skipped
       ∙ ap (after_verdict marks.Failed) h in
-      subst (λ xs. verdicts_by g' set ((front ++ r ∷ []) ++ rest) (xs ++ rest_asks) ≡ Some ((vs ++ marks.Failed ∷ []) ++ rest_verdicts)) (append-nil asks)
-      (regroup g' set front r rest asks [] rest_asks vs marks.Failed rest_verdicts (done.more later (r ∷ rest) rest_asks (marks.Failed ∷ rest_verdicts) one));
+      subst (λ xs. verdicts_by g' set ((front ++ r ∷ []) ++ rest) (xs ++ rest_asks) ≡ Some ((vs ++ marks.Failed ∷ [])
+      ++ rest_verdicts)) (append-nil asks)
+      (regroup g' set front r rest asks [] rest_asks vs marks.Failed rest_verdicts
+      (done.more later (r ∷ rest) rest_asks (marks.Failed ∷ rest_verdicts) one));
 }
 
 -- one whose ask fits
@@ -66,7 +72,8 @@ pub record AskFits (g : StepContext) (set : RrSet) (r : Rr) (ask : AskRef) : Typ
 abbrev pub asked_verdict : StepContext → RrSet → Rr → AskRef → Verdict
 asked_verdict g set r ask = verdict_of g.judge set r (finished_answer g.earlier ask)
 
-pub fits_later : (g : StepContext) (more : List AskedValue) (set : RrSet) (r : Rr) (ask : AskRef) → AskFits g set r ask → AskFits (later_step_context g more) set r ask
+pub fits_later : (g : StepContext) (more : List AskedValue) (set : RrSet) (r : Rr) (ask : AskRef) → AskFits g set r ask
+    → AskFits (later_step_context g more) set r ask
 fits_later g more set r ask fits = record { kept = fits.kept; asks = (ask_for_stays g more (ask_of set r) ask fits.asks).asks }
 
 first_asked : (g : StepContext) (set : RrSet) (r : Rr) (ask : AskRef) (rest : List Rr) (asks : List AskRef) → AskFits g set r ask
@@ -74,7 +81,8 @@ first_asked : (g : StepContext) (set : RrSet) (r : Rr) (ask : AskRef) (rest : Li
 unfolding verdicts_by
 first_asked g set r ask rest asks fits =
     let after = verdicts_after (asked_verdict g set r ask) asks (verdicts_by g set rest) in
-    ap (λ b. if b then after_verdict marks.Failed (verdicts_by g set rest (ask ∷ asks)) else verdicts_asked g set r (ask ∷ asks) (verdicts_by g set rest)) fits.kept
+    ap (λ b. if b then after_verdict marks.Failed (verdicts_by g set rest (ask ∷ asks))
+    else verdicts_asked g set r (ask ∷ asks) (verdicts_by g set rest)) fits.kept
     ∙ ap (λ b. if b then after else None) fits.asks
 
 -- one whose ask fits and whose verdict doesn't prove the set
@@ -85,13 +93,15 @@ verdicts_ask g set front r asks ask vs done fits unproved = record {
   more = λ later rest rest_asks rest_verdicts h.
       let g' = later_step_context g later in
       let v = asked_verdict g set r ask in
-      let same : asked_verdict g' set r ask ≡ v = ap (verdict_of g.judge set r) ((ask_for_stays g later (ask_of set r) ask fits.asks).answer) in
+      let same : asked_verdict g' set r ask ≡ v =
+      ap (verdict_of g.judge set r) ((ask_for_stays g later (ask_of set r) ask fits.asks).answer) in
       let one : verdicts_by g' set (r ∷ rest) (ask ∷ rest_asks) ≡ Some (v ∷ rest_verdicts) =
       first_asked g' set r ask rest rest_asks (fits_later g later set r ask fits)
       ∙ ap (λ w. verdicts_after w rest_asks (verdicts_by g' set rest)) same
       ∙ ap (λ b. if b then if_last rest_asks (v ∷ []) else after_verdict v (verdicts_by g' set rest rest_asks)) unproved
       ∙ ap (after_verdict v) h in
-      regroup g' set front r rest asks (ask ∷ []) rest_asks vs v rest_verdicts (done.more later (r ∷ rest) (ask ∷ rest_asks) (v ∷ rest_verdicts) one);
+      regroup g' set front r rest asks (ask ∷ []) rest_asks vs v rest_verdicts
+      (done.more later (r ∷ rest) (ask ∷ rest_asks) (v ∷ rest_verdicts) one);
 }
 
 -- ---- the end
@@ -106,14 +116,16 @@ at_once g set front rest asks rest_asks vs rest_verdicts done h =
     (subst (λ steps. verdicts_by (record g { earlier = steps }) set rest rest_asks ≡ Some rest_verdicts) (sym same) h))
 
 -- all were read, and none proved the set
-pub verdicts_all : (g : StepContext) (set : RrSet) (front : List Rr) (asks : List AskRef) (vs : List Verdict) → VerdictsDone g set front asks vs
+pub verdicts_all : (g : StepContext) (set : RrSet) (front : List Rr) (asks : List AskRef) (vs : List Verdict)
+    → VerdictsDone g set front asks vs
     → verdicts_by g set front asks ≡ Some vs
 unfolding verdicts_by
 verdicts_all g set front asks vs done =
     rw (append-nil front, append-nil asks, append-nil vs) at (at_once g set front [] asks [] vs [] done refl)
 
 -- one proves the set, and those after it aren't read
-pub verdicts_proved : (g : StepContext) (set : RrSet) (front : List Rr) (r : Rr) (rest : List Rr) (asks : List AskRef) (ask : AskRef) (vs : List Verdict)
+pub verdicts_proved : (g : StepContext) (set : RrSet) (front : List Rr) (r : Rr) (rest : List Rr) (asks : List AskRef)
+    (ask : AskRef) (vs : List Verdict)
     → VerdictsDone g set front asks vs → AskFits g set r ask → is_proved (asked_verdict g set r ask) ≡ true
     → verdicts_by g set (front ++ r ∷ rest) (asks ++ ask ∷ []) ≡ Some (vs ++ asked_verdict g set r ask ∷ [])
 verdicts_proved g set front r rest asks ask vs done fits proved =

@@ -84,7 +84,8 @@ zone_step records mark sig asked =
 
 -- ---- a key that a Secure DS matches
 
-is_this_digest : (o : Option (List ℕ)) (digest : List ℕ) → option_map_or (λ expected. bytes_eq expected digest) o false ≡ true → o ≡ Some digest
+is_this_digest : (o : Option (List ℕ)) (digest : List ℕ) → option_map_or (λ expected. bytes_eq expected digest) o false ≡ true
+    → o ≡ Some digest
 is_this_digest None digest h = cc
 is_this_digest (Some bytes) digest h = ap Some (bytes_same bytes digest h)
 
@@ -158,7 +159,8 @@ bogus_by_the_third = rw digest_of_key refl
 
 pub secure_by_the_third :
     derivation by_root (within 26) []
-    (root_keys ∷ ds_by_root (other_digest ∷ other_digest ∷ ds_of_key ∷ []) ∷ zone_step self_signed Secure (Some 0) (Step 1 ∷ []) ∷ []) ≡ false
+    (root_keys ∷ ds_by_root (other_digest ∷ other_digest ∷ ds_of_key ∷ []) ∷ zone_step self_signed Secure (Some 0) (Step 1 ∷ []) ∷ [])
+    ≡ false
 unfolding computed
 secure_by_the_third = rw digest_of_key refl
 
@@ -367,7 +369,8 @@ insecure_by_an_unsupported_digest_type = refl
 
 pub insecure_by_an_unsigned_ds :
     derivation by_root (within 26) []
-    (record ds_unsigned { reply = reply_of (record_of zone 43 other_algorithm ∷ []) [] } ∷ zone_step self_signed Insecure None (Step 0 ∷ []) ∷ [])
+    (record ds_unsigned { reply = reply_of (record_of zone 43 other_algorithm ∷ []) [] } ∷ zone_step self_signed Insecure
+    None (Step 0 ∷ []) ∷ [])
     ≡ false
 unfolding computed
 insecure_by_an_unsigned_ds = refl

@@ -111,7 +111,10 @@ absent_by_one_covering = refl
 -- nothing is said at all, and the root's zone is signed
 pub bogus_without_denials :
     derivation by_root (within 26) []
-    (plain missing no_records ∷ record (denied_step (query_of missing 1) (told_of 3 [] []) [] (Denied Bogus)) { excuse = Step 0 ∷ [] } ∷ []) ≡ true
+    (plain missing no_records ∷ record (denied_step (query_of missing 1) (told_of 3 [] []) [] (Denied Bogus)) {
+      excuse =
+          Step 0 ∷ [];
+    } ∷ []) ≡ true
 unfolding computed
 bogus_without_denials = refl
 
@@ -120,7 +123,8 @@ bogus_without_denials = refl
 -- beside those of the root one of `example.`, whose keys are anchored too
 abbrev pub two_signers : EndingValue → List AskedValue
 two_signers ending =
-    keys_found ∷ keys_found ∷ step_of 1 (key_question 1 zone) (reply_of zone_keys []) (zone_entry 48 Secure None [] ∷ []) (Answered denial.None)
+    keys_found ∷ keys_found ∷ step_of 1 (key_question 1 zone) (reply_of zone_keys []) (zone_entry 48 Secure None [] ∷ [])
+    (Answered denial.None)
     ∷ denied_step (query_of missing 1) (told_of 3 [] (nsec_of_root ++ nsec_of_a ++ signed_record zone 47 (wire zone ++ with_soa) 1 zone))
     (denying [] 47 0 ∷ denying name_of_a 47 1 ∷ denying zone 47 2 ∷ []) ending ∷ []
 
@@ -270,7 +274,8 @@ absent_by_both_kinds = refl
 -- one that was asked for stands in the answer section, and denies nothing
 pub nsec3_as_the_answer :
     derivation by_root (within 26) []
-    (after_one (denied_step (query_of zone 50) (told_of 0 (signed_record zone 50 [] 1 []) []) (answering zone 50 0 ∷ []) (Answered denial.None)))
+    (after_one (denied_step (query_of zone 50) (told_of 0 (signed_record zone 50 [] 1 []) []) (answering zone 50 0 ∷ [])
+    (Answered denial.None)))
     ≡ true
 unfolding computed
 nsec3_as_the_answer = refl

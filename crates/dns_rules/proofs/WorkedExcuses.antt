@@ -24,7 +24,8 @@ expanded = address ∷ record_of host 46 (signature_of 1 1 zone) ∷ []
 
 -- the zone's keys, which the signature asks for: Insecure by the DS set
 abbrev pub keys_insecure : AskedValue
-keys_insecure = step_of 1 (key_question 1 zone) (reply_of zone_keys []) (zone_entry 48 Insecure None (Step 1 ∷ []) ∷ []) (Answered denial.None)
+keys_insecure = step_of 1 (key_question 1 zone) (reply_of zone_keys []) (zone_entry 48 Insecure None (Step 1 ∷ []) ∷ [])
+    (Answered denial.None)
 
 -- what that signature asks
 abbrev pub asked_by_the_signature : List AskedValue
@@ -90,7 +91,8 @@ answered_without_a_search = refl
 
 pub excuse_of_a_plain_answer :
     derivation by_root (within 26) []
-    (asked_by_the_signature ++ asked_by_the_ending ++ signed_step unexpanded (Answered denial.None) (Step 3 ∷ Step 4 ∷ Step 6 ∷ []) ∷ []) ≡ false
+    (asked_by_the_signature ++ asked_by_the_ending ++ signed_step unexpanded (Answered denial.None) (Step 3 ∷ Step 4 ∷ Step 6 ∷ []) ∷ [])
+    ≡ false
 unfolding computed
 excuse_of_a_plain_answer = refl
 
@@ -98,7 +100,8 @@ excuse_of_a_plain_answer = refl
 
 abbrev pub expanded_ds : List AskRef → AskedValue
 expanded_ds excuse =
-    record (step_of 0 (ds_question 1 host) (reply_of (record_of host 43 other_algorithm ∷ record_of host 46 (signature_of 43 1 zone) ∷ []) [])
+    record (step_of 0 (ds_question 1 host)
+    (reply_of (record_of host 43 other_algorithm ∷ record_of host 46 (signature_of 43 1 zone) ∷ []) [])
     (record (host_entry Insecure (Some 0) (Step 2 ∷ [])) { rtype = 43 } ∷ []) (Answered denial.None)) { excuse = excuse }
 
 pub ds_excused_from_its_parent :

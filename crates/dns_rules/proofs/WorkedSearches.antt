@@ -133,7 +133,8 @@ seen_in_the_authority_section = refl
 
 pub seen_of_another_class :
     derivation by_root (within 26) []
-    (searched host_seen (plain zone (reply_of [] (record (record_of zone 2 name_a) { class = 3 } ∷ []))) (unsigned_step Insecure whole_search))
+    (searched host_seen (plain zone (reply_of [] (record (record_of zone 2 name_a) { class = 3 } ∷ [])))
+    (unsigned_step Insecure whole_search))
     ≡ true
 unfolding computed
 seen_of_another_class = refl
@@ -169,7 +170,8 @@ ds_asked_without_ns = refl
 
 pub goes_on_where_ns_are :
     derivation by_root (within 26) []
-    (plain host (reply_of (record_of host 2 name_a ∷ []) []) ∷ zone_seen ∷ root_keys ∷ ds_unsupported (Step 2 ∷ []) ∷ unsigned_step Insecure whole_search ∷ [])
+    (plain host (reply_of (record_of host 2 name_a ∷ []) []) ∷ zone_seen ∷ root_keys ∷ ds_unsupported
+    (Step 2 ∷ []) ∷ unsigned_step Insecure whole_search ∷ [])
     ≡ false
 unfolding computed
 goes_on_where_ns_are = refl
@@ -240,7 +242,8 @@ plain_ask_of_another_class = refl
 
 pub ds_asked_without_judging :
     derivation by_root (within 26) []
-    (host_seen ∷ zone_seen ∷ record (plain zone no_records) { depth = 1; query = ds_question 1 zone } ∷ unsigned_step Bogus (Step 0 ∷ Step 1 ∷ Step 2 ∷ [])
+    (host_seen ∷ zone_seen ∷ record (plain zone no_records) { depth = 1; query = ds_question 1 zone } ∷ unsigned_step Bogus
+    (Step 0 ∷ Step 1 ∷ Step 2 ∷ [])
     ∷ []) ≡ false
 unfolding computed
 ds_asked_without_judging = refl

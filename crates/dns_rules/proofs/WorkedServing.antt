@@ -52,7 +52,12 @@ kept q found links =
 -- it was found Bogus
 abbrev pub kept_bogus : EntryValue
 kept_bogus =
-    record { key = key_of ns_question ns_set; expires = 2000; found = Err (record { proof = Bogus; kind = RrsigsUnverified [] 2 }); chain = None }
+    record {
+      key = key_of ns_question ns_set;
+      expires = 2000;
+      found = Err (record { proof = Bogus; kind = RrsigsUnverified [] 2 });
+      chain = None;
+    }
 
 abbrev pub kept_secure : EntryValue
 kept_secure = kept ns_question (secure_by (Some 0)) ns_links

@@ -47,11 +47,13 @@ unfolding good_computed judged_keys keys_outcome first_signed
 keys_computed = judged_keys
 
 outcome_computed : Limits → Question → Told → List MarkedSet → Outcome
-unfolding outcome_of answered least nsec3_verdict nsec3_in nsec_in is_bitmap bitmap_has windows_in window_in nsec_verdict covering closest_encloser common_ancestor name_in labels_in label_in
+unfolding outcome_of answered least nsec3_verdict nsec3_in nsec_in is_bitmap bitmap_has windows_in window_in nsec_verdict
+    covering closest_encloser common_ancestor name_in labels_in label_in
 outcome_computed = outcome_of
 
 step_computed : Judge → Limits → List EntryValue → List AskedValue → AskedValue → Bool
-unfolding keys_computed ds_in zone_verdict shows_insecure_delegation step_holds entries_hold entry_holds search_by unsigned_by verdicts_by verdict_of judged_by first_two outcome_computed sets_of leaders
+unfolding keys_computed ds_in zone_verdict shows_insecure_delegation step_holds entries_hold entry_holds search_by unsigned_by
+    verdicts_by verdict_of judged_by first_two outcome_computed sets_of leaders
 step_computed = step_holds
 
 unfoldable pub computed : Judge → Limits → List EntryValue → List AskedValue → Bool

@@ -109,7 +109,8 @@ unmarked_above_the_zone = refl
 abbrev pub ds : List ℕ → Proof → MarkedSet
 ds rdata mark = set_of_one Answer zone 43 rdata mark
 
-pub signed_by_its_ds : verdict_computed (Some (ds ds_of_key Secure ∷ nsec Authority zone with_ns Secure ∷ [])) ≡ Signed (record_of zone 43 ds_of_key ∷ [])
+pub signed_by_its_ds : verdict_computed (Some (ds ds_of_key Secure ∷ nsec Authority zone with_ns Secure ∷ []))
+    ≡ Signed (record_of zone 43 ds_of_key ∷ [])
 unfolding verdict_computed
 signed_by_its_ds = refl
 
@@ -121,7 +122,8 @@ pub unsupported_ds : verdict_computed (Some (ds other_algorithm Secure ∷ [])) 
 unfolding verdict_computed
 unsupported_ds = refl
 
-pub unreadable_ds : verdict_computed (Some (ds (1 ∷ []) Secure ∷ nsec Authority zone with_ns Secure ∷ [])) ≡ Unshown (DsRecordShouldExist zone)
+pub unreadable_ds : verdict_computed (Some (ds (1 ∷ []) Secure ∷ nsec Authority zone with_ns Secure ∷ []))
+    ≡ Unshown (DsRecordShouldExist zone)
 unfolding verdict_computed
 unreadable_ds = refl
 

@@ -68,7 +68,8 @@ pub none_below : (zone : Zone) (set other : SetKey) → is_zone zone ≡ true �
     → zone_ends_at zone set.owner ≡ true → strictly_above set.owner other.owner ≡ false
 none_below zone set other h m k ends =
     let f = fits zone set h m in
-    not-true (strictly_above set.owner other.owner) (k.all (λ o. not (strictly_above set.owner o.owner)) (after_not (zone_ends_at zone set.owner) _ ends f.below))
+    not-true (strictly_above set.owner other.owner)
+    (k.all (λ o. not (strictly_above set.owner o.owner)) (after_not (zone_ends_at zone set.owner) _ ends f.below))
 
 -- SOA is at the apex alone
 pub soa_at_apex : (zone : Zone) (name : Labels) → is_zone zone ≡ true → has_set zone name type_soa ≡ true → name_eq name zone.apex ≡ true
@@ -77,7 +78,8 @@ soa_at_apex zone name h soa =
     let k = picked (λ set. name_eq set.owner name && (set.rtype == type_soa)) zone.sets soa in
     let parts = and_parts (name_eq k.it.owner name) (k.it.rtype == type_soa) k.passes in
     let f = fits zone k.it h k.member in
-    sym (name_equiv.congr k.it.owner name zone.apex parts.0) ∙ after_not (k.it.rtype == type_soa) (name_eq k.it.owner zone.apex) parts.1 f.soa
+    sym (name_equiv.congr k.it.owner name zone.apex parts.0)
+    ∙ after_not (k.it.rtype == type_soa) (name_eq k.it.owner zone.apex) parts.1 f.soa
 
 -- ---- the owners on either side of a name that a true record spans
 
@@ -89,27 +91,35 @@ pub spans_after : (name : Labels) (nsec : OwnedNsec) → spans name nsec ≡ tru
 spans_after name nsec h = lt_from (name_cmp nsec.owner name) ((and_parts (before nsec.owner name) _ h).0)
 
 -- where the next name comes after the owner, the name spanned comes before it
-spans_before : (name : Labels) (nsec : OwnedNsec) → spans name nsec ≡ true → name_cmp nsec.owner nsec.fields.next ≡ Less → name_cmp name nsec.fields.next ≡ Less
-spans_before name nsec h lt = by (or_cases (before name nsec.fields.next) (leads_back nsec && at_or_above nsec.fields.next name) ((and_parts (before nsec.owner name) _ h).1))
+spans_before : (name : Labels) (nsec : OwnedNsec) → spans name nsec ≡ true → name_cmp nsec.owner nsec.fields.next ≡ Less
+    → name_cmp name nsec.fields.next ≡ Less
+spans_before name nsec h lt = by (or_cases (before name nsec.fields.next) (leads_back nsec
+    && at_or_above nsec.fields.next name) ((and_parts (before nsec.owner name) _ h).1))
   where
-    by : (before name nsec.fields.next ≡ true) ⊎ ((leads_back nsec && at_or_above nsec.fields.next name) ≡ true) → name_cmp name nsec.fields.next ≡ Less
+    by : (before name nsec.fields.next ≡ true) ⊎ ((leads_back nsec && at_or_above nsec.fields.next name) ≡ true)
+        → name_cmp name nsec.fields.next ≡ Less
     by (inl first) = lt_from (name_cmp name nsec.fields.next) first
-    by (inr back) = absurd (not_both nsec.owner nsec.fields.next lt (and_parts (leads_back nsec) (at_or_above nsec.fields.next name) back).0)
+    by (inr back) = absurd (not_both nsec.owner nsec.fields.next lt
+        (and_parts (leads_back nsec) (at_or_above nsec.fields.next name) back).0)
 
 sided_in_row : (zone : Zone) (nsec : OwnedNsec) (name : Labels) (set : SetKey) (b : Bool) → is_lt (name_cmp nsec.owner set.owner) ≡ b
-    → name_cmp name nsec.fields.next ≡ Less → none_between zone nsec.owner nsec.fields.next ≡ true → IsMember set zone.sets → Side nsec name set.owner
+    → name_cmp name nsec.fields.next ≡ Less → none_between zone nsec.owner nsec.fields.next ≡ true → IsMember set zone.sets
+    → Side nsec name set.owner
 unfolding none_between
 sided_in_row zone nsec name set false e lt none m = AtOrBefore (le_from_not_lt nsec.owner set.owner e)
 sided_in_row zone nsec name set true e lt none m =
     let apart = m.all (λ s. not (is_lt (name_cmp nsec.owner s.owner) && is_lt (name_cmp s.owner nsec.fields.next))) none in
-    After lt (le_from_not_lt set.owner nsec.fields.next (not_and (is_lt (name_cmp nsec.owner set.owner)) (is_lt (name_cmp set.owner nsec.fields.next)) apart e))
+    After lt (le_from_not_lt set.owner nsec.fields.next
+    (not_and (is_lt (name_cmp nsec.owner set.owner)) (is_lt (name_cmp set.owner nsec.fields.next)) apart e))
 
 sided_by : (zone : Zone) (nsec : OwnedNsec) (name : Labels) (set : SetKey) (b : Bool) → is_last zone nsec.owner ≡ b
-    → cond b (name_eq nsec.fields.next zone.apex) (is_owner zone nsec.fields.next && (is_lt (name_cmp nsec.owner nsec.fields.next) && none_between zone nsec.owner nsec.fields.next)) ≡ true
+    → cond b (name_eq nsec.fields.next zone.apex) (is_owner zone nsec.fields.next
+    && (is_lt (name_cmp nsec.owner nsec.fields.next) && none_between zone nsec.owner nsec.fields.next)) ≡ true
     → spans name nsec ≡ true → IsMember set zone.sets → Side nsec name set.owner
 unfolding is_last
 sided_by zone nsec name set true e next spanned m =
-    AtOrBefore (le_from_not_lt nsec.owner set.owner (not-true (is_lt (name_cmp nsec.owner set.owner)) (m.all (λ s. not (is_lt (name_cmp nsec.owner s.owner))) e)))
+    AtOrBefore (le_from_not_lt nsec.owner set.owner
+    (not-true (is_lt (name_cmp nsec.owner set.owner)) (m.all (λ s. not (is_lt (name_cmp nsec.owner s.owner))) e)))
 sided_by zone nsec name set false e next spanned m =
     let one = and_parts (is_owner zone nsec.fields.next) _ next in
     let two = and_parts (is_lt (name_cmp nsec.owner nsec.fields.next)) (none_between zone nsec.owner nsec.fields.next) one.1 in
@@ -117,13 +127,15 @@ sided_by zone nsec name set false e next spanned m =
     sided_in_row zone nsec name set (is_lt (name_cmp nsec.owner set.owner)) refl lt two.1 m
 
 -- an owner is at or before the record's owner, or at or after its next name, and that comes after the name spanned
-pub sided : (zone : Zone) (nsec : OwnedNsec) (name : Labels) (set : SetKey) → IsTrueNsec zone nsec → spans name nsec ≡ true → IsMember set zone.sets
+pub sided : (zone : Zone) (nsec : OwnedNsec) (name : Labels) (set : SetKey) → IsTrueNsec zone nsec → spans name nsec ≡ true
+    → IsMember set zone.sets
     → Side nsec name set.owner
 unfolding is_next
 sided zone nsec name set t spanned m = sided_by zone nsec name set (is_last zone nsec.owner) refl t.next spanned m
 
 -- a name that a true record spans is no owner
-pub spans_no_owner : (zone : Zone) (nsec : OwnedNsec) (name : Labels) → IsTrueNsec zone nsec → spans name nsec ≡ true → is_owner zone name ≡ false
+pub spans_no_owner : (zone : Zone) (nsec : OwnedNsec) (name : Labels) → IsTrueNsec zone nsec → spans name nsec ≡ true
+    → is_owner zone name ≡ false
 unfolding is_owner
 spans_no_owner zone nsec name t spanned = false_from_ne_true _ (λ h.
     let k = picked (λ set. name_eq set.owner name) zone.sets h in
@@ -133,14 +145,16 @@ spans_no_owner zone nsec name t spanned = false_from_ne_true _ (λ h.
     apart owner same (AtOrBefore le) =
         not_both nsec.owner name (spans_after name nsec spanned)
         (le_trans name owner nsec.owner (le_if_alike name owner (name_equiv.symm name owner ∙ same)) le)
-    apart owner same (After lt le) = not_both name nsec.fields.next lt (le_trans nsec.fields.next owner name le (le_if_alike owner name same))
+    apart owner same (After lt le) =
+        not_both name nsec.fields.next lt (le_trans nsec.fields.next owner name le (le_if_alike owner name same))
 
 -- the next name is an owner
 pub next_is_owner : (zone : Zone) (nsec : OwnedNsec) → is_zone zone ≡ true → IsTrueNsec zone nsec → is_owner zone nsec.fields.next ≡ true
 unfolding is_next
 next_is_owner zone nsec h t = by (is_last zone nsec.owner) t.next
   where
-    by : (b : Bool) → cond b (name_eq nsec.fields.next zone.apex) (is_owner zone nsec.fields.next && (is_lt (name_cmp nsec.owner nsec.fields.next) && none_between zone nsec.owner nsec.fields.next)) ≡ true
+    by : (b : Bool) → cond b (name_eq nsec.fields.next zone.apex) (is_owner zone nsec.fields.next
+        && (is_lt (name_cmp nsec.owner nsec.fields.next) && none_between zone nsec.owner nsec.fields.next)) ≡ true
         → is_owner zone nsec.fields.next ≡ true
     by true same = is_owner_alike zone nsec.fields.next zone.apex same ∙ apex_is_owner zone h
     by false next = (and_parts (is_owner zone nsec.fields.next) _ next).0

@@ -1,3 +1,4 @@
+-- Definitions of how sets, answers and denials are judged.
 pub mod ListedTypes
 pub mod Covering
 pub mod NsecVerdict

@@ -2,11 +2,11 @@
 use Rattle.std.specs.Prelude.{Bool, true, false, not, ◌==◌, ◌&&◌, nat_le, Option, if◌then◌else◌}
 use Rattle.std.specs.Option.{option_map_or}
 use Rattle.dns_model.specs.Names.{name_eq, at_or_above, num_labels}
-use Rattle.dns_model.specs.Views.{RrsigValue, DnskeyValue, is_zone_key}
+use Rattle.dns_model.specs.Views.{RrsigValue, DnskeyValue, is_zone_key, is_revoked}
 use Rattle.dns_model.specs.Records.{Rr, RrSet}
 use Rattle.dns_model.specs.RecordViews.{rrsig_of, dnskey_of}
 use Rattle.dns_model.specs.Signing.{signed_bytes, key_tag_of}
-use Rattle.dns_model.specs.Keys.{usable_key}
+use Rattle.dns_model.specs.Keys.{VerifierAnswers, usable_key}
 use Rattle.dns_model.specs.Chains.{Judge, rdatas_of}
 
 -- whether a signature fits a set, a key and a moment
@@ -52,18 +52,38 @@ abbrev pub is_valid : Validity → Bool
 is_valid ValidRrsig = true
 is_valid _ = false
 
--- the key may sign, and the verifier accepts its signature
-abbrev pub is_accepted : Judge → RrSet → Option RrsigValue → Option DnskeyValue → Bool
-is_accepted j set read key =
+-- the key may sign by a test of keys, and the verifier accepts its signature
+abbrev pub is_accepted_where : (DnskeyValue → Bool) → Judge → RrSet → Option RrsigValue → Option DnskeyValue → Bool
+is_accepted_where may_sign j set read key =
     option_map_or
     (λ sig.
     option_map_or
     (λ text.
-    usable_key j.answers text
+    may_sign text
     && j.answers.accepts sig.algorithm text.key (signed_bytes set.owner set.rtype set.class (rdatas_of set.records) sig) sig.signature)
     key false)
     read false
 
--- the signature (second) of a set is good by a key (third): it fits and is accepted
+abbrev pub is_accepted : Judge → RrSet → Option RrsigValue → Option DnskeyValue → Bool
+is_accepted j = is_accepted_where (usable_key j.answers) j
+
+-- the signature (second) of a set fits a key (third) that may sign by a test of keys, and is accepted
+abbrev pub is_good_where : (DnskeyValue → Bool) → Judge → RrSet → Rr → Rr → Bool
+is_good_where may_sign j set r key =
+    is_valid (validity j.is_timely set r key) && is_accepted_where may_sign j set (rrsig_of r) (dnskey_of key)
+
+-- it is good by the key: that may sign records
 unfoldable pub is_good_by : Judge → RrSet → Rr → Rr → Bool
-is_good_by j set r key = is_valid (validity j.is_timely set r key) && is_accepted j set (rrsig_of r) (dnskey_of key)
+is_good_by j = is_good_where (usable_key j.answers) j
+
+-- a key that may sign records but for the flag REVOKE: a zone's key that may with no other flag (RFC 5011, 2.1)
+abbrev pub usable_but_for_revoke : VerifierAnswers → DnskeyValue → Bool
+usable_but_for_revoke answers key = is_zone_key key && usable_key answers (record key { flags = 0x0100 })
+
+-- it is good by the key but for that flag, with which a key signs that it is revoked
+unfoldable pub is_good_but_for_revoke : Judge → RrSet → Rr → Rr → Bool
+is_good_but_for_revoke j = is_good_where (usable_but_for_revoke j.answers) j
+
+-- the key doesn't say that it is revoked
+abbrev pub is_unrevoked : Option DnskeyValue → Bool
+is_unrevoked key = option_map_or (λ text. not (is_revoked text)) key true

@@ -6,3 +6,4 @@ pub mod CompletingLemmas
 pub mod TaskLemmas
 pub mod BenchLemmas
 pub mod AskLemmas
+pub mod RunLemmas

@@ -28,7 +28,8 @@ use Rattle.dns_run.specs.declared.task.Task.{Task}
 use Rattle.dns_run.specs.declared.task.Task.TheVariants.{Audit, Questions}
 use Rattle.dns_session_lookup.specs.Causes.{AnswersSession}
 use Rattle.dns_run.specs.Outcomes.{Fails, Leaves, Wrote, WrotePrefix}
-use Rattle.dns_session_lookup.specs.Soundness.{listing}
+use Rattle.dns_session_lookup.specs.Verifying.{listing}
+use Rattle.dns_session_lookup.specs.declared.verification.Verification.TheVariants.{ByList}
 use Rattle.dns_run.specs.Tasks.{AuditEnds, QuestionsEnd, AnswersQuestions, Listed, Failed, question_judge, denied_trail, TaskEnds, TaskTells, Ended, TooLong, Nothing, EndsTask}
 
 -- ---- what bytes come to, written
@@ -93,7 +94,7 @@ audit_form (Ok read) text ends = less_differs 0 2 (omega arith) (sym ends.done)
 audit_form (Err number) text ends = less_differs 2 3 (omega arith) ends.refused
 
 questions_fault : (bytes : List ℕ) (read : Result SessionValue ℕ) (text : List ℕ) → session_of bytes ≡ read
-    → QuestionsEnd read 1 text → Fails bytes text
+    → QuestionsEnd read 1 text → Fails ByList bytes text
 questions_fault bytes (Ok s) text is (Listed done lists) = absurd (less_differs 0 1 (omega arith) (sym done))
 questions_fault bytes (Ok s) text is (Failed done bare) = record { session = s; read = is; fault = bare.fault }
 questions_fault bytes (Err number) text is ends = absurd (less_differs 1 3 (omega arith) ends.refused)
@@ -103,7 +104,7 @@ questions_form (Ok s) text (Listed done lists) = less_differs 0 2 (omega arith) 
 questions_form (Ok s) text (Failed done bare) = less_differs 1 2 (omega arith) (sym done)
 questions_form (Err number) text ends = less_differs 2 3 (omega arith) ends.refused
 
-ends_fault : (task : Task) (bytes text : List ℕ) → TaskEnds task bytes 1 text → Fails bytes text
+ends_fault : (task : Task) (bytes text : List ℕ) → TaskEnds task bytes 1 text → Fails ByList bytes text
 ends_fault Audit bytes text ends = absurd (audit_fault (audit_of bytes) text ends)
 ends_fault Questions bytes text ends = questions_fault bytes (session_of bytes) text refl ends
 
@@ -112,12 +113,12 @@ ends_form Audit bytes text ends = audit_form (audit_of bytes) text ends
 ends_form Questions bytes text ends = questions_form (session_of bytes) text ends
 
 wrote_fault : (task : Task) (bytes : List ℕ) (before now : Option (List ℕ)) → Wrote before now (TaskEnds task bytes 1)
-    → Wrote before now (Fails bytes)
+    → Wrote before now (Fails ByList bytes)
 wrote_fault task bytes before now wrote =
     record { text = wrote.text; fact = ends_fault task bytes wrote.text wrote.fact; written = wrote.written }
 
 leaves_fault : (task : Task) (told before now : Option (List ℕ))
-    → OfInput told (λ bytes. Wrote before now (TaskEnds task bytes 1)) → Leaves Fails told before now
+    → OfInput told (λ bytes. Wrote before now (TaskEnds task bytes 1)) → Leaves (Fails ByList) told before now
 leaves_fault task None before now some =
     record { bytes = some.bytes; fact = wrote_fault task some.bytes before now some.fact }
 leaves_fault task (Some bytes) before now wrote = wrote_fault task bytes before now wrote
@@ -129,7 +130,7 @@ leaves_form task (Some bytes) before now wrote = ends_form task bytes wrote.text
 
 -- 1 is answered only with the line of a session's error
 pub task_faults : (task : Task) (status : ℕ) (told before now : Option (List ℕ)) → EndsTask task status told before now
-    → status ≡ 1 → Leaves Fails told before now
+    → status ≡ 1 → Leaves (Fails ByList) told before now
 task_faults task status told before now ends is =
     leaves_fault task told before now
     (subst (λ n. OfInput told (λ bytes. Wrote before now (TaskEnds task bytes n))) is (ends.ends (omega (arith, is))))
@@ -152,7 +153,7 @@ judged_alike s listed moment trail lists at =
     ∙ ap (λ n. questions_text (questions (judge (answers_of (listing s.algorithms [])) [] n) trail)) at
 
 pub answer_listed : (s : SessionValue) (answer : ResponseValue) (listed : ListedValue) (moment : ℕ) (text : List ℕ)
-    → AnswersSession s (Ok answer) → answers_of listed ≡ answers_of (listing s.algorithms []) → moment ≡ s.moment
+    → AnswersSession ByList s (Ok answer) → answers_of listed ≡ answers_of (listing s.algorithms []) → moment ≡ s.moment
     → text ≡ questions_text (questions (judge (answers_of listed) [] moment) answer.trail) → AnswersQuestions s 0 text
 answer_listed s answer listed moment text given lists at is =
     Listed refl (record {
@@ -191,12 +192,12 @@ denial_of seen.NoMemory trail h = cc
 
 denial_given : (s : SessionValue) (error : ErrorValue) (trail : List AskedValue) (listed : ListedValue) (moment : ℕ)
     (text : List ℕ)
-    → IsDenial error trail → AnswersSession s (Err error) → answers_of listed ≡ answers_of (listing s.algorithms [])
+    → IsDenial error trail → AnswersSession ByList s (Err error) → answers_of listed ≡ answers_of (listing s.algorithms [])
     → moment ≡ s.moment → text ≡ questions_text (questions (judge (answers_of listed) [] moment) trail)
     → AnswersQuestions s 0 text
 denial_given s error trail listed moment text d given lists at is =
-    let own : AnswersSession s (Err (Dns (Nsec d.asked d.response d.proof))) =
-    subst (λ e. AnswersSession s (Err e)) d.is given in
+    let own : AnswersSession ByList s (Err (Dns (Nsec d.asked d.response d.proof))) =
+    subst (λ e. AnswersSession ByList s (Err e)) d.is given in
     Listed refl (record {
       trail = d.response.trail;
       ending = Denied d.proof;
@@ -212,7 +213,7 @@ no_trail error trail is has = let none : denied_trail seen.NoMemory ≡ Some tra
 -- the questions of a denial
 pub denial_listed : (s : SessionValue) (error : NetError) (trail : List AskedValue) (listed : ListedValue) (moment : ℕ)
     (text : List ℕ)
-    → denied_trail (error_of error) ≡ Some trail → (error ≡ NoMemory) ⊎ AnswersSession s (Err (error_of error))
+    → denied_trail (error_of error) ≡ Some trail → (error ≡ NoMemory) ⊎ AnswersSession ByList s (Err (error_of error))
     → answers_of listed ≡ answers_of (listing s.algorithms []) → moment ≡ s.moment
     → text ≡ questions_text (questions (judge (answers_of listed) [] moment) trail) → AnswersQuestions s 0 text
 denial_listed s error trail listed moment text has (inl memory) lists at is =
@@ -223,7 +224,7 @@ denial_listed s error trail listed moment text has (inr given) lists at is =
 -- the line of another error
 pub bare_fault : (s : SessionValue) (error : NetError) (told : Bool) (text : List ℕ)
     → told ≡ is_no_memory (error_of error) → told ≡ false → denied_trail (error_of error) ≡ None
-    → (error ≡ NoMemory) ⊎ AnswersSession s (Err (error_of error)) → text ≡ fault_text (error_of error)
+    → (error ≡ NoMemory) ⊎ AnswersSession ByList s (Err (error_of error)) → text ≡ fault_text (error_of error)
     → AnswersQuestions s 1 text
 bare_fault s error told text tests untold none (inl memory) is =
     absurd (untold_no_memory error told tests untold (ap error_of memory))

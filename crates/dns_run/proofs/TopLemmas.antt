@@ -13,6 +13,7 @@ use Rattle.dns_handle.specs.Handles.{reply_to}
 use Rattle.dns_validation.specs.Received.{heard_from, says_none}
 use Rattle.dns_lookup.specs.LookupParts.{heard_told}
 use Rattle.dns_lookup.specs.Sends.{IsFromReplies}
+use Rattle.dns_session_lookup.specs.declared.verification.Verification.{Verification}
 use Rattle.dns_session.specs.SessionValue.{SessionValue}
 use Rattle.dns_session_lookup.specs.Replies.{recorded, session_told, session_records}
 use Rattle.dns_session_lookup.specs.Soundness.{session_judge}
@@ -23,7 +24,7 @@ pub some_same : {X : Type 0} (o : Option X) (a b : X) → o ≡ Some a → o ≡
 some_same o a b x y = cc
 
 -- the last step is a judged one that heard the session's reply to its query, and it follows from the steps before it
-record IsTop (s : SessionValue) (trail : List AskedValue) (ending : EndingValue) : Type 0 where
+record IsTop (how : Verification) (s : SessionValue) (trail : List AskedValue) (ending : EndingValue) : Type 0 where
   pub step : AskedValue
   pub before : StepContext
   pub query : step.query ≡ s.query
@@ -32,32 +33,32 @@ record IsTop (s : SessionValue) (trail : List AskedValue) (ending : EndingValue)
   pub heard : step.reply ≡ heard_told (says_none (session_told s)) (session_records s)
   pub holds : step_holds_by before step step.reply ≡ true
 
-top_heard : (s : SessionValue) (trail : List AskedValue) (ending : EndingValue) (is : IsSessionTrail s trail ending)
+top_heard : (how : Verification) (s : SessionValue) (trail : List AskedValue) (ending : EndingValue) (is : IsSessionTrail how s trail ending)
     (f : TopFirst trail)
     → is.top.reply ≡ heard_told (says_none (session_told s)) (session_records s)
-top_heard s trail ending is f =
+top_heard how s trail ending is f =
     let same : is.top ≡ f.top = some_same _ is.top f.top is.last f.last in
     let from = subst (λ steps. IsFromReplies (session_replies s) steps) f.first is.from in
     ap (λ step. step.reply) same ∙ from.0
     ∙ ap (λ q. heard_from (reply_to (map recorded s.replies) q)) (ap (λ step. step.query) (sym same) ∙ is.query)
     ∙ ap heard_from (session_replied s)
 
-is_top : (s : SessionValue) (trail : List AskedValue) (ending : EndingValue) → IsSessionTrail s trail ending
-    → IsTop s trail ending
+is_top : (how : Verification) (s : SessionValue) (trail : List AskedValue) (ending : EndingValue) → IsSessionTrail how s trail ending
+    → IsTop how s trail ending
 unfolding step_holds
-is_top s trail ending is =
-    let f : TopFirst trail = derivation_first (session_judge s) (session_limits s) [] trail is.derived in
-    let d : Derived (session_judge s) (session_limits s) [] trail =
-    derivation_parts (session_judge s) (session_limits s) [] trail is.derived in
+is_top how s trail ending is =
+    let f : TopFirst trail = derivation_first (session_judge how s) (session_limits s) [] trail is.derived in
+    let d : Derived (session_judge how s) (session_limits s) [] trail =
+    derivation_parts (session_judge how s) (session_limits s) [] trail is.derived in
     let limits = effective (session_limits s) in
     record {
       step = is.top;
-      before = step_context_of (session_judge s) limits [] ([] ++ take (length trail - 1) trail) is.top;
+      before = step_context_of (session_judge how s) limits [] ([] ++ take (length trail - 1) trail) is.top;
       query = is.query;
       ends = is.ends;
       judged = ap (λ step. step.judged) (some_same _ is.top f.top is.last f.last) ∙ f.judged;
-      heard = top_heard s trail ending is f;
-      holds = steps_hold_at (session_judge s) limits [] [] trail (length trail - 1) is.top d.hold is.last;
+      heard = top_heard how s trail ending is f;
+      holds = steps_hold_at (session_judge how s) limits [] [] trail (length trail - 1) is.top d.hold is.last;
     }
 
 -- a judged step with records is judged by them
@@ -76,11 +77,11 @@ foreign_ends g step records o r is holds =
     (and_parts (is_foreign r step.ending) (is_bare step) (ap (judged_holds g step records) (sym is) ∙ holds)).0
 
 -- where the reply has a record of another class, the trail names the first
-pub trail_foreign : (s : SessionValue) (trail : List AskedValue) (ending : EndingValue) (records : Told) (r : Rr)
-    → IsSessionTrail s trail ending
+pub trail_foreign : (how : Verification) (s : SessionValue) (trail : List AskedValue) (ending : EndingValue) (records : Told) (r : Rr)
+    → IsSessionTrail how s trail ending
     → session_records s ≡ Some records → foreign_record s.query records ≡ Some r → is_foreign r ending ≡ true
-trail_foreign s trail ending records r is told found =
-    let t : IsTop s trail ending = is_top s trail ending is in
+trail_foreign how s trail ending records r is told found =
+    let t : IsTop how s trail ending = is_top how s trail ending is in
     ap (is_foreign r) (sym t.ends)
     ∙ foreign_ends t.before t.step records (foreign_record t.step.query records) r
     (ap (λ q. foreign_record q records) t.query ∙ found)

@@ -14,13 +14,22 @@ use Rattle.dns_run.specs.declared.form.Form.{Form}
 use Rattle.dns_run.specs.declared.form.Form.TheVariants.{Validate, Task, Bench, Ask, Help, Version}
 use Rattle.dns_run.specs.declared.task.Task.{Task as TaskKind}
 use Rattle.dns_run.specs.declared.task.Task.TheVariants.{Audit, Questions}
+use Rattle.dns_session_lookup.specs.declared.verification.Verification.{Verification}
+use Rattle.dns_session_lookup.specs.declared.verification.Verification.TheVariants.{ByList, ByArithmetic}
 use Rattle.dns_io.specs.Runs.{Asked, AnInput, NoInput, FixedText}
 
--- how much the report shows, where words ask to answer a session
-abbrev pub shown_by : List (List ℕ) → Option Parts
-shown_by (word ∷ []) = if bytes_eq word (codes "validate") then Some Answer else None
+-- how signatures are verified, by the first word of a call to answer a session
+abbrev pub verified_by : List ℕ → Option Verification
+verified_by word =
+    if bytes_eq word (codes "validate") then Some ByList
+    else if bytes_eq word (codes "verify") then Some ByArithmetic
+    else None
+
+-- the same, with how much the report shows, where words ask to answer a session
+abbrev pub shown_by : List (List ℕ) → Option (Verification × Parts)
+shown_by (word ∷ []) = option_map (λ how. (how, Answer)) (verified_by word)
 shown_by (word ∷ next ∷ []) =
-    if bytes_eq word (codes "validate") && bytes_eq next (codes "trail") then Some WithTrail else None
+    if bytes_eq next (codes "trail") then option_map (λ how. (how, WithTrail)) (verified_by word) else None
 shown_by _ = None
 
 -- what else one word asks for
@@ -49,26 +58,32 @@ protocol_in word =
     if bytes_eq word (codes "udp") then Some Udp else if bytes_eq word (codes "tcp") then Some Tcp else None
 
 -- to ask a server at an address
-abbrev pub ask_form : List ℕ → List ℕ → Option Form
-ask_form how address = do
-  protocol ← protocol_in how
+abbrev pub ask_form : Verification → List ℕ → List ℕ → Option Form
+ask_form how carried address = do
+  protocol ← protocol_in carried
   server ← address_in address
-  Some (Ask protocol server)
+  Some (Ask how protocol server)
 
 -- what three words ask for
 abbrev pub form_of_three : List ℕ → List ℕ → List ℕ → Option Form
-form_of_three word how address = if bytes_eq word (codes "ask") then ask_form how address else None
+form_of_three word carried address = if bytes_eq word (codes "ask") then ask_form ByList carried address else None
+
+-- what four words ask for
+abbrev pub form_of_four : List ℕ → List ℕ → List ℕ → List ℕ → Option Form
+form_of_four word next carried address =
+    if bytes_eq word (codes "ask") && bytes_eq next (codes "verify") then ask_form ByArithmetic carried address else None
 
 -- what words ask for besides the answer to a session
 abbrev pub other_form : List (List ℕ) → Option Form
 other_form (word ∷ []) = form_named word
 other_form (word ∷ next ∷ []) = form_of_two word next
-other_form (word ∷ how ∷ address ∷ []) = form_of_three word how address
+other_form (word ∷ carried ∷ address ∷ []) = form_of_three word carried address
+other_form (word ∷ next ∷ carried ∷ address ∷ []) = form_of_four word next carried address
 other_form _ = None
 
 -- what words ask for
 abbrev pub form_in : List (List ℕ) → Option Form
-form_in words = option_map_or (λ shows. Some (Validate shows)) (shown_by words) (other_form words)
+form_in words = option_map_or (λ asked. Some (Validate asked.0 asked.1)) (shown_by words) (other_form words)
 
 -- nested zones are asked for by a number from 1 to 100
 abbrev pub IsWithin : Option Form → Type 0
@@ -79,9 +94,10 @@ IsWithin _ = Unit {0}
 abbrev pub asked_form : {Z : Type 0} → List (Vec ℕ Z) → Option Form
 asked_form words = form_in (map (λ w. w.items) words)
 
--- a fact of how much the report shows, where the words ask to answer a session
-abbrev pub IfValidates : {Z : Type 0} → List (Vec ℕ Z) → (Parts → Type 0) → Type 0
-IfValidates words Fact = (shows : Parts) → shown_by (map (λ w. w.items) words) ≡ Some shows → Fact shows
+-- a fact of how signatures are verified, and of how much the report shows, where the words ask to answer a session
+abbrev pub IfValidates : {Z : Type 0} → List (Vec ℕ Z) → (Verification → Parts → Type 0) → Type 0
+IfValidates words Fact =
+    (how : Verification) (shows : Parts) → shown_by (map (λ w. w.items) words) ≡ Some (how, shows) → Fact how shows
 
 -- a fact of the task, where the words ask for one
 abbrev pub IfTask : {Z : Type 0} → List (Vec ℕ Z) → (TaskKind → Type 0) → Type 0
@@ -91,13 +107,14 @@ IfTask words Fact = (task : TaskKind) → asked_form words ≡ Some (Task task) 
 abbrev pub IfBench : {Z : Type 0} → List (Vec ℕ Z) → (ℕ → Type 0) → Type 0
 IfBench words Fact = (n : ℕ) → asked_form words ≡ Some (Bench n) → Fact n
 
--- a fact of the server, and of what carries messages to it, where the words ask it
-abbrev pub IfAsks : {Z : Type 0} → List (Vec ℕ Z) → (Protocol → ServerAddress → Type 0) → Type 0
+-- a fact of how signatures are verified, of the server, and of what carries messages to it, where the words ask it
+abbrev pub IfAsks : {Z : Type 0} → List (Vec ℕ Z) → (Verification → Protocol → ServerAddress → Type 0) → Type 0
 IfAsks words Fact =
-    (protocol : Protocol) (server : ServerAddress) → asked_form words ≡ Some (Ask protocol server) → Fact protocol server
+    (how : Verification) (protocol : Protocol) (server : ServerAddress) → asked_form words ≡ Some (Ask how protocol server)
+    → Fact how protocol server
 
 abbrev pub asks_server : Option Form → Bool
-asks_server (Some (Ask protocol server)) = true
+asks_server (Some (Ask how protocol server)) = true
 asks_server _ = false
 
 -- a fact, where the words ask no server
@@ -106,18 +123,27 @@ IfAsksNone words Fact = asks_server (asked_form words) ≡ false → Fact
 
 -- an input to work on, work without one, or else a text that is always the same
 abbrev pub form_asks : Option Form → Asked
-form_asks (Some (Validate shows)) = AnInput
+form_asks (Some (Validate how shows)) = AnInput
 form_asks (Some (Task task)) = AnInput
 form_asks (Some (Bench n)) = NoInput
-form_asks (Some (Ask protocol server)) = AnInput
+form_asks (Some (Ask how protocol server)) = AnInput
 form_asks _ = FixedText
 
 abbrev pub words_ask : {Z : Type 0} → List (Vec ℕ Z) → Asked
 words_ask words = form_asks (asked_form words)
 
+-- how signatures are verified; by the session's list, where the words don't say
+abbrev pub form_verifies : Option Form → Verification
+form_verifies (Some (Validate how shows)) = how
+form_verifies (Some (Ask how protocol server)) = how
+form_verifies _ = ByList
+
+abbrev pub words_verify : {Z : Type 0} → List (Vec ℕ Z) → Verification
+words_verify words = form_verifies (asked_form words)
+
 abbrev pub help_text : List ℕ
 help_text =
-    codes "dns_check validate        reads a session and writes the report of its lookup\ndns_check validate trail  the same, and how the lookup came about, step by step\ndns_check audit           reads a session and a report behind it, and writes which of its parts hold\ndns_check questions       reads a session and writes which signatures a verifier must be asked for\ndns_check bench N         looks a host up below N nested zones, 1 to 100, and writes what that took\ndns_check ask udp ADDRESS reads a session and writes the report of its lookup over a server, as 192.0.2.1:53\ndns_check ask tcp ADDRESS the same over a connection\ndns_check --help          writes these lines\ndns_check --version       writes the name and the version\n"
+    codes "dns_check validate        reads a session and writes the report of its lookup\ndns_check validate trail  the same, and how the lookup came about, step by step\ndns_check verify          as validate, with signatures computed in place of the session's list\ndns_check verify trail    as validate trail, likewise\ndns_check audit           reads a session and a report behind it, and writes which of its parts hold\ndns_check questions       reads a session and writes which signatures a verifier must be asked for\ndns_check bench N         looks a host up below N nested zones, 1 to 100, and writes what that took\ndns_check ask udp ADDRESS reads a session and writes the report of its lookup over a server, as 192.0.2.1:53\ndns_check ask tcp ADDRESS the same over a connection\ndns_check ask verify udp ADDRESS, ask verify tcp ADDRESS  the same, with signatures computed\ndns_check --help          writes these lines\ndns_check --version       writes the name and the version\n"
 
 abbrev pub version_text : List ℕ
 version_text = codes "dns_check 0.1.0\n"

@@ -22,10 +22,10 @@ use Rattle.dns_run.specs.Benches.{WritesBench}
 
 -- how words end that ask for a text, for a lookup below nested zones, or for nothing; status 2 is for the latter alone
 abbrev pub EndsByWords : Option Form → ℕ → Option (List ℕ) → Option (List ℕ) → Type 0
-EndsByWords (Some (Validate shows)) status before now = status ≢ 2
+EndsByWords (Some (Validate how shows)) status before now = status ≢ 2
 EndsByWords (Some (Task task)) status before now = status ≢ 2
 EndsByWords (Some (Bench n)) status before now = WritesBench n status before now
-EndsByWords (Some (Ask protocol server)) status before now = status ≢ 2
+EndsByWords (Some (Ask how protocol server)) status before now = status ≢ 2
 EndsByWords (Some Help) status before now = WritesText status 0 before now help_text
 EndsByWords (Some Version) status before now = WritesText status 0 before now version_text
 EndsByWords None status before now = WritesText status 2 before now bad_words_text

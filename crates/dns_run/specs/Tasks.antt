@@ -13,7 +13,7 @@ use Rattle.dns_session.specs.Grammar.{session_of}
 use Rattle.dns_session.specs.Stops.{bad_line_text}
 use Rattle.dns_audit.specs.ReportValue.{ReportValue}
 use Rattle.dns_audit.specs.ReportGrammar.{audit_of}
-use Rattle.dns_audit_text.specs.AuditText.{audit_text}
+use Rattle.dns_audit.specs.AuditText.{audit_text}
 use Rattle.dns_questions.specs.Questions.{questions}
 use Rattle.dns_questions.specs.QuestionsText.{questions_text}
 use Rattle.dns_io.specs.Reading.{input_limit, too_long_text, OfInput}
@@ -22,7 +22,9 @@ use Rattle.dns_run.specs.declared.task.Task.TheVariants.{Audit, Questions}
 use Rattle.dns_session_lookup.specs.Answering.{session_limits, IsSessionTrail}
 use Rattle.dns_session_lookup.specs.Causes.{AnswersSession}
 use Rattle.dns_run.specs.Outcomes.{IsFault, Leaves, WrotePrefix}
-use Rattle.dns_session_lookup.specs.Soundness.{listing, session_judge}
+use Rattle.dns_session_lookup.specs.Soundness.{session_judge}
+use Rattle.dns_session_lookup.specs.Verifying.{listing}
+use Rattle.dns_session_lookup.specs.declared.verification.Verification.TheVariants.{ByList}
 
 -- ---- what an input comes to: a status and a text
 
@@ -35,7 +37,7 @@ pub record NamesLine (number status : ℕ) (text : List ℕ) : Type 0 where
 -- what a session trusts and accepts, at its moment, within its limits, and with no entry of a cache from before
 pub record AnswersAudit (s : SessionValue) (report : ReportValue) (status : ℕ) (text : List ℕ) : Type 0 where
   pub done : status ≡ 0
-  pub spelled : text ≡ audit_text (session_judge s) (session_limits s) report
+  pub spelled : text ≡ audit_text (session_judge ByList s) (session_limits s) report
 
 -- an audit: lines are counted from the session's first
 abbrev pub AuditEnds : Result (SessionValue × ReportValue) ℕ → ℕ → List ℕ → Type 0
@@ -57,7 +59,7 @@ pub record ListsQuestions (s : SessionValue) (text : List ℕ) : Type 0 where
   pub trail : List AskedValue
   pub ending : EndingValue
   pub shown : is_shown ending ≡ true
-  pub is : IsSessionTrail s trail ending
+  pub is : IsSessionTrail ByList s trail ending
   pub spelled : text ≡ questions_text (questions (question_judge s) trail)
 
 -- the trail of the response inside a denial
@@ -67,7 +69,7 @@ denied_trail error = None
 
 -- the text is the line of an error without a trail, in answer to the session
 pub record IsBareFault (s : SessionValue) (text : List ℕ) : Type 0 where
-  pub fault : IsFault s text
+  pub fault : IsFault ByList s text
   pub bare : denied_trail fault.error ≡ None
 
 -- the questions of an answer or a denial with status 0, or a fault's line with status 1
@@ -101,6 +103,6 @@ pub record EndsTask (task : Task) (status : ℕ) (told before now : Option (List
 
 -- ---- for private functions of this crate only
 
--- the error is want of memory, or what a lookup answers to the session
+-- memory ran out, or the error is what a lookup answers to the session
 abbrev pub MayFail : SessionValue → NetError → Type 0
-MayFail s error = (error ≡ NoMemory) ⊎ AnswersSession s (Err (error_of error))
+MayFail s error = (error ≡ NoMemory) ⊎ AnswersSession ByList s (Err (error_of error))

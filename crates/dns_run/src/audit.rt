@@ -2,22 +2,22 @@
 ghost use Rattle.std.specs.Prelude.{◌≡◌, ◌<◌, ◌^◌, length, unwrap_or, IfOk};
 ghost use Rattle.dns_handle.specs.Requests.{plain_options};
 ghost use Rattle.dns_audit.specs.ReportGrammar.{audit_of};
-ghost use Rattle.dns_audit_text.specs.AuditText.{audit_text};
+ghost use Rattle.dns_audit.specs.AuditText.{audit_text};
 ghost use Rattle.dns_session_lookup.specs.Answering.{session_limits};
 ghost use Rattle.dns_session_lookup.specs.Soundness.{session_judge};
+ghost use Rattle.dns_session_lookup.specs.declared.verification.Verification.TheVariants.{ByList};
 ghost use Rattle.dns_run.specs.Tasks.{AuditEnds};
 
-use dns_audit::{Report, read_audit};
-use dns_audit_text::write_audit;
+use dns_audit::{Report, read_audit, write_audit};
 use dns_evidence::{IterationLimits, Limits};
 use dns_io::status;
-use dns_name::NoMemory;
+use dns_record::NoMemory;
 use dns_session::{Session, SessionStop, bad_line_text};
-use dns_session_lookup::{session_anchors, session_options, session_verifier};
+use dns_session_lookup::{listed_verifier, session_anchors, session_options};
 use dns_trust::Judge;
 use std::alloc::Global;
 
-/// How far validation goes in a session that says this depth, or none.
+// How far validation goes in a session that says this depth, or none.
 fn limits_of(depth: Option<u16>) -> Limits
     ensures { result ≡ record { depth = unwrap_or depth plain_options.max_request_depth; soft = 100; hard = 500 } }
 {
@@ -28,9 +28,9 @@ fn limits_of(depth: Option<u16>) -> Limits
     }
 }
 
-/// What is answered of a report, by what a session trusts and accepts.
+// What is answered of a report, by what a session trusts and accepts.
 fn audited(alloc: Global, session: Session, report: &Report) -> Result<Vec<u8>, NoMemory>
-    ensures { IfOk result (λ v. v.items ≡ audit_text (session_judge session) (session_limits session) report.now) }
+    ensures { IfOk result (λ v. v.items ≡ audit_text (session_judge ByList session) (session_limits session) report.now) }
 {
     let Session {
         by_turn: _,
@@ -42,7 +42,7 @@ fn audited(alloc: Global, session: Session, report: &Report) -> Result<Vec<u8>, 
         query: _,
         replies: _,
     } = session;
-    let verifier = session_verifier(alloc, &algorithms, accepts)?;
+    let verifier = listed_verifier(alloc, &algorithms, accepts)?;
     let anchors = session_anchors(alloc, anchors)?;
     let judge = Judge {
         verifier: &verifier,

@@ -3,21 +3,21 @@ ghost use Rattle.std.specs.Prelude.{◌≡◌, ◌≢◌, ◌≤◌, IfOk};
 ghost use Rattle.dns_io.specs.Runs.{KeepsSink};
 ghost use Rattle.dns_run.specs.Benches.{secure_word, bench_text, IsBenchLine, WritesBench};
 
+use dns_bench_zones::{BenchCount, ZoneCount, bench_count};
 use dns_io::Sink;
 use dns_io::status::{self, write_text};
-use dns_name::NoMemory;
-use dns_nested_zones::{BenchCount, ZoneCount, bench_count};
+use dns_record::NoMemory;
 use dns_text::push_decimal;
 use std::alloc::Global;
 
-/// The word that says whether the host's address is there and all of it Secure.
+// The word that says whether the host's address is there and all of it Secure.
 fn secure_word(secure: bool) -> &'static [u8]
     ensures { result.now ≡ secure_word secure }
 {
     if secure { b"secure" } else { b"unproved" }
 }
 
-/// So many zones.
+// So many zones.
 fn zones_of(number: u8) -> ZoneCount
     requires least { 1 ≤ number }
     requires most { number ≤ 100 }
@@ -29,7 +29,7 @@ fn zones_of(number: u8) -> ZoneCount
     }
 }
 
-/// The line of what was counted.
+// The line of what was counted.
 fn bench_text(alloc: Global, number: u8, count: BenchCount) -> Result<Vec<u8>, NoMemory>
     ensures { IfOk result (λ v. v.items ≡ bench_text number count) }
 {
@@ -46,7 +46,7 @@ fn bench_text(alloc: Global, number: u8, count: BenchCount) -> Result<Vec<u8>, N
     Ok(text)
 }
 
-/// The line of one lookup below so many zones.
+// The line of one lookup below so many zones.
 fn bench_line(alloc: Global, number: u8) -> Result<Vec<u8>, NoMemory>
     requires least { 1 ≤ number }
     requires most { number ≤ 100 }

@@ -24,15 +24,15 @@ pub use dns_io::{
 };
 pub use dns_link::{Clock, Dialer, FixedClock, ListDialer, SocketDialer, SystemClock};
 pub use dns_lookup::DnssecDnsHandle;
-pub use dns_name::{NoMemory, Octets};
+pub use dns_record::{NoMemory, Octets};
 pub use dns_recorded::Recorded;
 pub use dns_session::{
     AcceptedSignature, Anchor, ReplyFault, ReplyKind, Session, SessionReply, SessionStop,
     read_session,
 };
 pub use dns_session_lookup::{
-    SessionLookup, session_anchors, session_answer, session_lookup, session_options,
-    session_upstream, session_verifier,
+    SessionLookup, SessionVerifier, Verification, listed_verifier, session_anchors, session_answer,
+    session_lookup, session_options, session_upstream, session_verifier,
 };
 pub use dns_trust::TrustAnchors;
 pub use program::{RunEnd, run, run_seeded};

@@ -4,13 +4,14 @@ ghost use Rattle.dns_handle.specs.Replies.{reply_of};
 ghost use Rattle.dns_lookup.specs.LookupAnswers.{UnlessNoMemory};
 ghost use Rattle.dns_session.specs.SessionValue.{SessionValue};
 ghost use Rattle.dns_session_lookup.specs.Causes.{AnswersSession};
+ghost use Rattle.dns_session_lookup.specs.declared.verification.Verification.{Verification};
 ghost use Rattle.dns_run.specs.Endings.{IsOutcome, IsAnswered};
 
 use dns_handle::{DnsResponse, NetError};
-use dns_name::NoMemory;
+use dns_record::NoMemory;
 use dns_report::{Parts, write_fault, write_report};
 use dns_session::{Session, SessionStop, bad_line_text, read_session};
-use dns_session_lookup::session_answer;
+use dns_session_lookup::{Verification, session_answer};
 use std::alloc::Global;
 
 /// How a run ends where its input was read.
@@ -24,28 +25,27 @@ pub enum InputEnding {
     BadLine,
 }
 
-/// The report of a session's lookup, or the line of its fault.
+// The report of a session's lookup, or the line of its fault.
 fn answered(
     alloc: Global,
+    how: Verification,
     shows: Parts,
     session: Session,
 ) -> Result<(InputEnding, Vec<u8>), NoMemory>
-    ensures { IfOk result (λ x. IsAnswered shows session x.0 x.1.items) }
+    ensures { IfOk result (λ x. IsAnswered how shows session x.0 x.1.items) }
 {
-    let reply = session_answer(alloc, session);
-    let ending = reply_ending(alloc, shows, &reply);
-    drop(reply);
-    ending
+    let reply = session_answer(alloc, how, session);
+    reply_ending(alloc, shows, &reply)
 }
 
-/// The report of an answer, or the line of a fault.
+// The report of an answer, or the line of a fault.
 fn reply_ending(
     alloc: Global,
     shows: Parts,
     reply: &Result<DnsResponse, NetError>,
 ) -> Result<(InputEnding, Vec<u8>), NoMemory>
-    ensures { (s : SessionValue) → UnlessNoMemory reply.now (AnswersSession s (reply_of reply.now))
-        → IfOk result (λ x. IsAnswered shows s x.0 x.1.items) }
+    ensures { (how : Verification) (s : SessionValue) → UnlessNoMemory reply.now (AnswersSession how s (reply_of reply.now))
+        → IfOk result (λ x. IsAnswered how shows s x.0 x.1.items) }
 {
     match reply {
         Ok(answer) => {
@@ -65,14 +65,15 @@ fn reply_ending(
 /// What an input comes to, and the text of it.
 pub(crate) fn session_ending(
     alloc: Global,
+    how: Verification,
     shows: Parts,
     bytes: &[u8],
 ) -> Result<(InputEnding, Vec<u8>), NoMemory>
     requires { length bytes.now < 2 ^ 32 }
-    ensures { IfOk result (λ x. IsOutcome shows bytes.now x.0 x.1.items) }
+    ensures { IfOk result (λ x. IsOutcome how shows bytes.now x.0 x.1.items) }
 {
     match read_session(alloc, bytes) {
-        Ok(session) => answered(alloc, shows, session),
+        Ok(session) => answered(alloc, how, shows, session),
         Err(SessionStop::BadLine(number)) => {
             let text = bad_line_text(alloc, number)?;
             Ok((InputEnding::BadLine, text))

@@ -1,22 +1,18 @@
 //! The program over any source, any sink, any network and any clock.
-ghost use Rattle.std.specs.Prelude.{◌≡◌, None, Some, IfSome};
+ghost use Rattle.std.specs.Prelude.{None};
 ghost use Rattle.dns_asking.specs.Servers.{network};
 ghost use Rattle.dns_io.specs.Runs.{outside, KeepsOutside};
-ghost use Rattle.dns_run.specs.Asks.{EndsAsk};
-ghost use Rattle.dns_run.specs.Completing.{IsValid, EndsSecurely};
-ghost use Rattle.dns_run.specs.Forms.{asked_form, words_ask, IfAsks, IfAsksNone, IfTask, IfValidates};
-ghost use Rattle.dns_run.specs.Outcomes.{Leaves, LeavesPrefix, Reports, Derives, Fails};
-ghost use Rattle.dns_run.specs.Runs.{EndsAsSession, EndsByGrammar, EndsByWords, IfSession};
-ghost use Rattle.dns_run.specs.Tasks.{EndsTask};
+ghost use Rattle.dns_run.specs.Ends.{EndsRun, EndsOver};
+ghost use Rattle.dns_run.specs.Forms.{words_ask};
 
 use crate::form::{Form, form_of};
 use crate::offline::run_offline;
-use crate::server::{AskedEnd, Asking, ask};
-use dns_exchange::TcpExchange;
+use crate::server::{AskedEnd, ServerAsk, ask};
 use dns_handle::DnsHandle;
 use dns_io::{Sink, Source};
 use dns_link::{Clock, Dialer, Link};
 use dns_multiplexer::RandDraws;
+use dns_tcp::TcpExchange;
 use dns_udp::UdpExchange;
 use std::alloc::Global;
 
@@ -46,59 +42,14 @@ pub fn run<S: Source, W: Sink, D: Dialer + Drop, K: Clock>(
     dial: D,
     clock: &mut K,
 ) -> RunEnd<D>
-    // A report is that of a sound answer to the session, and its text fixes what it shows of the answer: the `View`, which is
-    // code, denial, sections and chains, and the trail where the words ask for it. Where the source tells no bytes, it is the
-    // report for some session.
-    ensures report { IfValidates words.now (λ shows. result.status ≡ 0
-        → Leaves (Reports shows) (S.left input.old) (W.taken output.old) (W.taken output.new)) }
+    // How the run ends by its words, its input and its output.
+    ensures ends { EndsRun words.now result.status (S.left input.old) (W.taken output.old) (W.taken output.new) }
 
-    // That answer has a trail for the session, a derivation from the session's replies, in which what is Insecure has its ground.
-    // And what it denies holds in each zone in which the Secure NSEC or NSEC3 records of the reply are true.
-    ensures derived { IfValidates words.now (λ shows. result.status ≡ 0
-        → Leaves (Derives shows) (S.left input.old) (W.taken output.old) (W.taken output.new)) }
-
-    // Where no server is asked, 1 is answered only with the line of an error that has its cause in the session.
-    ensures fault { IfAsksNone words.now (result.status ≡ 1
-        → Leaves Fails (S.left input.old) (W.taken output.old) (W.taken output.new)) }
-
-    // What each session must end with, unless the status is 4 or more.
-    ensures session { IfValidates words.now (λ shows. IfSession (S.left input.old)
-        (λ s. EndsAsSession s result.status (W.taken output.old) (W.taken output.new))) }
-
-    // A session that is valid for its query is reported with the records that were queried, each of them Secure, unless the
-    // status is 4 or more.
-    ensures completes { IfValidates words.now (λ shows. IfSession (S.left input.old)
-        (λ s. IsValid s → EndsSecurely shows s result.status (W.taken output.old) (W.taken output.new))) }
-
-    // 3, and an input that is no session.
-    ensures grammar { IfValidates words.now (λ shows.
-        EndsByGrammar result.status (S.left input.old) (W.taken output.old) (W.taken output.new)) }
-
-    // What a task must end with: 0 with the answers of the checks to the report behind a session, or with the questions of the
-    // session's trail; and 3, and an input that is outside the grammar. An audit never ends with 1, questions only for an error
-    // without a trail.
-    ensures task { IfTask words.now (λ task.
-        EndsTask task result.status (S.left input.old) (W.taken output.old) (W.taken output.new)) }
-
-    // What asking a server must end with: 0 with the report of a sound answer that a validator gave over that server, 1 with the line of
-    // an error that it gave, each with its cause in what the dialer met; and 3 for an input that is no session, for which nothing is
-    // asked.
-    ensures asks { IfAsks words.now (λ protocol server. IfSome result.dial (λ new. EndsAsk
-        (network D.counts D.given_bytes D.given_datagrams D.Link.counts D.Link.given
+    // How it ends where the words ask a server: ids and ports are drawn from the clock's moment.
+    ensures over { EndsOver
+        (network D.counts D.given_bytes D.given_datagrams D.calls D.Link.counts D.Link.given D.Link.calls
         ⟦<UdpExchange<D, RandDraws> as DnsHandle>⟧ ⟦<TcpExchange<D::Link, RandDraws> as DnsHandle>⟧)
-        protocol server dial new result.status (S.left input.old) (W.taken output.old) (W.taken output.new))) }
-
-    // The dialer is given back, but for want of memory; and as it was given, where no server is asked.
-    ensures given_back { result.dial ≡ None → result.status ≡ 6 }
-    ensures unused { IfAsksNone words.now (result.dial ≡ Some dial) }
-
-    // Words that ask for a text, for a lookup below nested zones, or for nothing: 2 is for the latter alone. A lookup below nested
-    // zones ends with 0, or with 5 or 6.
-    ensures words { EndsByWords (asked_form words.now) result.status (W.taken output.old) (W.taken output.new) }
-
-    // Whatever the status, a prefix of a text that the input comes to was written.
-    ensures prefix { IfValidates words.now (λ shows.
-        LeavesPrefix shows (S.left input.old) (W.taken output.old) (W.taken output.new)) }
+        None words.now dial result.dial result.status (S.left input.old) (W.taken output.old) (W.taken output.new) }
 
     // The statuses from 4 on have their causes outside, an input is read to its end or not at all, and counts never fall.
     ensures outside { KeepsOutside (outside S.left S.faults W.taken W.faults W.takes_memory) (words_ask words.now)
@@ -118,73 +69,29 @@ pub fn run_seeded<S: Source, W: Sink, D: Dialer + Drop, K: Clock>(
     clock: &mut K,
     seed: Option<u64>,
 ) -> RunEnd<D>
-    // A report is that of a sound answer to the session, and its text fixes what it shows of the answer: the `View`, which is
-    // code, denial, sections and chains, and the trail where the words ask for it. Where the source tells no bytes, it is the
-    // report for some session.
-    ensures report { IfValidates words.now (λ shows. result.status ≡ 0
-        → Leaves (Reports shows) (S.left input.old) (W.taken output.old) (W.taken output.new)) }
+    // How the run ends by its words, its input and its output.
+    ensures ends { EndsRun words.now result.status (S.left input.old) (W.taken output.old) (W.taken output.new) }
 
-    // That answer has a trail for the session, a derivation from the session's replies, in which what is Insecure has its ground.
-    // And what it denies holds in each zone in which the Secure NSEC or NSEC3 records of the reply are true.
-    ensures derived { IfValidates words.now (λ shows. result.status ≡ 0
-        → Leaves (Derives shows) (S.left input.old) (W.taken output.old) (W.taken output.new)) }
-
-    // Where no server is asked, 1 is answered only with the line of an error that has its cause in the session.
-    ensures fault { IfAsksNone words.now (result.status ≡ 1
-        → Leaves Fails (S.left input.old) (W.taken output.old) (W.taken output.new)) }
-
-    // What each session must end with, unless the status is 4 or more.
-    ensures session { IfValidates words.now (λ shows. IfSession (S.left input.old)
-        (λ s. EndsAsSession s result.status (W.taken output.old) (W.taken output.new))) }
-
-    // A session that is valid for its query is reported with the records that were queried, each of them Secure, unless the
-    // status is 4 or more.
-    ensures completes { IfValidates words.now (λ shows. IfSession (S.left input.old)
-        (λ s. IsValid s → EndsSecurely shows s result.status (W.taken output.old) (W.taken output.new))) }
-
-    // 3, and an input that is no session.
-    ensures grammar { IfValidates words.now (λ shows.
-        EndsByGrammar result.status (S.left input.old) (W.taken output.old) (W.taken output.new)) }
-
-    // What a task must end with: 0 with the answers of the checks to the report behind a session, or with the questions of the
-    // session's trail; and 3, and an input that is outside the grammar. An audit never ends with 1, questions only for an error
-    // without a trail.
-    ensures task { IfTask words.now (λ task.
-        EndsTask task result.status (S.left input.old) (W.taken output.old) (W.taken output.new)) }
-
-    // What asking a server must end with: 0 with the report of a sound answer that a validator gave over that server, 1 with the line of
-    // an error that it gave, each with its cause in what the dialer met; and 3 for an input that is no session, for which nothing is
-    // asked.
-    ensures asks { IfAsks words.now (λ protocol server. IfSome result.dial (λ new. EndsAsk
-        (network D.counts D.given_bytes D.given_datagrams D.Link.counts D.Link.given
+    // How it ends where the words ask a server: ids and ports are drawn from the seed, or from the clock's moment where there is none.
+    ensures over { EndsOver
+        (network D.counts D.given_bytes D.given_datagrams D.calls D.Link.counts D.Link.given D.Link.calls
         ⟦<UdpExchange<D, RandDraws> as DnsHandle>⟧ ⟦<TcpExchange<D::Link, RandDraws> as DnsHandle>⟧)
-        protocol server dial new result.status (S.left input.old) (W.taken output.old) (W.taken output.new))) }
-
-    // The dialer is given back, but for want of memory; and as it was given, where no server is asked.
-    ensures given_back { result.dial ≡ None → result.status ≡ 6 }
-    ensures unused { IfAsksNone words.now (result.dial ≡ Some dial) }
-
-    // Words that ask for a text, for a lookup below nested zones, or for nothing: 2 is for the latter alone. A lookup below nested
-    // zones ends with 0, or with 5 or 6.
-    ensures words { EndsByWords (asked_form words.now) result.status (W.taken output.old) (W.taken output.new) }
-
-    // Whatever the status, a prefix of a text that the input comes to was written.
-    ensures prefix { IfValidates words.now (λ shows.
-        LeavesPrefix shows (S.left input.old) (W.taken output.old) (W.taken output.new)) }
+        seed words.now dial result.dial result.status (S.left input.old) (W.taken output.old) (W.taken output.new) }
 
     // The statuses from 4 on have their causes outside, an input is read to its end or not at all, and counts never fall.
     ensures outside { KeepsOutside (outside S.left S.faults W.taken W.faults W.takes_memory) (words_ask words.now)
         result.status input.old input.new output.old output.new }
 {
     match form_of(words) {
-        Some(Form::Ask(protocol, server)) => {
-            let asking = Asking {
+        Some(Form::Ask(how, protocol, server)) => {
+            let given = ServerAsk {
+                how,
                 protocol,
                 server,
                 seed,
                 dial,
             };
-            let AskedEnd { status, dial } = ask(alloc, asking, input, output, clock);
+            let AskedEnd { status, dial } = ask(alloc, given, input, output, clock);
             RunEnd {
                 status,
                 dial: Some(dial),

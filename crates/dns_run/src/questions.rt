@@ -10,20 +10,21 @@ ghost use Rattle.dns_questions.specs.QuestionsText.{questions_text};
 ghost use Rattle.dns_session.specs.Grammar.{session_of};
 ghost use Rattle.dns_session.specs.SessionValue.{SessionValue};
 ghost use Rattle.dns_session_lookup.specs.Causes.{AnswersSession};
-ghost use Rattle.dns_session_lookup.specs.Soundness.{listing};
+ghost use Rattle.dns_session_lookup.specs.Verifying.{listing};
+ghost use Rattle.dns_session_lookup.specs.declared.verification.Verification.TheVariants.{ByList};
 ghost use Rattle.dns_run.specs.Tasks.{AnswersQuestions, QuestionsEnd, MayFail, denied_trail};
 
 use dns_evidence::{Listed, Trail};
 use dns_handle::{DnsError, DnsResponse, NetError};
 use dns_io::status;
-use dns_name::NoMemory;
 use dns_questions::{trail_questions, write_questions};
+use dns_record::NoMemory;
 use dns_report::write_fault;
 use dns_session::{Session, SessionStop, bad_line_text, read_session};
-use dns_session_lookup::{session_answer, session_verifier};
+use dns_session_lookup::{Verification, listed_verifier, session_answer};
 use std::alloc::Global;
 
-/// The trail of the response inside a denial.
+// The trail of the response inside a denial.
 fn denied_trail(error: &NetError) -> Option<&Trail>
     ensures { option_map (λ t. t.now) result ≡ denied_trail (error_of error.now) }
 {
@@ -39,7 +40,7 @@ fn denied_trail(error: &NetError) -> Option<&Trail>
     }
 }
 
-/// The questions of a trail, as a text.
+// The questions of a trail, as a text.
 fn listed(alloc: Global, verifier: &Listed, moment: u64, trail: &Trail) -> Result<Vec<u8>, NoMemory>
     ensures { IfOk result (λ v. v.items
         ≡ questions_text (questions (judge (answers_of verifier.now) [] moment) trail.now)) }
@@ -48,7 +49,7 @@ fn listed(alloc: Global, verifier: &Listed, moment: u64, trail: &Trail) -> Resul
     write_questions(alloc, &questions)
 }
 
-/// The line of an error, which has no trail.
+// The line of an error, which has no trail.
 fn failed(alloc: Global, error: &NetError) -> Result<(u8, Vec<u8>), NoMemory>
     requires { denied_trail (error_of error.now) ≡ None }
     ensures ends { (s : SessionValue) → MayFail s error.now → IfOk result (λ x. AnswersQuestions s x.0 x.1.items) }
@@ -61,7 +62,7 @@ fn failed(alloc: Global, error: &NetError) -> Result<(u8, Vec<u8>), NoMemory>
     Ok((status::FAULT, text))
 }
 
-/// What an answer to a session comes to.
+// What an answer to a session comes to.
 fn reply_ending(
     alloc: Global,
     verifier: &Listed,
@@ -69,7 +70,7 @@ fn reply_ending(
     reply: &Result<DnsResponse, NetError>,
 ) -> Result<(u8, Vec<u8>), NoMemory>
     ensures ends { (s : SessionValue) → answers_of verifier.now ≡ answers_of (listing s.algorithms []) → moment ≡ s.moment
-        → UnlessNoMemory reply.now (AnswersSession s (reply_of reply.now))
+        → UnlessNoMemory reply.now (AnswersSession ByList s (reply_of reply.now))
         → IfOk result (λ x. AnswersQuestions s x.0 x.1.items) }
     ensures low { IfOk result (λ x. x.0 < 4) }
 {
@@ -88,17 +89,15 @@ fn reply_ending(
     }
 }
 
-/// What a session comes to.
+// What a session comes to.
 fn session_questions(alloc: Global, session: Session) -> Result<(u8, Vec<u8>), NoMemory>
     ensures ends { IfOk result (λ x. AnswersQuestions session x.0 x.1.items) }
     ensures low { IfOk result (λ x. x.0 < 4) }
 {
-    let verifier = session_verifier(alloc, &session.algorithms, Vec::new(alloc))?;
+    let verifier = listed_verifier(alloc, &session.algorithms, Vec::new(alloc))?;
     let moment = session.moment;
-    let reply = session_answer(alloc, session);
-    let ending = reply_ending(alloc, &verifier, moment, &reply);
-    drop(reply);
-    ending
+    let reply = session_answer(alloc, Verification::ByList, session);
+    reply_ending(alloc, &verifier, moment, &reply)
 }
 
 /// The status of a session's questions, and what is written of them.

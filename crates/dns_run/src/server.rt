@@ -9,27 +9,31 @@ ghost use Rattle.dns_io.specs.Writing.{TakesPrefix};
 ghost use Rattle.dns_session.specs.Grammar.{session_of};
 ghost use Rattle.dns_session.specs.SessionValue.{SessionValue};
 ghost use Rattle.dns_run.specs.Asks.{AnswersOver, EndsAsk, IsInquiryOf, IsReplyText, ServerEnds, ServerTells};
+ghost use Rattle.dns_run.specs.Calls.{call_by};
 ghost use Rattle.dns_run.specs.Outcomes.{Wrote, WrotePrefix};
 ghost use Rattle.dns_run.specs.Tasks.{NamesLine};
 
 use dns_asking::{AskEnd, Inquiry, ServerAddress, ask_server};
-use dns_evidence::Listed;
-use dns_exchange::TcpExchange;
 use dns_handle::{DnsHandle, DnsResponse, NetError, Protocol};
 use dns_io::status::{self, read_status, refuse_long, write_text};
 use dns_io::{ReadStop, Sink, Source, read_all};
 use dns_link::{Clock, Dialer, Link};
 use dns_multiplexer::RandDraws;
-use dns_name::NoMemory;
+use dns_record::NoMemory;
 use dns_report::{Parts, write_fault, write_report};
 use dns_session::{Session, SessionStop, bad_line_text, read_session};
-use dns_session_lookup::{session_anchors, session_options, session_verifier};
+use dns_session_lookup::{
+    SessionVerifier, Verification, session_anchors, session_options, session_verifier,
+};
+use dns_tcp::TcpExchange;
 use dns_udp::UdpExchange;
 use std::alloc::Global;
 
 /// A server, and what is needed to ask it.
 #[derive(Drop)]
-pub(crate) struct Asking<D: Drop> {
+pub(crate) struct ServerAsk<D: Drop> {
+    /// How the signatures of the session are verified.
+    pub(crate) how: Verification,
     pub(crate) protocol: Protocol,
     pub(crate) server: ServerAddress,
     /// What ids and ports are drawn from; None for the moment.
@@ -51,9 +55,14 @@ pub(crate) struct AskedEnd<D: Drop> {
     pub(crate) dial: D,
 }
 
-/// What a session asks at a moment.
-fn inquiry_at(alloc: Global, session: Session, moment: u64) -> Result<Inquiry<Listed>, NoMemory>
-    ensures { IfOk result (λ i. IsInquiryOf session moment i) }
+// What a session asks at a moment.
+fn inquiry_at(
+    alloc: Global,
+    how: Verification,
+    session: Session,
+    moment: u64,
+) -> Result<Inquiry<SessionVerifier>, NoMemory>
+    ensures { IfOk result (λ i. IsInquiryOf how session moment i) }
 {
     let Session {
         by_turn: _,
@@ -65,7 +74,7 @@ fn inquiry_at(alloc: Global, session: Session, moment: u64) -> Result<Inquiry<Li
         query,
         replies: _,
     } = session;
-    let verifier = session_verifier(alloc, &algorithms, accepts)?;
+    let verifier = session_verifier(alloc, how, &algorithms, accepts)?;
     let anchors = session_anchors(alloc, anchors)?;
     Ok(Inquiry {
         query,
@@ -76,7 +85,7 @@ fn inquiry_at(alloc: Global, session: Session, moment: u64) -> Result<Inquiry<Li
     })
 }
 
-/// The report of an answer, or the line of a fault.
+// The report of an answer, or the line of a fault.
 #[tactic(auto, using(dns_handle::proofs::ErrorLemmas::untold_no_memory))]
 fn reply_ending(
     alloc: Global,
@@ -100,7 +109,7 @@ fn reply_ending(
     }
 }
 
-/// The first bad line.
+// The first bad line.
 fn refused(alloc: Global, number: u64) -> Result<(u8, Vec<u8>), NoMemory>
     ensures ends { IfOk result (λ x. NamesLine number x.0 x.1.items) }
     ensures low { IfOk result (λ x. x.0 < 4) }
@@ -109,84 +118,81 @@ fn refused(alloc: Global, number: u64) -> Result<(u8, Vec<u8>), NoMemory>
     Ok((status::BAD_INPUT, text))
 }
 
-/// What a server answers to an inquiry.
+// What a server answers to an inquiry.
 fn ask_inquiry<D: Dialer + Drop>(
     alloc: Global,
-    asking: Asking<D>,
-    inquiry: Inquiry<Listed>,
+    given: ServerAsk<D>,
+    inquiry: Inquiry<SessionVerifier>,
 ) -> ServerEnding<D>
-    ensures ends { (s : SessionValue) (now : ℕ) → IsInquiryOf s now inquiry → IfOk result.ending (λ x. AnswersOver
-        (network D.counts D.given_bytes D.given_datagrams D.Link.counts D.Link.given
-        ⟦<UdpExchange<D, RandDraws> as DnsHandle>⟧ ⟦<TcpExchange<D::Link, RandDraws> as DnsHandle>⟧)
-        asking.protocol asking.server s now asking.dial result.dial x.0 x.1.items) }
+    ensures ends { (s : SessionValue) (now : ℕ) → IsInquiryOf given.how s now inquiry → IfOk result.ending (λ x. AnswersOver
+        (call_by (network D.counts D.given_bytes D.given_datagrams D.calls D.Link.counts D.Link.given D.Link.calls
+        ⟦<UdpExchange<D, RandDraws> as DnsHandle>⟧ ⟦<TcpExchange<D::Link, RandDraws> as DnsHandle>⟧) given) s now given.dial result.dial x.0 x.1.items) }
     ensures low { IfOk result.ending (λ x. x.0 < 4) }
 {
-    let Asking {
+    let ServerAsk {
+        how: _,
         protocol,
         server,
         seed,
         dial,
-    } = asking;
+    } = given;
     let draws = RandDraws::from_seed(seed.unwrap_or(inquiry.moment));
     let AskEnd { reply, dial } = ask_server(alloc, dial, draws, protocol, server, inquiry);
     let ending = reply_ending(alloc, &reply);
-    drop(reply);
     ServerEnding { ending, dial }
 }
 
-/// What a server answers to a session at a moment.
+// What a server answers to a session at a moment.
 fn ask_session<D: Dialer + Drop>(
     alloc: Global,
-    asking: Asking<D>,
+    given: ServerAsk<D>,
     session: Session,
     moment: u64,
 ) -> ServerEnding<D>
     ensures ends { IfOk result.ending (λ x. AnswersOver
-        (network D.counts D.given_bytes D.given_datagrams D.Link.counts D.Link.given
-        ⟦<UdpExchange<D, RandDraws> as DnsHandle>⟧ ⟦<TcpExchange<D::Link, RandDraws> as DnsHandle>⟧)
-        asking.protocol asking.server session moment asking.dial result.dial x.0 x.1.items) }
+        (call_by (network D.counts D.given_bytes D.given_datagrams D.calls D.Link.counts D.Link.given D.Link.calls
+        ⟦<UdpExchange<D, RandDraws> as DnsHandle>⟧ ⟦<TcpExchange<D::Link, RandDraws> as DnsHandle>⟧) given) session moment given.dial result.dial x.0 x.1.items) }
     ensures low { IfOk result.ending (λ x. x.0 < 4) }
 {
-    match inquiry_at(alloc, session, moment) {
-        Ok(inquiry) => ask_inquiry(alloc, asking, inquiry),
+    match inquiry_at(alloc, given.how, session, moment) {
+        Ok(inquiry) => ask_inquiry(alloc, given, inquiry),
         Err(NoMemory) => ServerEnding {
             ending: Err(NoMemory),
-            dial: asking.dial,
+            dial: given.dial,
         },
     }
 }
 
-/// What bytes come to. The clock is read once, after the grammar and before a server is asked.
+// What bytes come to. The clock is read once, after the grammar and before a server is asked.
 fn ask_bytes<D: Dialer + Drop, K: Clock>(
     alloc: Global,
-    asking: Asking<D>,
+    given: ServerAsk<D>,
     bytes: &[u8],
     clock: &mut K,
 ) -> ServerEnding<D>
     requires { length bytes.now < 2 ^ 32 }
     ensures ends { IfOk result.ending (λ x. ServerEnds
-        (network D.counts D.given_bytes D.given_datagrams D.Link.counts D.Link.given
-        ⟦<UdpExchange<D, RandDraws> as DnsHandle>⟧ ⟦<TcpExchange<D::Link, RandDraws> as DnsHandle>⟧)
-        asking.protocol asking.server (session_of bytes.now) asking.dial result.dial x.0 x.1.items) }
+        (call_by (network D.counts D.given_bytes D.given_datagrams D.calls D.Link.counts D.Link.given D.Link.calls
+        ⟦<UdpExchange<D, RandDraws> as DnsHandle>⟧ ⟦<TcpExchange<D::Link, RandDraws> as DnsHandle>⟧) given) (session_of bytes.now) given.dial result.dial x.0 x.1.items) }
     ensures low { IfOk result.ending (λ x. x.0 < 4) }
 {
     match read_session(alloc, bytes) {
         Ok(session) => {
             let moment = clock.now();
-            ask_session(alloc, asking, session, moment)
+            ask_session(alloc, given, session, moment)
         }
         Err(SessionStop::BadLine(number)) => ServerEnding {
             ending: refused(alloc, number),
-            dial: asking.dial,
+            dial: given.dial,
         },
         Err(SessionStop::NoMemory) => ServerEnding {
             ending: Err(NoMemory),
-            dial: asking.dial,
+            dial: given.dial,
         },
     }
 }
 
-/// Writes what bytes came to.
+// Writes what bytes came to.
 fn write_ending<W: Sink>(ending: Result<(u8, Vec<u8>), NoMemory>, output: &mut W) -> u8
     requires { IfOk ending (λ x. x.0 < 4) }
     ensures written { result < 4 → IfOk ending (λ x. (result ≡ x.0) × Appends (W.taken output.old) (W.taken output.new) x.1.items) }
@@ -200,26 +206,24 @@ fn write_ending<W: Sink>(ending: Result<(u8, Vec<u8>), NoMemory>, output: &mut W
     }
 }
 
-/// Asks a server what bytes ask for, and writes what it answers.
+// Asks a server what bytes ask for, and writes what it answers.
 fn answer_bytes<W: Sink, D: Dialer + Drop, K: Clock>(
     alloc: Global,
-    asking: Asking<D>,
+    given: ServerAsk<D>,
     bytes: &[u8],
     output: &mut W,
     clock: &mut K,
 ) -> AskedEnd<D>
     requires { length bytes.now ≤ input_limit }
     ensures ends { result.status < 4 → Wrote (W.taken output.old) (W.taken output.new) (ServerEnds
-        (network D.counts D.given_bytes D.given_datagrams D.Link.counts D.Link.given
-        ⟦<UdpExchange<D, RandDraws> as DnsHandle>⟧ ⟦<TcpExchange<D::Link, RandDraws> as DnsHandle>⟧)
-        asking.protocol asking.server (session_of bytes.now) asking.dial result.dial result.status) }
+        (call_by (network D.counts D.given_bytes D.given_datagrams D.calls D.Link.counts D.Link.given D.Link.calls
+        ⟦<UdpExchange<D, RandDraws> as DnsHandle>⟧ ⟦<TcpExchange<D::Link, RandDraws> as DnsHandle>⟧) given) (session_of bytes.now) given.dial result.dial result.status) }
     ensures prefix { WrotePrefix (W.taken output.old) (W.taken output.new) (ServerTells
-        (network D.counts D.given_bytes D.given_datagrams D.Link.counts D.Link.given
-        ⟦<UdpExchange<D, RandDraws> as DnsHandle>⟧ ⟦<TcpExchange<D::Link, RandDraws> as DnsHandle>⟧)
-        asking.protocol asking.server asking.dial result.dial bytes.now) }
+        (call_by (network D.counts D.given_bytes D.given_datagrams D.calls D.Link.counts D.Link.given D.Link.calls
+        ⟦<UdpExchange<D, RandDraws> as DnsHandle>⟧ ⟦<TcpExchange<D::Link, RandDraws> as DnsHandle>⟧) given) given.dial result.dial bytes.now) }
     ensures keeps { KeepsSink W.faults result.status output.old output.new }
 {
-    let ServerEnding { ending, dial } = ask_bytes(alloc, asking, bytes, clock);
+    let ServerEnding { ending, dial } = ask_bytes(alloc, given, bytes, clock);
     let status = write_ending(ending, output);
     AskedEnd { status, dial }
 }
@@ -228,28 +232,27 @@ fn answer_bytes<W: Sink, D: Dialer + Drop, K: Clock>(
 #[tactic(auto, using(dns_io::proofs::Runs::keeps_answered, dns_io::proofs::Runs::keeps_long, dns_io::proofs::Runs::keeps_stopped, crate::proofs::AskLemmas::stopped_asked))]
 pub(crate) fn ask<S: Source, W: Sink, D: Dialer + Drop, K: Clock>(
     alloc: Global,
-    asking: Asking<D>,
+    given: ServerAsk<D>,
     input: &mut S,
     output: &mut W,
     clock: &mut K,
 ) -> AskedEnd<D>
     ensures ends { EndsAsk
-        (network D.counts D.given_bytes D.given_datagrams D.Link.counts D.Link.given
-        ⟦<UdpExchange<D, RandDraws> as DnsHandle>⟧ ⟦<TcpExchange<D::Link, RandDraws> as DnsHandle>⟧)
-        asking.protocol asking.server asking.dial result.dial result.status (S.left input.old) (W.taken output.old) (W.taken output.new) }
+        (call_by (network D.counts D.given_bytes D.given_datagrams D.calls D.Link.counts D.Link.given D.Link.calls
+        ⟦<UdpExchange<D, RandDraws> as DnsHandle>⟧ ⟦<TcpExchange<D::Link, RandDraws> as DnsHandle>⟧) given) given.dial result.dial result.status (S.left input.old) (W.taken output.old) (W.taken output.new) }
     ensures form { result.status ≢ 2 }
     ensures outside { KeepsOutside (outside S.left S.faults W.taken W.faults W.takes_memory) AnInput
         result.status input.old input.new output.old output.new }
 {
     match read_all(alloc, input) {
-        Ok(bytes) => answer_bytes(alloc, asking, &bytes, output, clock),
+        Ok(bytes) => answer_bytes(alloc, given, &bytes, output, clock),
         Err(ReadStop::TooLong) => AskedEnd {
             status: refuse_long(output),
-            dial: asking.dial,
+            dial: given.dial,
         },
         Err(stop) => AskedEnd {
             status: read_status(stop),
-            dial: asking.dial,
+            dial: given.dial,
         },
     }
 }

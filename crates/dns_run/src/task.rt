@@ -4,12 +4,13 @@ ghost use Rattle.dns_io.specs.Reading.{input_limit};
 ghost use Rattle.dns_io.specs.Runs.{outside, AnInput, KeepsOutside, KeepsSink};
 ghost use Rattle.dns_run.specs.Outcomes.{Leaves, Wrote, WrotePrefix, Fails};
 ghost use Rattle.dns_run.specs.Tasks.{TaskEnds, TaskTells, EndsTask};
+ghost use Rattle.dns_session_lookup.specs.declared.verification.Verification.TheVariants.{ByList};
 
 use crate::audit::audit_ending;
 use crate::questions::questions_ending;
 use dns_io::status::{self, read_status, refuse_long, write_text};
 use dns_io::{ReadStop, Sink, Source, read_all};
-use dns_name::NoMemory;
+use dns_record::NoMemory;
 use std::alloc::Global;
 
 /// What is asked of an input besides the report of its lookup.
@@ -21,7 +22,7 @@ pub enum Task {
     Questions,
 }
 
-/// What bytes come to by a task: a status, and a text.
+// What bytes come to by a task: a status, and a text.
 fn task_ending(alloc: Global, task: Task, bytes: &[u8]) -> Result<(u8, Vec<u8>), NoMemory>
     requires { length bytes.now < 2 ^ 32 }
     ensures ends { IfOk result (λ x. TaskEnds task bytes.now x.0 x.1.items) }
@@ -33,7 +34,7 @@ fn task_ending(alloc: Global, task: Task, bytes: &[u8]) -> Result<(u8, Vec<u8>),
     }
 }
 
-/// Does a task on bytes.
+// Does a task on bytes.
 #[tactic(auto, using(crate::proofs::TaskLemmas::ended_wrote, crate::proofs::TaskLemmas::ended_prefix, crate::proofs::TaskLemmas::nothing_ended))]
 fn done<W: Sink>(alloc: Global, task: Task, bytes: &[u8], output: &mut W) -> u8
     requires { length bytes.now ≤ input_limit }
@@ -47,7 +48,7 @@ fn done<W: Sink>(alloc: Global, task: Task, bytes: &[u8], output: &mut W) -> u8
     }
 }
 
-/// Reads an input and does a task on it.
+// Reads an input and does a task on it.
 #[tactic(auto, using(dns_io::proofs::Leaving::of_read, dns_io::proofs::Runs::keeps_answered, dns_io::proofs::Runs::keeps_long, dns_io::proofs::Runs::keeps_stopped, crate::proofs::TaskLemmas::read_ends, crate::proofs::TaskLemmas::long_ends, crate::proofs::TaskLemmas::stopped_ends))]
 fn read_and_done<S: Source, W: Sink>(alloc: Global, task: Task, input: &mut S, output: &mut W) -> u8
     ensures ends { EndsTask task result (S.left input.old) (W.taken output.old) (W.taken output.new) }
@@ -71,7 +72,7 @@ pub(crate) fn do_task<S: Source, W: Sink>(
     ensures ends { EndsTask task result (S.left input.old) (W.taken output.old) (W.taken output.new) }
 
     // What follows of that for single statuses.
-    ensures fault { result ≡ 1 → Leaves Fails (S.left input.old) (W.taken output.old) (W.taken output.new) }
+    ensures fault { result ≡ 1 → Leaves (Fails ByList) (S.left input.old) (W.taken output.old) (W.taken output.new) }
     ensures form { result ≢ 2 }
 
     ensures outside { KeepsOutside (outside S.left S.faults W.taken W.faults W.takes_memory) AnInput

@@ -1,5 +1,5 @@
 //! The root as its server tells it: its name servers, signed, and its key; the session that asks for them, and its report.
-use dns_name::NoMemory;
+use dns_record::NoMemory;
 
 /// The root's name servers are asked for. The session has no reply, and at its own moment no signature counts.
 pub(crate) const SESSION: &[u8] =

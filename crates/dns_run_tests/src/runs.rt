@@ -1,7 +1,7 @@
 //! What tests share: words, and a run over a session.
 use dns_io::{Sink, Source, SureSink, SureSource};
 use dns_link::{Dialer, FixedClock};
-use dns_name::Octets;
+use dns_record::Octets;
 use dns_run::run;
 use std::alloc::Global;
 use std::process::Abort;

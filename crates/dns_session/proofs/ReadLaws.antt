@@ -184,7 +184,8 @@ trusts_gives : (made : List AnchorValue → List AcceptedSignatureValue → Ques
     (s : SessionValue) (anchors accepts : List (List ℕ)) (query : List ℕ) (replies : List (List ℕ))
     → Say anchor_line anchors s.anchors → Say accept_line accepts s.accepts → query_line query ≡ Some s.query
     → Say upstream_line replies s.replies
-    → trusts made (place number (anchors ++ (accepts ++ query ∷ (replies ++ codes "end" ∷ [] ∷ [])))) ≡ Ok (made s.anchors s.accepts s.query s.replies)
+    → trusts made (place number (anchors ++ (accepts ++ query ∷ (replies ++ codes "end" ∷ [] ∷ []))))
+    ≡ Ok (made s.anchors s.accepts s.query s.replies)
 trusts_gives made number s anchors accepts query replies keys takes asked tells =
     let body : List (List ℕ) = query ∷ (replies ++ codes "end" ∷ [] ∷ []) in
     let one =
@@ -234,7 +235,8 @@ session_read text s sp =
     session_begins (start_of text) ∙ ap (λ ps. begins (place 1 ps)) cut
     ∙ begins_gives s sp.head sp.moment sp.depth sp.algorithms rest sp.head_says sp.moment_says sp.depth_says sp.algorithms_say
     (listed_after sp.anchors _ (listed_after sp.accepts _ (omega arith)))
-    (λ number. trusts_gives (session s.by_turn s.moment s.depth s.algorithms) number s sp.anchors sp.accepts sp.query sp.replies sp.anchors_say sp.accepts_say sp.query_says sp.replies_say)
+    (λ number. trusts_gives (session s.by_turn s.moment s.depth s.algorithms) number s sp.anchors sp.accepts sp.query
+    sp.replies sp.anchors_say sp.accepts_say sp.query_says sp.replies_say)
 
 -- a text is read as a session exactly where it is spelled so
 pub session_exactly : (text : List ℕ) (s : SessionValue) → (session_of text ≡ Ok s) ↔ Spelled text s

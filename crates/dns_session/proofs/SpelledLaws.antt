@@ -217,8 +217,10 @@ record EndRead (s t : SessionValue) (at : Place) : Type 0 where
 end_by : (s t : SessionValue) (at : Place) → (if_ended at s) ≡ Ok t → (s ≡ t) × (at.pieces ≡ [] ∷ [])
 end_by s t at h =
     elim (cases_Bool (is_nothing at.pieces)) [
-      | inl is ↦
-          (ap (λ r. result_unwrap_or r s) (let same : ◌≡◌ {A = Result SessionValue ℕ} (Ok s) (Ok t) = rw is at h in same), nothing_left at.pieces is)
+      | inl is ↦ (
+        ap (λ r. result_unwrap_or r s) (let same : ◌≡◌ {A = Result SessionValue ℕ} (Ok s) (Ok t) = rw is at h in same),
+        nothing_left at.pieces is,
+      )
       | inr isnt ↦ let none : ◌≡◌ {A = Result SessionValue ℕ} (Err at.number) (Ok t) = rw isnt at h in cc
     ]
 

@@ -1,3 +1,4 @@
+-- Definitions of what a session says, and of its grammar.
 pub mod SessionValue
 pub mod Kinds
 pub mod LinePlaces

@@ -1,9 +1,10 @@
+//! What the line of one form is, and reading as many of them as there are.
 ghost use Rattle.std.specs.Prelude.{◌≡◌, ◌<◌, ◌^◌, ℕ, List, Option, IfOk, length};
 ghost use Rattle.dns_session.specs.LinePlaces.{many, one};
 ghost use Rattle.dns_model.specs.Gives.{Gives};
 
 use crate::lines::Lines;
-use dns_name::NoMemory;
+use dns_record::NoMemory;
 use std::alloc::Global;
 
 /// What a line of one form says.

@@ -1,3 +1,4 @@
+//! The forms of lines without names.
 ghost use Rattle.std.specs.Prelude.{◌≡◌, IfOk};
 ghost use Rattle.std.specs.Option.{option_map, option_copied};
 ghost use Rattle.dns_session.specs.Lines.{header_line, moment_line, depth_line, algorithms_line, accept_line, words_left, bytes_in};
@@ -6,7 +7,7 @@ ghost use Rattle.dns_session.specs.LineFields.{accept_in};
 use crate::form::LineForm;
 use crate::session::AcceptedSignature;
 use crate::words::{after, next_word, quadruple, single};
-use dns_name::NoMemory;
+use dns_record::NoMemory;
 use dns_text::{decimal_in, octets_in, u8_in, u16_in};
 use std::alloc::Global;
 
@@ -27,29 +28,19 @@ pub(crate) fn by_turn_of(line: &[u8]) -> Option<bool>
 pub(crate) fn moment_of(line: &[u8]) -> Option<u64>
     ensures { result ≡ moment_line line.now }
 {
-    match after(line, b"moment") {
-        Some(rest) => match single(rest) {
-            Some(number) => decimal_in(number, u64::MAX),
-            None => None,
-        },
-        None => None,
-    }
+    let number = single(after(line, b"moment")?)?;
+    decimal_in(number, u64::MAX)
 }
 
 /// The depth of a `depth` line.
 pub(crate) fn depth_of(line: &[u8]) -> Option<u16>
     ensures { result ≡ depth_line line.now }
 {
-    match after(line, b"depth") {
-        Some(rest) => match single(rest) {
-            Some(number) => u16_in(number),
-            None => None,
-        },
-        None => None,
-    }
+    let number = single(after(line, b"depth")?)?;
+    u16_in(number)
 }
 
-/// Numbers of eight bits, as words.
+// Numbers of eight bits, as words.
 fn bytes_of(alloc: Global, rest: Option<&[u8]>) -> Result<Option<Vec<u8>>, NoMemory>
     ensures { IfOk result (λ all. option_map (λ v. v.items) all ≡ bytes_in (words_left (option_copied rest.entry))) }
 {
@@ -76,7 +67,7 @@ pub(crate) fn algorithms_of(alloc: Global, line: &[u8]) -> Result<Option<Vec<u8>
     }
 }
 
-/// An accepted signature of its words.
+// An accepted signature of its words.
 fn accept_of(
     alloc: Global,
     algorithm: &[u8],
@@ -110,14 +101,10 @@ impl LineForm for AcceptedSignature {
     ghost form = { accept_line };
 
     fn read(alloc: Global, line: &[u8]) -> Result<Option<AcceptedSignature>, NoMemory> {
-        match after(line, b"accept") {
-            Some(rest) => match quadruple(rest) {
-                Some((algorithm, key, bytes, signature)) => {
-                    accept_of(alloc, algorithm, key, bytes, signature)
-                }
-                None => Ok(None),
-            },
-            None => Ok(None),
-        }
+        let Some((algorithm, key, bytes, signature)) = after(line, b"accept").and_then(quadruple)
+        else {
+            return Ok(None);
+        };
+        accept_of(alloc, algorithm, key, bytes, signature)
     }
 }

@@ -1,3 +1,4 @@
+//! A text as lines that end with LF, each with its number.
 ghost use Rattle.std.specs.Prelude.{◌≡◌, ◌∷◌, ◌+◌, ◌<◌, ◌≤◌, ◌==◌, ◌^◌, [], false, length, take, position, MatchOption, IfSome};
 ghost use Rattle.std.specs.List.{list_any};
 ghost use Rattle.std.specs.Option.{option_map};
@@ -8,7 +9,7 @@ use std::marker::Model;
 /// How many bytes are looked at in one step while none of them is the one that is looked for.
 const BLOCK: usize = 64;
 
-/// Whether a byte of this value stands in a block. No branch looks at a byte, so that many are compared at once.
+// Whether a byte of this value stands in a block. No branch looks at a byte, so that many are compared at once.
 fn has_byte(block: &[u8], byte: u8) -> bool
     ensures { result ≡ list_any (λ b. b == byte) block.now }
 {
@@ -19,7 +20,7 @@ fn has_byte(block: &[u8], byte: u8) -> bool
     found
 }
 
-/// How many bytes in front, in whole blocks, have another value.
+// How many bytes in front, in whole blocks, have another value.
 fn count_before(text: &[u8], byte: u8) -> usize
     ensures within { result ≤ length text.now }
     ensures others { list_any (λ b. b == byte) (take result text.now) ≡ false }
@@ -31,7 +32,7 @@ fn count_before(text: &[u8], byte: u8) -> usize
     count
 }
 
-/// Where a byte of this value stands first, looked for byte by byte.
+// Where a byte of this value stands first, looked for byte by byte.
 fn near_place(text: &[u8], byte: u8) -> Option<usize>
     ensures value { result ≡ position (λ b. b == byte) text.now }
     ensures within { IfSome result (λ at. at < length text.now) }
@@ -39,16 +40,14 @@ fn near_place(text: &[u8], byte: u8) -> Option<usize>
     text.iter().position(|b| *b == byte)
 }
 
-/// Where a byte of this value stands first.
+// Where a byte of this value stands first.
 fn place_of(text: &[u8], byte: u8) -> Option<usize>
     ensures value { result ≡ position (λ b. b == byte) text.now }
     ensures within { IfSome result (λ at. at < length text.now) }
 {
     let count = count_before(text, byte);
-    match near_place(&text[count..], byte) {
-        Some(at) => Some(count + at),
-        None => None,
-    }
+    let at = near_place(&text[count..], byte)?;
+    Some(count + at)
 }
 
 /// The bytes before the first byte of a value, and those after it.
@@ -57,10 +56,8 @@ pub(crate) fn cut_at(text: &[u8], byte: u8) -> Option<(&[u8], &[u8])>
         (λ x. pieces byte text.now ≡ x.0.now ∷ pieces byte x.1.now) }
     ensures shorter { IfSome result (λ x. length x.0.now + 1 + length x.1.now ≡ length text.now) }
 {
-    match place_of(text, byte) {
-        Some(at) => Some((&text[..at], &text[at + 1..])),
-        None => None,
-    }
+    let at = place_of(text, byte)?;
+    Some((&text[..at], &text[at + 1..]))
 }
 
 /// The lines of a text from a place on.
@@ -106,13 +103,9 @@ impl<'a> Lines<'a> {
         ensures next { option_map (λ x. (x.0.now, x.1)) result ≡ next_line self.now }
         ensures short { IfSome result (λ x. length x.0.now < 2 ^ 32) }
     {
-        match cut_at(self.rest, b'\n') {
-            Some((line, rest)) => {
-                let number = self.number + 1;
-                Some((line, Lines { number, rest }))
-            }
-            None => None,
-        }
+        let (line, rest) = cut_at(self.rest, b'\n')?;
+        let number = self.number + 1;
+        Some((line, Lines { number, rest }))
     }
 
     /// No bytes are left.

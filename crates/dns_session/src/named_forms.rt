@@ -1,3 +1,4 @@
+//! The forms of lines with a name: questions and trusted keys.
 ghost use Rattle.std.specs.Prelude.{◌≡◌, IfOk};
 ghost use Rattle.dns_session.specs.Lines.{question_in, anchor_line, query_line};
 ghost use Rattle.dns_session.specs.LineFields.{anchor_in};
@@ -5,8 +6,7 @@ ghost use Rattle.dns_session.specs.LineFields.{anchor_in};
 use crate::form::LineForm;
 use crate::session::Anchor;
 use crate::words::{after, double, triple};
-use dns_name::NoMemory;
-use dns_record::{DNSClass, Query};
+use dns_record::{DNSClass, NoMemory, Query};
 use dns_text::{name_word_in, octets_in, type_word_in, u8_in};
 use std::alloc::Global;
 
@@ -31,7 +31,7 @@ pub fn question_of(
     }))
 }
 
-/// A trusted key by its words.
+// A trusted key by its words.
 fn anchor_of(
     alloc: Global,
     name: &[u8],

@@ -1,3 +1,4 @@
+//! Reading a session, line after line.
 ghost use Rattle.std.specs.Prelude.{◌≡◌, ◌<◌, ◌^◌, length};
 ghost use Rattle.dns_session.specs.LinePlaces.{one, optional, Place};
 ghost use Rattle.dns_session.specs.Lines.{header_line, moment_line, depth_line, algorithms_line, query_line, end_line};
@@ -13,96 +14,74 @@ use crate::stop::SessionStop;
 use dns_record::Query;
 use std::alloc::Global;
 
-/// Whether replies are served by turn, and the lines after the first.
+// Whether replies are served by turn, and the lines after the first.
 #[tactic(auto, unfolding(crate::specs::LinePlaces::one))]
 fn one_header<'a>(lines: Lines<'a>) -> Result<(bool, Lines<'a>), SessionStop>
     ensures { ReadsAs (λ x. x) result (one header_line lines.entry) }
 {
     let bad = SessionStop::BadLine(lines.number());
-    match lines.next() {
-        Some((line, after)) => match by_turn_of(line) {
-            Some(by_turn) => Ok((by_turn, after)),
-            None => Err(bad),
-        },
-        None => Err(bad),
-    }
+    let (line, after) = lines.next().ok_or(bad)?;
+    let by_turn = by_turn_of(line).ok_or(bad)?;
+    Ok((by_turn, after))
 }
 
-/// The moment, and the lines after it.
+// The moment, and the lines after it.
 #[tactic(auto, unfolding(crate::specs::LinePlaces::one))]
 fn one_moment<'a>(lines: Lines<'a>) -> Result<(u64, Lines<'a>), SessionStop>
     ensures { ReadsAs (λ x. x) result (one moment_line lines.entry) }
 {
     let bad = SessionStop::BadLine(lines.number());
-    match lines.next() {
-        Some((line, after)) => match moment_of(line) {
-            Some(moment) => Ok((moment, after)),
-            None => Err(bad),
-        },
-        None => Err(bad),
-    }
+    let (line, after) = lines.next().ok_or(bad)?;
+    let moment = moment_of(line).ok_or(bad)?;
+    Ok((moment, after))
 }
 
-/// The depth, where the next line says one, and the lines after it.
+// The depth, where the next line says one, and the lines after it.
 #[tactic(auto, unfolding(crate::specs::LinePlaces::optional))]
 fn optional_depth<'a>(lines: Lines<'a>) -> (Option<u16>, Lines<'a>)
     ensures { result ≡ optional depth_line lines.entry }
 {
-    match lines.next() {
-        Some((line, after)) => match depth_of(line) {
-            Some(depth) => (Some(depth), after),
-            None => (None, lines),
-        },
-        None => (None, lines),
+    if let Some((line, after)) = lines.next()
+        && let Some(depth) = depth_of(line)
+    {
+        return (Some(depth), after);
     }
+    (None, lines)
 }
 
-/// The supported algorithms, and the lines after them.
+// The supported algorithms, and the lines after them.
 #[tactic(auto, unfolding(crate::specs::LinePlaces::one))]
 fn one_algorithms<'a>(alloc: Global, lines: Lines<'a>) -> Result<(Vec<u8>, Lines<'a>), SessionStop>
     ensures { ReadsAs (λ x. (x.0.items, x.1)) result (one algorithms_line lines.entry) }
 {
     let bad = SessionStop::BadLine(lines.number());
-    match lines.next() {
-        Some((line, after)) => match algorithms_of(alloc, line)? {
-            Some(algorithms) => Ok((algorithms, after)),
-            None => Err(bad),
-        },
-        None => Err(bad),
-    }
+    let (line, after) = lines.next().ok_or(bad)?;
+    let algorithms = algorithms_of(alloc, line)?.ok_or(bad)?;
+    Ok((algorithms, after))
 }
 
-/// The query, and the lines after it.
+// The query, and the lines after it.
 #[tactic(auto, unfolding(crate::specs::LinePlaces::one))]
 fn one_query<'a>(alloc: Global, lines: Lines<'a>) -> Result<(Query, Lines<'a>), SessionStop>
     ensures { ReadsAs (λ x. x) result (one query_line lines.entry) }
 {
     let bad = SessionStop::BadLine(lines.number());
-    match lines.next() {
-        Some((line, after)) => match query_of(alloc, line)? {
-            Some(query) => Ok((query, after)),
-            None => Err(bad),
-        },
-        None => Err(bad),
-    }
+    let (line, after) = lines.next().ok_or(bad)?;
+    let query = query_of(alloc, line)?.ok_or(bad)?;
+    Ok((query, after))
 }
 
-/// The lines after the last of the form.
+// The lines after the last of the form.
 #[tactic(auto, unfolding(crate::specs::LinePlaces::one))]
 fn after_end<'a>(lines: Lines<'a>) -> Result<Lines<'a>, SessionStop>
     ensures { ReadsAs (λ (after : Place). (tt, after)) result (one end_line lines.entry) }
 {
     let bad = SessionStop::BadLine(lines.number());
-    match lines.next() {
-        Some((line, after)) => {
-            if line == b"end".as_slice() {
-                Ok(after)
-            } else {
-                Err(bad)
-            }
-        }
-        None => Err(bad),
+    let (line, after) = lines.next().ok_or(bad)?;
+    if line != b"end".as_slice() {
+        return Err(bad);
     }
+    Ok(after)
 }
 
 /// The session that the next lines are, and the lines after its last. Lines end with LF, words are separated by one space.
@@ -144,10 +123,8 @@ pub fn read_session(alloc: Global, bytes: &[u8]) -> Result<Session, SessionStop>
     ensures { ReadsAs (λ s. s) result (session_of bytes.now) }
 {
     let (session, lines) = read_front(alloc, Lines::of(bytes))?;
-    if lines.is_ended() {
-        Ok(session)
-    } else {
-        drop(session);
-        Err(SessionStop::BadLine(lines.number()))
+    if !lines.is_ended() {
+        return Err(SessionStop::BadLine(lines.number()));
     }
+    Ok(session)
 }

@@ -1,3 +1,4 @@
+//! What an upstream says to a question.
 use dns_message::{DecodeError, Message};
 use dns_record::Query;
 use std::marker::Model;
@@ -16,10 +17,10 @@ pub enum ReplyFault {
 /// What comes in reply.
 #[derive(Drop)]
 pub enum ReplyKind {
-    /// A message, or why the bytes are none. It is never want of memory.
+    /// A message, or why the bytes are none. It is never that memory ran out.
     Message(Result<Message, DecodeError>),
     /// A message that comes as an error where it tells of a failure or that there are no such records (RFC 2308, 2); or why the
-    /// bytes are none. It is never want of memory.
+    /// bytes are none. It is never that memory ran out.
     Empty(Result<Message, DecodeError>),
     /// No message.
     Fault(ReplyFault),

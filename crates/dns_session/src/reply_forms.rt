@@ -1,3 +1,4 @@
+//! The forms of lines that say what an upstream replies.
 ghost use Rattle.std.specs.Prelude.{◌≡◌, ◌<◌, ◌^◌, length, IfOk};
 ghost use Rattle.std.specs.Option.{option_map};
 ghost use Rattle.dns_session.specs.Lines.{three_after, message_word_in, message_after, fault_word_in, fault_line, upstream_line};
@@ -7,22 +8,18 @@ use crate::named_forms::question_of;
 use crate::reply::{ReplyFault, ReplyKind, SessionReply};
 use crate::words::{after, triple};
 use dns_message::{DecodeError, DecodeKind, Message};
-use dns_name::NoMemory;
-use dns_record::Query;
+use dns_record::{NoMemory, Query};
 use dns_text::octets_in;
 use std::alloc::Global;
 
-/// The three words after the first, where that is this word.
+// The three words after the first, where that is this word.
 fn three_after<'a>(line: &'a [u8], word: &[u8]) -> Option<(&'a [u8], &'a [u8], &'a [u8])>
     ensures { option_map (λ x. (x.0.now, x.1.now, x.2.now)) result ≡ three_after word.now line.now }
 {
-    match after(line, word) {
-        Some(rest) => triple(rest),
-        None => None,
-    }
+    triple(after(line, word)?)
 }
 
-/// The message that a word's bytes are, or why they are none.
+// The message that a word's bytes are, or why they are none.
 fn message_of(alloc: Global, word: &[u8]) -> Result<Option<Result<Message, DecodeError>>, NoMemory>
     requires { length word.now < 2 ^ 32 }
     ensures { IfOk result (λ m. m ≡ message_word_in word.now) }
@@ -43,7 +40,7 @@ fn message_of(alloc: Global, word: &[u8]) -> Result<Option<Result<Message, Decod
     }
 }
 
-/// A question and a message, by their words after this one.
+// A question and a message, by their words after this one.
 fn message_after(
     alloc: Global,
     line: &[u8],
@@ -64,7 +61,7 @@ fn message_after(
     Ok(Some((query, message)))
 }
 
-/// The fault that a word names.
+// The fault that a word names.
 fn fault_in(word: &[u8]) -> Option<ReplyFault>
     ensures { result ≡ fault_word_in word.now }
 {
@@ -79,7 +76,7 @@ fn fault_in(word: &[u8]) -> Option<ReplyFault>
     }
 }
 
-/// What a `fault` line says.
+// What a `fault` line says.
 fn fault_of(alloc: Global, line: &[u8]) -> Result<Option<SessionReply>, NoMemory>
     ensures { IfOk result (λ r. r ≡ fault_line line.now) }
 {

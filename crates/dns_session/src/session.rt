@@ -1,6 +1,6 @@
+//! What a session says.
 use crate::reply::SessionReply;
-use dns_name::{Name, Octets};
-use dns_record::Query;
+use dns_record::{Name, Octets, Query};
 use std::marker::Model;
 
 /// A key that is trusted without a proof, for the keys of its owner.

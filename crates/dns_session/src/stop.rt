@@ -1,8 +1,9 @@
+//! Why reading stops, and the line that names a bad line.
 ghost use Rattle.std.specs.Prelude.{◌≡◌, IfOk};
 ghost use Rattle.dns_session.specs.Stops.{bad_line_text};
 ghost use Rattle.dns_session.specs.declared.stop.SessionStop.TheVariants.{NoMemory as no_memory};
 
-use dns_name::NoMemory;
+use dns_record::NoMemory;
 use dns_text::push_decimal;
 use std::alloc::{AllocFailed, Global};
 

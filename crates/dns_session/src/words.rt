@@ -1,3 +1,4 @@
+//! A line as words with one space between each two.
 ghost use Rattle.std.specs.Prelude.{◌≡◌, ◌∷◌, ◌+◌, ◌<◌, length, IfSome};
 ghost use Rattle.std.specs.Option.{option_map, option_copied};
 ghost use Rattle.dns_session.specs.Lines.{words, words_left, after, single, double, triple, quadruple};
@@ -27,15 +28,10 @@ pub fn after<'a>(line: &'a [u8], word: &[u8]) -> Option<Option<&'a [u8]>>
 pub fn single(rest: Option<&[u8]>) -> Option<&[u8]>
     ensures { option_copied result ≡ single (words_left (option_copied rest.entry)) }
 {
-    match rest {
-        Some(text) => {
-            let (word, more) = next_word(text);
-            match more {
-                Some(_) => None,
-                None => Some(word),
-            }
-        }
-        None => None,
+    let (word, more) = next_word(rest?);
+    match more {
+        Some(_) => None,
+        None => Some(word),
     }
 }
 
@@ -43,32 +39,18 @@ pub fn single(rest: Option<&[u8]>) -> Option<&[u8]>
 pub fn double(rest: Option<&[u8]>) -> Option<(&[u8], &[u8])>
     ensures { option_map (λ x. (x.0.now, x.1.now)) result ≡ double (words_left (option_copied rest.entry)) }
 {
-    match rest {
-        Some(text) => {
-            let (first, more) = next_word(text);
-            match single(more) {
-                Some(second) => Some((first, second)),
-                None => None,
-            }
-        }
-        None => None,
-    }
+    let (first, more) = next_word(rest?);
+    let second = single(more)?;
+    Some((first, second))
 }
 
 /// The three words that are left.
 pub fn triple(rest: Option<&[u8]>) -> Option<(&[u8], &[u8], &[u8])>
     ensures { option_map (λ x. (x.0.now, x.1.now, x.2.now)) result ≡ triple (words_left (option_copied rest.entry)) }
 {
-    match rest {
-        Some(text) => {
-            let (first, more) = next_word(text);
-            match double(more) {
-                Some((second, third)) => Some((first, second, third)),
-                None => None,
-            }
-        }
-        None => None,
-    }
+    let (first, more) = next_word(rest?);
+    let (second, third) = double(more)?;
+    Some((first, second, third))
 }
 
 /// The four words that are left.
@@ -76,14 +58,7 @@ pub fn quadruple(rest: Option<&[u8]>) -> Option<(&[u8], &[u8], &[u8], &[u8])>
     ensures { option_map (λ x. (x.0.now, x.1.now, x.2.now, x.3.now)) result
         ≡ quadruple (words_left (option_copied rest.entry)) }
 {
-    match rest {
-        Some(text) => {
-            let (first, more) = next_word(text);
-            match triple(more) {
-                Some((second, third, fourth)) => Some((first, second, third, fourth)),
-                None => None,
-            }
-        }
-        None => None,
-    }
+    let (first, more) = next_word(rest?);
+    let (second, third, fourth) = triple(more)?;
+    Some((first, second, third, fourth))
 }

@@ -21,7 +21,9 @@ use Rattle.dns_trust.specs.Anchoring.{with_anchor}
 use Rattle.dns_evidence.proofs.Alike.{entry_same}
 use Rattle.dns_session.specs.SessionValue.{SessionValue}
 use Rattle.dns_session_lookup.specs.Adding.{with_algorithms, with_accepts, listed_by, with_anchors, trusted_by}
-use Rattle.dns_session_lookup.specs.Soundness.{listing, session_judge}
+use Rattle.dns_session_lookup.specs.Soundness.{session_judge}
+use Rattle.dns_session_lookup.specs.Verifying.{listing, session_answers}
+use Rattle.dns_session_lookup.specs.declared.verification.Verification.{Verification}
 use Rattle.dns_model.proofs.ViewSteps.{anchored_by}
 
 -- an element that doesn't count, or that is there already, may be left out of a test of a list
@@ -255,8 +257,8 @@ judged_by answers is_anchored now = record {
 }
 
 -- what a session's judge is made of is its own
-pub judge_plain : (s : SessionValue) (answers : keys.VerifierAnswers) (anchors : List AnchorValue)
-    → answers ≡ answers_of (listing s.algorithms s.accepts) → anchored anchors ≡ anchored s.anchors
-    → judge answers anchors s.moment ≡ session_judge s
+pub judge_plain : (how : Verification) (s : SessionValue) (answers : keys.VerifierAnswers) (anchors : List AnchorValue)
+    → answers ≡ session_answers how s → anchored anchors ≡ anchored s.anchors
+    → judge answers anchors s.moment ≡ session_judge how s
 unfolding judged_by
-judge_plain s answers anchors listed by = ap₂ (λ answers is_anchored. judged_by answers is_anchored s.moment) listed by
+judge_plain how s answers anchors listed by = ap₂ (λ answers is_anchored. judged_by answers is_anchored s.moment) listed by

@@ -23,7 +23,6 @@ use Rattle.dns_evidence.specs.declared.verifier.Verifier as verifier
 use Rattle.dns_cache.specs.CacheLists.{CountedList}
 use Rattle.dns_cache.specs.declared.validation_cache.ValidationCache as cache
 use Rattle.dns_recorded.specs.Recording.{RecordedValue, replies_of}
-use Rattle.dns_evidence.specs.Listing.{ListedValue, answers_of}
 use Rattle.dns_lookup.specs.declared.handle.DnssecDnsHandle.{DnssecDnsHandle}
 use Rattle.dns_lookup.specs.Calls.{Call, inner_of, anchors_of, verifier_of, iterations_of, cache_of, limits_of_call, call_of}
 use Rattle.dns_lookup.specs.Limiting.{default_iterations, default_entries, IsFresh}
@@ -33,7 +32,9 @@ use Rattle.dns_lookup.specs.Causes.{PassedOn, PassesOn, NamesForeign, ForeignNam
 use Rattle.dns_lookup.specs.LookupAnswers.{UnlessNoMemory, OfAnswer, IsSoundAnswer, IsTrail, HasMarksOfTrail, IsExplained, ShowsItsDenial, DeniesQuery}
 use Rattle.dns_session.specs.SessionValue.{SessionValue}
 use Rattle.dns_session_lookup.specs.Replies.{recorded, session_told}
-use Rattle.dns_session_lookup.specs.Soundness.{listing, session_judge, IsSound}
+use Rattle.dns_session_lookup.specs.Soundness.{session_judge, IsSound}
+use Rattle.dns_session_lookup.specs.Verifying.{session_answers}
+use Rattle.dns_session_lookup.specs.declared.verification.Verification.{Verification}
 use Rattle.dns_session_lookup.specs.Answering.{recorded_by, session_replies, session_depth, session_limits, IsSessionTrail, IsSessionAnswer}
 use Rattle.dns_session_lookup.specs.Causes.{HasNoMessage, FaultCause, NoMessage, OtherClass, NotDenied, AnswersSession}
 use Rattle.dns_session_lookup.proofs.JudgeLemmas.{judge_plain}
@@ -44,8 +45,8 @@ abbrev limits_by : ℕ → IterationLimits → Limits
 limits_by depth iterations = record { depth = depth; soft = iterations.soft; hard = iterations.hard }
 
 -- the lookup that a session asks for
-pub record IsSessionCall {H : Type 0} (meanings : handle.Ghosts H) (s : SessionValue) (call : Call H) : Type 0 where
-  pub judge : call.judge ≡ session_judge s
+pub record IsSessionCall {H : Type 0} (how : Verification) (meanings : handle.Ghosts H) (s : SessionValue) (call : Call H) : Type 0 where
+  pub judge : call.judge ≡ session_judge how s
   pub query : call.query ≡ s.query
   pub limits : limits_of_call call ≡ session_limits s
   pub moment : call.now ≡ s.moment
@@ -54,10 +55,10 @@ pub record IsSessionCall {H : Type 0} (meanings : handle.Ghosts H) (s : SessionV
 
 -- ---- its trail, its soundness
 
-pub session_trail : {H : Type 0} (meanings : handle.Ghosts H) (s : SessionValue) (call : Call H)
+pub session_trail : {H : Type 0} (how : Verification) (meanings : handle.Ghosts H) (s : SessionValue) (call : Call H)
     (trail : List AskedValue) (ending : EndingValue)
-    → IsSessionCall meanings s call → IsTrail meanings call trail ending → IsSessionTrail s trail ending
-session_trail meanings s call trail ending c is = record {
+    → IsSessionCall how meanings s call → IsTrail meanings call trail ending → IsSessionTrail how s trail ending
+session_trail how meanings s call trail ending c is = record {
   derived =
       ap (λ j. derivation j (session_limits s) [] trail) (sym c.judge)
       ∙ ap (λ limits. derivation call.judge limits [] trail) (sym c.limits)
@@ -72,10 +73,10 @@ session_trail meanings s call trail ending c is = record {
 }
 
 -- a fact of what the upstream tells and of the query is one of the session's
-at_session : {H : Type 0} (meanings : handle.Ghosts H) (s : SessionValue) (call : Call H)
+at_session : {H : Type 0} (how : Verification) (meanings : handle.Ghosts H) (s : SessionValue) (call : Call H)
     (Fact : Option Replies → Question → Type 0)
-    → IsSessionCall meanings s call → Fact (meanings.told call.old) call.query → Fact (Some (session_replies s)) s.query
-at_session meanings s call Fact c fact =
+    → IsSessionCall how meanings s call → Fact (meanings.told call.old) call.query → Fact (Some (session_replies s)) s.query
+at_session how meanings s call Fact c fact =
     subst (λ told. Fact told s.query) c.told (subst (λ q. Fact (meanings.told call.old) q) c.query fact)
 
 -- what was heard was told
@@ -92,10 +93,10 @@ told_heard f told q reply answer x is told_is silent heard = elim is [
     none_heard : None ≡ Some x → ⊥
     none_heard h = cc
 
-session_sound : {H : Type 0} (meanings : handle.Ghosts H) (s : SessionValue) (call : Call H) (a : ResponseValue)
-    → IsSessionCall meanings s call → IsSoundAnswer meanings call a → IsSound s a
-session_sound meanings s call a c is =
-    let told = at_session meanings s call (λ told q. ReplyIsTold told (Some q) is.reply) c is.made.told in
+session_sound : {H : Type 0} (how : Verification) (meanings : handle.Ghosts H) (s : SessionValue) (call : Call H) (a : ResponseValue)
+    → IsSessionCall how meanings s call → IsSoundAnswer meanings call a → IsSound how s a
+session_sound how meanings s call a c is =
+    let told = at_session how meanings s call (λ told q. ReplyIsTold told (Some q) is.reply) c is.made.told in
     record {
       message = is.message;
       told =
@@ -118,13 +119,13 @@ pub record SaysOf {H : Type 0} (meanings : handle.Ghosts H) (call : Call H) (ans
   pub caused : HasItsCause meanings call answer
 
 -- a response of the call is one of the session
-session_response : {H : Type 0} (meanings : handle.Ghosts H) (s : SessionValue) (call : Call H) (a : ResponseValue)
+session_response : {H : Type 0} (how : Verification) (meanings : handle.Ghosts H) (s : SessionValue) (call : Call H) (a : ResponseValue)
     (ending : EndingValue)
-    → IsSessionCall meanings s call → IsSoundAnswer meanings call a → IsTrail meanings call a.trail ending
-    → IsExplained call.judge.answers call.cache.before call.now a → IsSessionAnswer s a ending
-session_response meanings s call a ending c sound trail explained = record {
-  sound = session_sound meanings s call a c sound;
-  trail = session_trail meanings s call a.trail ending c trail;
+    → IsSessionCall how meanings s call → IsSoundAnswer meanings call a → IsTrail meanings call a.trail ending
+    → IsExplained call.judge.answers call.cache.before call.now a → IsSessionAnswer how s a ending
+session_response how meanings s call a ending c sound trail explained = record {
+  sound = session_sound how meanings s call a c sound;
+  trail = session_trail how meanings s call a.trail ending c trail;
   marks = subst (λ now. HasMarksOfTrail now a) c.moment explained.marks;
   grounds =
       subst (λ j. HasGrounds j.answers a.trail) c.judge
@@ -132,40 +133,40 @@ session_response meanings s call a ending c sound trail explained = record {
   denials = explained.denials;
 }
 
-session_answered : {H : Type 0} (meanings : handle.Ghosts H) (s : SessionValue) (call : Call H) (answer : Reply)
-    → IsSessionCall meanings s call → SaysOf meanings call answer → OfAnswer answer (IsSessionAnswer s)
-session_answered meanings s call (Ok a) c says =
-    session_response meanings s call a (Answered a.denial) c says.sound says.trail says.explained
-session_answered meanings s call (Err Busy) c says = tt
-session_answered meanings s call (Err (Dns (ResponseCode code))) c says = tt
-session_answered meanings s call (Err (Dns (NoRecordsFound missing))) c says = tt
-session_answered meanings s call (Err (Dns (Nsec asked response proof))) c says =
-    session_response meanings s call response (Denied proof) c says.sound says.trail says.explained
-session_answered meanings s call (Err (Dns DnssecBogus)) c says = tt
-session_answered meanings s call (Err (Message notice)) c says = tt
-session_answered meanings s call (Err (Msg text)) c says = tt
-session_answered meanings s call (Err NoConnections) c says = tt
-session_answered meanings s call (Err (Proto error)) c says = tt
-session_answered meanings s call (Err (Io kind)) c says = tt
-session_answered meanings s call (Err Timeout) c says = tt
-session_answered meanings s call (Err QueryCaseMismatch) c says = tt
-session_answered meanings s call (Err (ForeignClassRecord owner class rtype)) c says = tt
-session_answered meanings s call (Err Truncated) c says = tt
-session_answered meanings s call (Err seen.NoMemory) c says = tt
+session_answered : {H : Type 0} (how : Verification) (meanings : handle.Ghosts H) (s : SessionValue) (call : Call H) (answer : Reply)
+    → IsSessionCall how meanings s call → SaysOf meanings call answer → OfAnswer answer (IsSessionAnswer how s)
+session_answered how meanings s call (Ok a) c says =
+    session_response how meanings s call a (Answered a.denial) c says.sound says.trail says.explained
+session_answered how meanings s call (Err Busy) c says = tt
+session_answered how meanings s call (Err (Dns (ResponseCode code))) c says = tt
+session_answered how meanings s call (Err (Dns (NoRecordsFound missing))) c says = tt
+session_answered how meanings s call (Err (Dns (Nsec asked response proof))) c says =
+    session_response how meanings s call response (Denied proof) c says.sound says.trail says.explained
+session_answered how meanings s call (Err (Dns DnssecBogus)) c says = tt
+session_answered how meanings s call (Err (Message notice)) c says = tt
+session_answered how meanings s call (Err (Msg text)) c says = tt
+session_answered how meanings s call (Err NoConnections) c says = tt
+session_answered how meanings s call (Err (Proto error)) c says = tt
+session_answered how meanings s call (Err (Io kind)) c says = tt
+session_answered how meanings s call (Err Timeout) c says = tt
+session_answered how meanings s call (Err QueryCaseMismatch) c says = tt
+session_answered how meanings s call (Err (ForeignClassRecord owner class rtype)) c says = tt
+session_answered how meanings s call (Err Truncated) c says = tt
+session_answered how meanings s call (Err seen.NoMemory) c says = tt
 
 -- an Ok answer shows what it denies
-session_denies : {H : Type 0} (meanings : handle.Ghosts H) (s : SessionValue) (call : Call H) (answer : Reply)
-    → IsSessionCall meanings s call → SaysOf meanings call answer → IfOk answer (λ a. ShowsItsDenial s.moment s.query a)
-session_denies meanings s call answer c says =
+session_denies : {H : Type 0} (how : Verification) (meanings : handle.Ghosts H) (s : SessionValue) (call : Call H) (answer : Reply)
+    → IsSessionCall how meanings s call → SaysOf meanings call answer → IfOk answer (λ a. ShowsItsDenial s.moment s.query a)
+session_denies how meanings s call answer c says =
     subst (λ now. IfOk answer (λ a. ShowsItsDenial now s.query a)) c.moment
     (subst (λ q. IfOk answer (λ a. ShowsItsDenial call.now q a)) c.query says.denies)
 
 -- ---- the cause of an error
 
-passed_cause : {H : Type 0} (meanings : handle.Ghosts H) (s : SessionValue) (call : Call H) (e : ErrorValue)
-    → IsSessionCall meanings s call → e ≢ seen.NoMemory → PassedOn meanings call e → FaultCause s e
-passed_cause meanings s call e c own p =
-    elim (at_session meanings s call (λ told q. ReplyIsTold told (Some q) (Err e)) c p.made.told) [
+passed_cause : {H : Type 0} (how : Verification) (meanings : handle.Ghosts H) (s : SessionValue) (call : Call H) (e : ErrorValue)
+    → IsSessionCall how meanings s call → e ≢ seen.NoMemory → PassedOn meanings call e → FaultCause how s e
+passed_cause how meanings s call e c own p =
+    elim (at_session how meanings s call (λ told q. ReplyIsTold told (Some q) (Err e)) c p.made.told) [
       | inl memory ↦ absurd (own (err_same (Err e) e seen.NoMemory refl memory))
       | inr told ↦ NoMessage (no_message (sym (session_replied s) ∙ sym told))
     ]
@@ -173,10 +174,10 @@ passed_cause meanings s call e c own p =
     no_message : session_told s ≡ Err e → HasNoMessage s e
     no_message told = record { told = told; silent = ap received_message told ∙ p.silent }
 
-foreign_cause : {H : Type 0} (meanings : handle.Ghosts H) (s : SessionValue) (call : Call H) (e : ErrorValue)
-    → IsSessionCall meanings s call → NamesForeign meanings call e → FaultCause s e
-foreign_cause meanings s call e c names =
-    let told = at_session meanings s call (λ told q. ReplyIsTold told (Some q) names.reply) c names.made.told in
+foreign_cause : {H : Type 0} (how : Verification) (meanings : handle.Ghosts H) (s : SessionValue) (call : Call H) (e : ErrorValue)
+    → IsSessionCall how meanings s call → NamesForeign meanings call e → FaultCause how s e
+foreign_cause how meanings s call e c names =
+    let told = at_session how meanings s call (λ told q. ReplyIsTold told (Some q) names.reply) c names.made.told in
     OtherClass (record {
       records = names.records;
       first = names.first;
@@ -187,52 +188,52 @@ foreign_cause meanings s call e c names =
       named = names.named;
     })
 
-dns_cause : {H : Type 0} (meanings : handle.Ghosts H) (s : SessionValue) (call : Call H) (e : DnsErrorValue)
-    → IsSessionCall meanings s call → SaysOf meanings call (Err (Dns e)) → Dns e ≢ seen.NoMemory → FaultCause s (Dns e)
-dns_cause meanings s call (ResponseCode code) c says own =
-    passed_cause meanings s call _ c own (says.caused.passed _ refl refl)
-dns_cause meanings s call (NoRecordsFound missing) c says own =
-    passed_cause meanings s call _ c own (says.caused.passed _ refl refl)
-dns_cause meanings s call (Nsec asked response proof) c says own =
-    NotDenied response proof (session_answered meanings s call (Err (Dns (Nsec asked response proof))) c says)
+dns_cause : {H : Type 0} (how : Verification) (meanings : handle.Ghosts H) (s : SessionValue) (call : Call H) (e : DnsErrorValue)
+    → IsSessionCall how meanings s call → SaysOf meanings call (Err (Dns e)) → Dns e ≢ seen.NoMemory → FaultCause how s (Dns e)
+dns_cause how meanings s call (ResponseCode code) c says own =
+    passed_cause how meanings s call _ c own (says.caused.passed _ refl refl)
+dns_cause how meanings s call (NoRecordsFound missing) c says own =
+    passed_cause how meanings s call _ c own (says.caused.passed _ refl refl)
+dns_cause how meanings s call (Nsec asked response proof) c says own =
+    NotDenied response proof (session_answered how meanings s call (Err (Dns (Nsec asked response proof))) c says)
     (ap (λ q. Dns (Nsec q response proof)) ((says.denied asked response proof refl).0 ∙ c.query))
-dns_cause meanings s call DnssecBogus c says own = passed_cause meanings s call _ c own (says.caused.passed _ refl refl)
+dns_cause how meanings s call DnssecBogus c says own = passed_cause how meanings s call _ c own (says.caused.passed _ refl refl)
 
-error_cause : {H : Type 0} (meanings : handle.Ghosts H) (s : SessionValue) (call : Call H) (e : ErrorValue)
-    → IsSessionCall meanings s call → SaysOf meanings call (Err e)
-    → e ≢ seen.NoMemory → FaultCause s e
-error_cause meanings s call Busy c says own =
-    passed_cause meanings s call _ c own (says.caused.passed _ refl refl)
-error_cause meanings s call (Dns error) c says own = dns_cause meanings s call error c says own
-error_cause meanings s call (Message notice) c says own =
-    passed_cause meanings s call _ c own (says.caused.passed _ refl refl)
-error_cause meanings s call (Msg text) c says own =
-    passed_cause meanings s call _ c own (says.caused.passed _ refl refl)
-error_cause meanings s call NoConnections c says own =
-    passed_cause meanings s call _ c own (says.caused.passed _ refl refl)
-error_cause meanings s call (Proto error) c says own =
-    passed_cause meanings s call _ c own (says.caused.passed _ refl refl)
-error_cause meanings s call (Io kind) c says own =
-    passed_cause meanings s call _ c own (says.caused.passed _ refl refl)
-error_cause meanings s call Timeout c says own =
-    passed_cause meanings s call _ c own (says.caused.passed _ refl refl)
-error_cause meanings s call QueryCaseMismatch c says own =
-    passed_cause meanings s call _ c own (says.caused.passed _ refl refl)
-error_cause meanings s call (ForeignClassRecord owner class rtype) c says own =
+error_cause : {H : Type 0} (how : Verification) (meanings : handle.Ghosts H) (s : SessionValue) (call : Call H) (e : ErrorValue)
+    → IsSessionCall how meanings s call → SaysOf meanings call (Err e)
+    → e ≢ seen.NoMemory → FaultCause how s e
+error_cause how meanings s call Busy c says own =
+    passed_cause how meanings s call _ c own (says.caused.passed _ refl refl)
+error_cause how meanings s call (Dns error) c says own = dns_cause how meanings s call error c says own
+error_cause how meanings s call (Message notice) c says own =
+    passed_cause how meanings s call _ c own (says.caused.passed _ refl refl)
+error_cause how meanings s call (Msg text) c says own =
+    passed_cause how meanings s call _ c own (says.caused.passed _ refl refl)
+error_cause how meanings s call NoConnections c says own =
+    passed_cause how meanings s call _ c own (says.caused.passed _ refl refl)
+error_cause how meanings s call (Proto error) c says own =
+    passed_cause how meanings s call _ c own (says.caused.passed _ refl refl)
+error_cause how meanings s call (Io kind) c says own =
+    passed_cause how meanings s call _ c own (says.caused.passed _ refl refl)
+error_cause how meanings s call Timeout c says own =
+    passed_cause how meanings s call _ c own (says.caused.passed _ refl refl)
+error_cause how meanings s call QueryCaseMismatch c says own =
+    passed_cause how meanings s call _ c own (says.caused.passed _ refl refl)
+error_cause how meanings s call (ForeignClassRecord owner class rtype) c says own =
     elim (says.caused.foreign owner class rtype refl) [
-      | inl p ↦ passed_cause meanings s call _ c own p
-      | inr names ↦ foreign_cause meanings s call _ c names
+      | inl p ↦ passed_cause how meanings s call _ c own p
+      | inr names ↦ foreign_cause how meanings s call _ c names
     ]
-error_cause meanings s call Truncated c says own =
-    passed_cause meanings s call _ c own (says.caused.passed _ refl refl)
-error_cause meanings s call seen.NoMemory c says own = absurd (own refl)
+error_cause how meanings s call Truncated c says own =
+    passed_cause how meanings s call _ c own (says.caused.passed _ refl refl)
+error_cause how meanings s call seen.NoMemory c says own = absurd (own refl)
 
-session_caused : {H : Type 0} (meanings : handle.Ghosts H) (s : SessionValue) (call : Call H) (answer : Reply)
-    → IsSessionCall meanings s call → SaysOf meanings call answer → (e : ErrorValue) → answer ≡ Err e
+session_caused : {H : Type 0} (how : Verification) (meanings : handle.Ghosts H) (s : SessionValue) (call : Call H) (answer : Reply)
+    → IsSessionCall how meanings s call → SaysOf meanings call answer → (e : ErrorValue) → answer ≡ Err e
     → e ≢ seen.NoMemory
-    → FaultCause s e
-session_caused meanings s call answer c says e is own =
-    error_cause meanings s call e c (subst (λ x. SaysOf meanings call x) is says) own
+    → FaultCause how s e
+session_caused how meanings s call answer c says e is own =
+    error_cause how meanings s call e c (subst (λ x. SaysOf meanings call x) is says) own
 
 -- ---- the whole
 
@@ -259,54 +260,53 @@ all_known told q (Err e) (inr p) (inl memory) a = inl memory
 all_known told q (Err e) (inr p) (inr f) (inl memory) = inl memory
 all_known told q (Err e) (inr p) (inr f) (inr a) = inr (record { passes = p; foreign = f; answers = a })
 
-session_known : {H : Type 0} (meanings : handle.Ghosts H) (s : SessionValue) (call : Call H) (answer : Reply)
-    → IsSessionCall meanings s call → SaysOf meanings call answer → Known (meanings.told call.old) call.query answer
-    → AnswersSession s answer
-session_known meanings s call answer c says given =
+session_known : {H : Type 0} (how : Verification) (meanings : handle.Ghosts H) (s : SessionValue) (call : Call H) (answer : Reply)
+    → IsSessionCall how meanings s call → SaysOf meanings call answer → Known (meanings.told call.old) call.query answer
+    → AnswersSession how s answer
+session_known how meanings s call answer c says given =
     let known : Known (Some (session_replies s)) s.query answer =
-    at_session meanings s call (λ told q. Known told q answer) c given in
+    at_session how meanings s call (λ told q. Known told q answer) c given in
     record {
-      answered = session_answered meanings s call answer c says;
-      denies = session_denies meanings s call answer c says;
-      caused = session_caused meanings s call answer c says;
+      answered = session_answered how meanings s call answer c says;
+      denies = session_denies how meanings s call answer c says;
+      caused = session_caused how meanings s call answer c says;
       passes = known.passes;
       foreign = known.foreign;
       answers = known.answers;
     }
 
 -- the answer to a session is that of its lookup
-pub answers_session : {H : Type 0} (meanings : handle.Ghosts H) (s : SessionValue) (call : Call H)
+pub answers_session : {H : Type 0} (how : Verification) (meanings : handle.Ghosts H) (s : SessionValue) (call : Call H)
     (result : Result ResponseValue NetError)
-    → IsSessionCall meanings s call → SaysOf meanings call (reply_of result)
+    → IsSessionCall how meanings s call → SaysOf meanings call (reply_of result)
     → UnlessNoMemory result (Known (meanings.told call.old) call.query (reply_of result))
-    → UnlessNoMemory result (AnswersSession s (reply_of result))
-answers_session meanings s call (Ok a) c says known = session_known meanings s call (Ok a) c says known
-answers_session meanings s call (Err e) c says (inl memory) = inl memory
-answers_session meanings s call (Err e) c says (inr known) =
-    inr (session_known meanings s call (reply_of (Err e)) c says known)
+    → UnlessNoMemory result (AnswersSession how s (reply_of result))
+answers_session how meanings s call (Ok a) c says known = session_known how meanings s call (Ok a) c says known
+answers_session how meanings s call (Err e) c says (inl memory) = inl memory
+answers_session how meanings s call (Err e) c says (inr known) =
+    inr (session_known how meanings s call (reply_of (Err e)) c says known)
 
 -- what a lookup answered, over the handle, the keys and the verifier that were made of a session
-module _ (meanings : handle.Ghosts RecordedValue) (tests : verifier.Ghosts ListedValue)
-    (caches : cache.Ghosts CountedList) (s : SessionValue) where
-  pub answers_looked : (old new : DnssecDnsHandle RecordedValue ListedValue CountedList) (q : Question)
+module _ {V : Type 0} (meanings : handle.Ghosts RecordedValue) (tests : verifier.Ghosts V)
+    (caches : cache.Ghosts CountedList) (how : Verification) (s : SessionValue) where
+  pub answers_looked : (old new : DnssecDnsHandle RecordedValue V CountedList) (q : Question)
       (options : DnsRequestOptions) (now : ℕ) (result : Result ResponseValue NetError)
       → meanings.told (inner_of old) ≡ Some (replies_of (inner_of old))
-      → tests.answers (verifier_of old) ≡ answers_of (verifier_of old)
       → inner_of old ≡ recorded_by s.by_turn s.replies → anchored (anchors_of old) ≡ anchored s.anchors
-      → answers_of (verifier_of old) ≡ answers_of (listing s.algorithms s.accepts) → q ≡ s.query
+      → tests.answers (verifier_of old) ≡ session_answers how s → q ≡ s.query
       → iterations_of old ≡ default_iterations → options ≡ record plain_options { max_request_depth = session_depth s }
       → now ≡ s.moment
       → caches.told (cache_of old) ≡ Some ((cache_of old).list) → (cache_of old).list ≡ default_entries
       → SaysOf meanings (call_of tests caches old new q options now) (reply_of result)
       → UnlessNoMemory result (Known (meanings.told (inner_of old)) q (reply_of result))
-      → UnlessNoMemory result (AnswersSession s (reply_of result))
-  answers_looked old new q options now result told tested over by listed asked counted deep timed tells empty says
+      → UnlessNoMemory result (AnswersSession how s (reply_of result))
+  answers_looked old new q options now result told over by verified asked counted deep timed tells empty says
       known =
-      answers_session meanings s (call_of tests caches old new q options now) result
+      answers_session how meanings s (call_of tests caches old new q options now) result
       (record {
         judge =
             ap (λ n. judge (tests.answers (verifier_of old)) (anchors_of old) n) timed
-            ∙ judge_plain s (tests.answers (verifier_of old)) (anchors_of old) (tested ∙ listed) by;
+            ∙ judge_plain how s (tests.answers (verifier_of old)) (anchors_of old) verified by;
         query = asked;
         limits =
             ap (λ (o : DnsRequestOptions). limits_by o.max_request_depth (iterations_of old)) deep

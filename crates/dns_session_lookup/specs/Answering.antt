@@ -12,6 +12,7 @@ use Rattle.dns_recorded.specs.Recording.{RecordedValue}
 use Rattle.dns_lookup.specs.Sends.{IsFromReplies}
 use Rattle.dns_lookup.specs.LookupAnswers.{HasMarksOfTrail}
 use Rattle.dns_session.specs.SessionValue.{ReplyValue, SessionValue}
+use Rattle.dns_session_lookup.specs.declared.verification.Verification.{Verification}
 use Rattle.dns_session_lookup.specs.Replies.{recorded}
 use Rattle.dns_session_lookup.specs.Soundness.{session_judge, IsSound}
 
@@ -31,10 +32,10 @@ session_depth s = unwrap_or s.depth plain_options.max_request_depth
 abbrev pub session_limits : SessionValue → Limits
 session_limits s = record { depth = session_depth s; soft = 100; hard = 500 }
 
--- a trail with this ending: a derivation by the session's keys, algorithms and accepted signatures at its moment, whose last
+-- a trail with this ending: a derivation by the session's keys and its verifier at its moment, whose last
 -- step has the session's query, and whose steps heard what the session replies, in the order of the sends
-pub record IsSessionTrail (s : SessionValue) (trail : List AskedValue) (ending : EndingValue) : Type 0 where
-  pub derived : derivation (session_judge s) (session_limits s) [] trail ≡ true
+pub record IsSessionTrail (how : Verification) (s : SessionValue) (trail : List AskedValue) (ending : EndingValue) : Type 0 where
+  pub derived : derivation (session_judge how s) (session_limits s) [] trail ≡ true
   pub top : AskedValue
   pub last : top_step trail ≡ Some top
   pub query : top.query ≡ s.query
@@ -43,9 +44,9 @@ pub record IsSessionTrail (s : SessionValue) (trail : List AskedValue) (ending :
 
 -- a sound answer with such a trail, whose last step has the answer's marks. In the trail what is Insecure has its ground, and each
 -- step that ends with an answer shows what it denies
-pub record IsSessionAnswer (s : SessionValue) (answer : ResponseValue) (ending : EndingValue) : Type 0 where
-  pub sound : IsSound s answer
-  pub trail : IsSessionTrail s answer.trail ending
+pub record IsSessionAnswer (how : Verification) (s : SessionValue) (answer : ResponseValue) (ending : EndingValue) : Type 0 where
+  pub sound : IsSound how s answer
+  pub trail : IsSessionTrail how s answer.trail ending
   pub marks : HasMarksOfTrail s.moment answer
-  pub grounds : HasGrounds (session_judge s).answers answer.trail
+  pub grounds : HasGrounds (session_judge how s).answers answer.trail
   pub denials : HasDenials answer.trail

@@ -9,6 +9,7 @@ use Rattle.dns_handle.specs.Errors.{Reply, ErrorValue, Dns, ForeignClassRecord, 
 use Rattle.dns_lookup.specs.LookupAnswers.{OfAnswer, ShowsItsDenial}
 use Rattle.dns_lookup.specs.Causes.{PassesOn, ForeignNamed, AnswersTold}
 use Rattle.dns_session.specs.SessionValue.{SessionValue}
+use Rattle.dns_session_lookup.specs.declared.verification.Verification.{Verification}
 use Rattle.dns_session_lookup.specs.Replies.{session_told, session_message, session_records}
 use Rattle.dns_session_lookup.specs.Answering.{session_replies, IsSessionAnswer}
 
@@ -27,19 +28,19 @@ pub record HasForeign (s : SessionValue) (error : ErrorValue) : Type 0 where
   pub named : error ≡ ForeignClassRecord first.owner first.class first.rtype
 
 -- why a session is answered with an error
-pub data FaultCause (s : SessionValue) (error : ErrorValue) : Type 0 where
-  NoMessage : HasNoMessage s error → FaultCause s error
-  OtherClass : HasForeign s error → FaultCause s error
+pub data FaultCause (how : Verification) (s : SessionValue) (error : ErrorValue) : Type 0 where
+  NoMessage : HasNoMessage s error → FaultCause how s error
+  OtherClass : HasForeign s error → FaultCause how s error
   -- an answer is refused, with this proof, by a trail that ends so
-  NotDenied : (response : ResponseValue) (proof : Proof) → IsSessionAnswer s response (Denied proof)
-      → error ≡ Dns (Nsec s.query response proof) → FaultCause s error
+  NotDenied : (response : ResponseValue) (proof : Proof) → IsSessionAnswer how s response (Denied proof)
+      → error ≡ Dns (Nsec s.query response proof) → FaultCause how s error
 
 -- a lookup of the session's query, over its replies, gives this answer: an answer has its trail and shows what it denies, an
 -- error has its cause, and each reply to the query its answer
-pub record AnswersSession (s : SessionValue) (answer : Reply) : Type 0 where
-  pub answered : OfAnswer answer (IsSessionAnswer s)
+pub record AnswersSession (how : Verification) (s : SessionValue) (answer : Reply) : Type 0 where
+  pub answered : OfAnswer answer (IsSessionAnswer how s)
   pub denies : IfOk answer (λ a. ShowsItsDenial s.moment s.query a)
-  pub caused : (error : ErrorValue) → answer ≡ Err error → error ≢ NoMemory → FaultCause s error
+  pub caused : (error : ErrorValue) → answer ≡ Err error → error ≢ NoMemory → FaultCause how s error
   pub passes : PassesOn (Some (session_replies s)) s.query answer
   pub foreign : ForeignNamed (Some (session_replies s)) s.query answer
   pub answers : AnswersTold (Some (session_replies s)) s.query answer

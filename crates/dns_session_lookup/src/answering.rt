@@ -1,25 +1,22 @@
 //! The lookup that a session asks for, and what it is made of: an upstream, a verifier and trusted keys.
-ghost use Rattle.std.specs.Prelude.{◌≡◌, [], unwrap_or, IfOk, OnOk};
+ghost use Rattle.std.specs.Prelude.{◌≡◌, [], unwrap_or, IfOk};
 ghost use Rattle.dns_model.specs.Keys.{anchored};
 ghost use Rattle.dns_handle.specs.Replies.{reply_of};
 ghost use Rattle.dns_handle.specs.Requests.{plain_options};
-ghost use Rattle.dns_evidence.specs.Listing.{answers_of};
 ghost use Rattle.dns_lookup.specs.Calls.{inner_of, anchors_of, verifier_of, iterations_of, cache_of, ranges_of};
 ghost use Rattle.dns_lookup.specs.Limiting.{default_iterations, default_entries, default_ranges};
 ghost use Rattle.dns_lookup.specs.LookupAnswers.{UnlessNoMemory};
-ghost use Rattle.dns_session_lookup.specs.Adding.{with_algorithms, with_accepts};
 ghost use Rattle.dns_session_lookup.specs.Answering.{recorded_by, session_depth};
 ghost use Rattle.dns_session_lookup.specs.Causes.{AnswersSession};
-ghost use Rattle.dns_session_lookup.specs.Soundness.{listing};
+ghost use Rattle.dns_session_lookup.specs.Verifying.{session_answers, verifier_answers};
 
 use crate::replies::reply_from;
-use dns_evidence::Listed;
+use crate::verification::{SessionVerifier, Verification, session_verifier};
 use dns_handle::{DnsRequestOptions, DnsResponse, NetError};
 use dns_lookup::DnssecDnsHandle;
-use dns_name::NoMemory;
-use dns_record::Query;
+use dns_record::{NoMemory, Query};
 use dns_recorded::Recorded;
-use dns_session::{AcceptedSignature, Anchor, Session, SessionReply};
+use dns_session::{Anchor, Session, SessionReply};
 use dns_trust::TrustAnchors;
 use std::alloc::Global;
 
@@ -27,7 +24,7 @@ use std::alloc::Global;
 #[derive(Drop)]
 pub struct SessionLookup {
     /// Over the session's upstream, with its verifier and the keys that it trusts.
-    pub validator: DnssecDnsHandle<Recorded, Listed>,
+    pub validator: DnssecDnsHandle<Recorded, SessionVerifier>,
     /// What is looked up.
     pub query: Query,
     /// They ask for nothing but the session's depth.
@@ -36,28 +33,34 @@ pub struct SessionLookup {
     pub moment: u64,
 }
 
-/// What a session's query is answered, with options that ask for nothing but the session's depth, and at its moment.
-pub fn session_answer(alloc: Global, session: Session) -> Result<DnsResponse, NetError>
-    ensures { UnlessNoMemory result (AnswersSession session (reply_of result)) }
+/// What a session's query is answered, with options that ask for nothing but the session's depth, and at its moment; `how` says how
+/// its signatures are verified.
+pub fn session_answer(
+    alloc: Global,
+    how: Verification,
+    session: Session,
+) -> Result<DnsResponse, NetError>
+    ensures { UnlessNoMemory result (AnswersSession how session (reply_of result)) }
 {
-    let made = session_lookup(alloc, session)?;
+    let made = session_lookup(alloc, how, session)?;
     let SessionLookup {
         mut validator,
         query,
         options,
         moment,
     } = made;
-    let answer = validator.lookup(alloc, query, options, moment);
-    drop(validator);
-    answer
+    validator.lookup(alloc, query, options, moment)
 }
 
-/// The lookup that a session asks for, before it is made.
-pub fn session_lookup(alloc: Global, session: Session) -> Result<SessionLookup, NoMemory>
+/// The lookup that a session asks for, before it is made; `how` says how its signatures are verified.
+pub fn session_lookup(
+    alloc: Global,
+    how: Verification,
+    session: Session,
+) -> Result<SessionLookup, NoMemory>
     ensures upstream { IfOk result (λ l. inner_of l.validator ≡ recorded_by session.by_turn session.replies) }
     ensures anchors { IfOk result (λ l. anchored (anchors_of l.validator) ≡ anchored session.anchors) }
-    ensures verifier { IfOk result (λ l. answers_of (verifier_of l.validator)
-        ≡ answers_of (listing session.algorithms session.accepts)) }
+    ensures verifier { IfOk result (λ l. verifier_answers (verifier_of l.validator) ≡ session_answers how session) }
     ensures iterations { IfOk result (λ l. iterations_of l.validator ≡ default_iterations) }
     ensures cache { IfOk result (λ l. cache_of l.validator ≡ record { list = default_entries; hits = 0 }) }
     ensures ranges { IfOk result (λ l. ranges_of l.validator ≡ default_ranges) }
@@ -76,7 +79,7 @@ pub fn session_lookup(alloc: Global, session: Session) -> Result<SessionLookup, 
         query,
         replies,
     } = session;
-    let verifier = session_verifier(alloc, &algorithms, accepts)?;
+    let verifier = session_verifier(alloc, how, &algorithms, accepts)?;
     let anchors = session_anchors(alloc, anchors)?;
     let upstream = session_upstream(alloc, by_turn, replies)?;
     let validator = DnssecDnsHandle::new(alloc, upstream, anchors, verifier)?;
@@ -129,20 +132,6 @@ pub fn session_upstream(
     Ok(handle)
 }
 
-/// The verifier that supports the algorithms and accepts the signatures that a session lists, algorithm 1 aside.
-pub fn session_verifier(
-    alloc: Global,
-    algorithms: &[u8],
-    accepts: Vec<AcceptedSignature>,
-) -> Result<Listed, NoMemory>
-    ensures { IfOk result (λ v. answers_of v ≡ answers_of (listing algorithms.now accepts.items)) }
-{
-    let mut verifier = Listed::new(alloc);
-    add_algorithms(&mut verifier, algorithms);
-    add_accepts(&mut verifier, accepts)?;
-    Ok(verifier)
-}
-
 /// The keys that a session trusts.
 #[tactic(auto, using(crate::proofs::JudgeLemmas::anchors_more), unfolding(crate::specs::Adding::with_anchors))]
 pub fn session_anchors(alloc: Global, anchors: Vec<Anchor>) -> Result<TrustAnchors, NoMemory>
@@ -158,33 +147,4 @@ pub fn session_anchors(alloc: Global, anchors: Vec<Anchor>) -> Result<TrustAncho
         trusted.insert_with_name(owner, algorithm, key)?;
     }
     Ok(trusted)
-}
-
-// Supports each algorithm.
-#[tactic(auto, unfolding(crate::specs::Adding::with_algorithms))]
-fn add_algorithms(verifier: &mut Listed, algorithms: &[u8])
-    ensures { verifier.new ≡ with_algorithms verifier.old algorithms.now }
-{
-    let mut left = algorithms;
-    'algorithms: while let Some((algorithm, more)) = left.split_first() {
-        verifier.support(*algorithm);
-        left = more;
-    }
-}
-
-// Accepts each signature.
-#[tactic(auto, using(crate::proofs::JudgeLemmas::accepts_more), unfolding(crate::specs::Adding::with_accepts))]
-fn add_accepts(verifier: &mut Listed, accepts: Vec<AcceptedSignature>) -> Result<(), NoMemory>
-    ensures { OnOk result (verifier.new ≡ with_accepts verifier.old accepts.items) }
-{
-    for next in accepts {
-        let AcceptedSignature {
-            algorithm,
-            key,
-            bytes,
-            signature,
-        } = next;
-        verifier.accept_octets(algorithm, key, bytes, signature)?;
-    }
-    Ok(())
 }

@@ -3,9 +3,13 @@
 #![tactic(auto)]
 
 mod answering;
+mod listing;
 mod replies;
+mod verification;
 
 pub use answering::{
     SessionLookup, session_anchors, session_answer, session_lookup, session_options,
-    session_upstream, session_verifier,
+    session_upstream,
 };
+pub use listing::listed_verifier;
+pub use verification::{SessionVerifier, Verification, session_verifier};

@@ -10,11 +10,11 @@ use dns_evidence::Trail;
 use dns_handle::{DnsError, DnsResponse, IoKind, NetError, ProtoError};
 use dns_message::{DecodeError, Message};
 use dns_model::Denial;
-use dns_name::NoMemory;
+use dns_record::NoMemory;
 use dns_session::{ReplyFault, ReplyKind};
 use std::alloc::Global;
 
-/// What an upstream answers with what comes in reply. The outer error is want of memory.
+/// What an upstream answers with what comes in reply. The outer error is that memory ran out.
 pub(crate) fn reply_from(
     alloc: Global,
     kind: ReplyKind,
@@ -49,10 +49,7 @@ fn response_with(alloc: Global, message: Message) -> DnsResponse
 fn answer_from(told: Result<DnsResponse, DnsError>) -> Result<DnsResponse, NetError>
     ensures { reply_of result ≡ answer_from (response_of told) }
 {
-    match told {
-        Ok(response) => Ok(response),
-        Err(error) => Err(NetError::Dns(error)),
-    }
+    told.map_err(NetError::Dns)
 }
 
 // The error of bytes that are no message.

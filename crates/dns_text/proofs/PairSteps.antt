@@ -21,7 +21,8 @@ pairs_are i (high ∷ low ∷ rest) =
     (pairs_are (i + 2) rest)
   where
     pair_is : (h l : Option ℕ) (r : Result (List ℕ) FromHexError) (o : Option (List ℕ)) → result_ok r ≡ o
-        → result_ok ((digit_or_error high i h >>= λ a. digit_or_error low (i + 1) l >>= λ b. Ok (a * 16 + b)) >>= λ byte. r >>= λ bytes. Ok (byte ∷ bytes))
+        → result_ok ((digit_or_error high i h >>= λ a. digit_or_error low (i + 1) l >>= λ b. Ok (a * 16 + b)) >>= λ byte.
+        r >>= λ bytes. Ok (byte ∷ bytes))
         ≡ with_pair h l o
     pair_is None l r o e = refl
     pair_is (Some a) None r o e = refl
@@ -71,7 +72,12 @@ pub pairs_step : (s out : List ℕ) (i worst high low : ℕ) → 2 * i + 1 < len
 unfolding pairs_in
 pairs_step s out i worst high low fits room e f inv =
     inv ∙ ap (λ t. finish worst (take i out) (pairs_in t)) (drop-pair s i fits)
-    ∙ rw (e, f, take_more_set out i (unwrap_or (hex_digit_value (slice_index s (2 * i))) 16 % 16 * 16 + unwrap_or (hex_digit_value (slice_index s (2 * i + 1))) 16 % 16) room)
+    ∙ rw (
+      e,
+      f,
+      take_more_set out i (unwrap_or (hex_digit_value (slice_index s (2 * i))) 16 % 16 * 16 + unwrap_or
+          (hex_digit_value (slice_index s (2 * i + 1))) 16 % 16) room,
+    )
     (pair_step worst (slice_index s (2 * i)) (slice_index s (2 * i + 1)) (take i out) (pairs_in (drop (2 * (i + 1)) s)) _ _ refl refl)
 
 -- nothing is read yet

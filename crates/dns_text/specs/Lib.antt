@@ -1,3 +1,4 @@
+-- Definitions of words: types and classes, numbers and bytes.
 pub mod Words
 pub mod Digits
 pub mod Codes

@@ -6,17 +6,16 @@ ghost use Rattle.dns_record.specs.Words.{class_rows, class_word, type_rows, type
 ghost use Rattle.dns_text.specs.Codes.{after_prefix, class_word_in, prefixed_in, type_word_in};
 
 use crate::{push_decimal, u16_in};
-use dns_name::NoMemory;
-use dns_record::{DNSClass, RecordType};
+use dns_record::{DNSClass, NoMemory, RecordType};
 
-/// What follows a prefix.
+// What follows a prefix.
 fn after_prefix<'a>(word: &'a [u8], prefix: &[u8]) -> Option<&'a [u8]>
     ensures { option_copied result ≡ after_prefix prefix.now word.now }
 {
     word.strip_prefix(prefix)
 }
 
-/// The number that `TYPE` and digits stand for, where the type has no word of its own.
+// The number that `TYPE` and digits stand for, where the type has no word of its own.
 fn prefixed_type(word: &[u8]) -> Option<u16>
     ensures { result ≡ prefixed_in type_rows (codes "TYPE") word.now }
 {
@@ -28,7 +27,7 @@ fn prefixed_type(word: &[u8]) -> Option<u16>
     }
 }
 
-/// The number that `CLASS` and digits stand for, where the class has no word of its own.
+// The number that `CLASS` and digits stand for, where the class has no word of its own.
 fn prefixed_class(word: &[u8]) -> Option<u16>
     ensures { result ≡ prefixed_in class_rows (codes "CLASS") word.now }
 {
@@ -45,13 +44,11 @@ fn prefixed_class(word: &[u8]) -> Option<u16>
 pub fn type_word_in(word: &[u8]) -> Option<RecordType>
     ensures { option_map (λ t. t.0) result ≡ type_word_in word.now }
 {
-    match RecordType::of_own_word(word) {
-        Some(record_type) => Some(record_type),
-        None => {
-            let number = prefixed_type(word)?;
-            Some(RecordType(number))
-        }
+    if let Some(record_type) = RecordType::of_own_word(word) {
+        return Some(record_type);
     }
+    let number = prefixed_type(word)?;
+    Some(RecordType(number))
 }
 
 /// The class that a word is: a class's own word, or `CLASS` and the number of a class without one. Case counts.
@@ -59,16 +56,14 @@ pub fn type_word_in(word: &[u8]) -> Option<RecordType>
 pub fn class_word_in(word: &[u8]) -> Option<DNSClass>
     ensures { option_map (λ c. c.0) result ≡ class_word_in word.now }
 {
-    match DNSClass::of_own_word(word) {
-        Some(class) => Some(class),
-        None => {
-            let number = prefixed_class(word)?;
-            Some(DNSClass(number))
-        }
+    if let Some(class) = DNSClass::of_own_word(word) {
+        return Some(class);
     }
+    let number = prefixed_class(word)?;
+    Some(DNSClass(number))
 }
 
-/// Puts a prefix and a number behind a text; the text stays where memory runs out.
+// Puts a prefix and a number behind a text; the text stays where memory runs out.
 fn push_prefixed(text: &mut Vec<u8>, prefix: &[u8], number: u16) -> Result<(), NoMemory>
     ensures ok { OnOk result (text.new.items ≡ text.old.items ++ (prefix.now ++ decimal number)) }
     ensures err { OnErr result (text.new.items ≡ text.old.items) }

@@ -1,3 +1,4 @@
+//! Numbers as decimal digits, read and written.
 ghost use Rattle.std.specs.Prelude.{◌≡◌, ◌++◌, ◌≤◌, ◌<◌, ◌^◌, ◌-◌, OnOk, OnErr, IfSome};
 ghost use Rattle.std.specs.Fmt.{decimal};
 ghost use Rattle.std.specs.Int.{IsInRange};
@@ -5,10 +6,10 @@ ghost use Rattle.std.specs.Option.{SomeIff, option_map};
 ghost use Rattle.dns_text.specs.Words.{is_unpadded, decimal_in};
 ghost use Rattle.dns_text.specs.Digits.{with_digit, read_after};
 
-use dns_name::NoMemory;
+use dns_record::NoMemory;
 use itoa::Buffer;
 
-/// The number with one more digit, if that is a number of 64 bits.
+// The number with one more digit, if that is a number of 64 bits.
 #[tactic(auto, unfolding(crate::specs::Digits::with_digit))]
 fn with_digit(number: u64, byte: u8) -> Option<u64>
     ensures { result ≡ with_digit number byte }
@@ -20,7 +21,7 @@ fn with_digit(number: u64, byte: u8) -> Option<u64>
     tenfold.checked_add(u64::from(byte - b'0'))
 }
 
-/// The number that digits are, if it has 64 bits; no digits are 0.
+// The number that digits are, if it has 64 bits; no digits are 0.
 #[tactic(auto, using(crate::proofs::DecimalLemmas::read_after_turn, crate::proofs::DecimalLemmas::read_after_end))]
 fn read_digits(word: &[u8]) -> Option<u64>
     ensures { result ≡ read_after 0 word.now }
@@ -32,7 +33,7 @@ fn read_digits(word: &[u8]) -> Option<u64>
     Some(number)
 }
 
-/// No zero stands before another digit.
+// No zero stands before another digit.
 fn is_unpadded(word: &[u8]) -> bool
     ensures { result ≡ is_unpadded word.now }
 {

@@ -1,3 +1,4 @@
+//! Pairs of hexadecimal digits as bytes.
 ghost use Rattle.std.specs.Prelude.{◌≡◌, ◌*◌, ◌%◌, ◌≤◌, Some, None, cond, length, unwrap_or, IfOk, vec_len};
 ghost use Rattle.std.specs.Option.{option_map};
 ghost use Rattle.hex.specs.Hex.{hex_digit_value};
@@ -5,7 +6,7 @@ ghost use Rattle.dns_text.specs.Pairs.{pairs_in};
 
 use std::alloc::{AllocError, Global};
 
-/// The value of a hexadecimal digit of either case; 16 for another byte.
+// The value of a hexadecimal digit of either case; 16 for another byte.
 fn digit_value(byte: u8) -> u8
     ensures value { result ≡ unwrap_or (hex_digit_value byte) 16 }
     ensures most { result ≤ 16 }
@@ -18,9 +19,9 @@ fn digit_value(byte: u8) -> u8
     }
 }
 
-/// Writes the bytes of pairs of hexadecimal digits, and answers whether all were digits. Where not, the bytes say nothing.
-///
-/// No branch looks at a digit: the processor would guess it wrong about every other time.
+// Writes the bytes of pairs of hexadecimal digits, and answers whether all were digits. Where not, the bytes say nothing.
+//
+// No branch looks at a digit: the processor would guess it wrong about every other time.
 fn decode_pairs(digits: &[u8], into: &mut [u8]) -> bool
     requires { length digits.now ≡ 2 * length into.old }
     ensures { pairs_in digits.now ≡ cond result (Some into.new) None }
@@ -35,7 +36,7 @@ fn decode_pairs(digits: &[u8], into: &mut [u8]) -> bool
     worst < 16
 }
 
-/// As many bytes, to be written over.
+// As many bytes, to be written over.
 fn room_for(alloc: Global, count: usize) -> Result<Vec<u8>, AllocError>
     ensures { IfOk result (λ room. vec_len room ≡ count) }
 {

@@ -1,8 +1,9 @@
+//! Bytes as words: hexadecimal digits, or `-` for none.
 ghost use Rattle.std.specs.Prelude.{◌≡◌, ◌++◌, ◌<◌, ◌≤◌, ◌^◌, IfOk, OnOk, OnErr};
 ghost use Rattle.dns_text.specs.Words.{octets_word, octets_in};
 
 use crate::digits::bytes_of_pairs;
-use dns_name::{NoMemory, Octets};
+use dns_record::{NoMemory, Octets};
 use std::alloc::Global;
 
 /// The bytes that a word is: two hexadecimal digits of either case for each, or `-` for none.
@@ -16,10 +17,8 @@ pub fn octets_in(alloc: Global, word: &[u8]) -> Result<Option<Octets>, NoMemory>
     if word.is_empty() || word.len() % 2 != 0 {
         return Ok(None);
     }
-    match bytes_of_pairs(alloc, word)? {
-        Some(bytes) => Ok(Some(Octets::from_vec(bytes))),
-        None => Ok(None),
-    }
+    let bytes = bytes_of_pairs(alloc, word)?;
+    Ok(bytes.map(Octets::from_vec))
 }
 
 /// Puts the word of bytes, in lower case, behind a text; the text stays where memory runs out.

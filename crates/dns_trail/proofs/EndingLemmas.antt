@@ -53,4 +53,5 @@ pub by_parts : (g : StepContext) (step : AskedValue) (told : Told) (o : Outcome)
 by_parts g step told (Given d) own = refl
 by_parts g step told (outcome.Denied proof) own = refl
 by_parts g step told NeedsZone own =
-    ap (λ q. option_map_or (λ zone. ending_eq (ending_by (outcome_by_zone q told zone)) step.ending) (search_from g q.class (question_start q) step.excuse) false) own
+    ap (λ q. option_map_or (λ zone. ending_eq (ending_by (outcome_by_zone q told zone)) step.ending)
+    (search_from g q.class (question_start q) step.excuse) false) own

@@ -66,7 +66,8 @@ none_step b x h = sym (ap (λ c. some_if c x) h)
 keys_by : (g : StepContext) (placed : PlacedSet) (entry : JudgedSetValue) → needs_ds g.judge placed.set ≡ false
     → keys_hold g placed entry ≡ (is_empty entry.asked && has_mark_of (judged_keys g.judge placed None) entry)
 keys_by g placed entry done =
-    ap (λ b. if b then option_map_or (λ zone. has_mark_of (judged_keys g.judge placed (Some zone)) entry) (zone_asked g placed.set.class placed.set.owner entry.asked) false
+    ap (λ b. if b then option_map_or (λ zone. has_mark_of (judged_keys g.judge placed (Some zone)) entry)
+    (zone_asked g placed.set.class placed.set.owner entry.asked) false
     else (is_empty entry.asked && has_mark_of (judged_keys g.judge placed None) entry)) done
 
 -- that no anchor needs the DS set for
@@ -79,7 +80,8 @@ keys_given g placed c entry done is none =
     ap (λ x. x.judged) is ∙ chained_keys-bare g.judge placed in
     given c.judged placed entry (keys_hold g placed entry)
     (ap placed_of judged ∙ placed_of-judged_keys g.judge placed None)
-    (keys_by g placed entry done ∙ ap (λ b. b && has_mark_of (judged_keys g.judge placed None) entry) none ∙ ap (λ x. has_mark_of x entry) (sym judged))
+    (keys_by g placed entry done ∙ ap (λ b. b && has_mark_of (judged_keys g.judge placed None) entry) none
+    ∙ ap (λ x. has_mark_of x entry) (sym judged))
 
 pub keys_refused : (g : StepContext) (placed : PlacedSet) (entry : JudgedSetValue) → needs_ds g.judge placed.set ≡ false
     → is_empty entry.asked ≡ false → None ≡ some_if (keys_hold g placed entry) (with_entry (placed, entry))
@@ -91,7 +93,8 @@ ds_by : (g : StepContext) (placed : PlacedSet) (entry : JudgedSetValue) → need
     → keys_hold g placed entry ≡ option_map_or (λ zone. has_mark_of (judged_keys g.judge placed (Some zone)) entry)
     (zone_asked g placed.set.class placed.set.owner entry.asked) false
 ds_by g placed entry needs =
-    ap (λ b. if b then option_map_or (λ zone. has_mark_of (judged_keys g.judge placed (Some zone)) entry) (zone_asked g placed.set.class placed.set.owner entry.asked) false
+    ap (λ b. if b then option_map_or (λ zone. has_mark_of (judged_keys g.judge placed (Some zone)) entry)
+    (zone_asked g placed.set.class placed.set.owner entry.asked) false
     else (is_empty entry.asked && has_mark_of (judged_keys g.judge placed None) entry)) needs
 
 -- that the DS verdict of its owner decides
@@ -123,7 +126,8 @@ pub ds_unasked : (g : StepContext) (placed : PlacedSet) (entry : JudgedSetValue)
 ds_unasked g placed entry needs none =
     none_step (keys_hold g placed entry) (with_entry (placed, entry))
     (ds_by g placed entry needs
-    ∙ ap (λ xs. option_map_or (λ zone. has_mark_of (judged_keys g.judge placed (Some zone)) entry) (zone_asked g placed.set.class placed.set.owner xs) false) none)
+    ∙ ap (λ xs. option_map_or (λ zone. has_mark_of (judged_keys g.judge placed (Some zone)) entry)
+    (zone_asked g placed.set.class placed.set.owner xs) false) none)
 
 pub ds_refused : (g : StepContext) (placed : PlacedSet) (entry : JudgedSetValue) (ask : AskRef) (left : List AskRef)
     → needs_ds g.judge placed.set ≡ true
@@ -135,7 +139,8 @@ ds_refused g placed entry ask left needs asked fails =
     λ o. option_map_or (λ zone. has_mark_of (judged_keys g.judge placed (Some zone)) entry) o false in
     none_step (keys_hold g placed entry) (with_entry (placed, entry))
     (ds_by g placed entry needs ∙ ap (λ xs. by (zone_asked g placed.set.class placed.set.owner xs)) asked
-    ∙ ap (λ b. by (if b then Some (zone_verdict g.judge.answers placed.set.class placed.set.owner (finished_answer g.earlier ask)) else None)) fails)
+    ∙ ap (λ b. by (if b then Some (zone_verdict g.judge.answers placed.set.class placed.set.owner (finished_answer g.earlier ask))
+    else None)) fails)
 
 -- ---- an unsigned set
 
@@ -208,7 +213,8 @@ none_held false x h = refl
 -- ---- sets, one after another
 
 -- those that are left, last first, decide
-pub record AreLeft (g : StepContext) (placed left : List PlacedSet) (entries others : List JudgedSetValue) (sets : List MarkedSet) : Type 0 where
+pub record AreLeft (g : StepContext) (placed left : List PlacedSet) (entries others : List JudgedSetValue)
+    (sets : List MarkedSet) : Type 0 where
   pub hold : entries_hold g (reverse left) others ≡ entries_hold g placed entries
   pub marks : sets ++ with_entries (reverse left) others ≡ with_entries placed entries
 
@@ -241,7 +247,8 @@ left_next g placed left more p entries others rest e sets j so_far less first is
           ∙ sym (ap (λ ps. entries_hold g ps others) back ∙ ap (entries_hold g (p ∷ reverse more)) first) ∙ so_far.hold;
       marks = append_assoc sets (j ∷ []) (with_entries (reverse more) rest)
           ∙ ap (λ x. sets ++ x ∷ with_entries (reverse more) rest) one.1
-          ∙ sym (ap (λ ps. sets ++ with_entries ps others) back ∙ ap (λ es. sets ++ with_entries (p ∷ reverse more) es) first) ∙ so_far.marks;
+          ∙ sym (ap (λ ps. sets ++ with_entries ps others) back ∙ ap (λ es. sets ++ with_entries (p ∷ reverse more) es) first)
+          ∙ so_far.marks;
     }
 
 -- a set without an entry

@@ -80,5 +80,6 @@ indexed_more old new sets i c key lt is own indexed more =
     let P : List MarkedSet → Type 0 = λ js. AreIndexed new js in
     let long : length (bare (take i sets)) ≡ i = long_front sets i lt in
     let place : AddedPlace trail_key_cmp old new (trail_key_of c.judged.set) (length (bare (take i sets))) =
-    subst (λ k. AddedPlace trail_key_cmp old new k (length (bare (take i sets)))) own (subst (AddedPlace trail_key_cmp old new key) (sym long) more) in
+    subst (λ k. AddedPlace trail_key_cmp old new k (length (bare (take i sets)))) own
+    (subst (AddedPlace trail_key_cmp old new key) (sym long) more) in
     subst P (sym whole) (keeps_added key_total (λ j. trail_key_of j.set) old new (bare (take i sets)) c.judged indexed place)

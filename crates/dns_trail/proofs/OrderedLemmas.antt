@@ -64,7 +64,8 @@ order_counted trail = ap (λ b. nat_le (length trail) most_sends && (is_top (top
 pub too_many : (trail : List AskedValue) → most_sends < length trail → false ≡ has_order trail
 too_many trail many =
     let not_few : nat_le (length trail) most_sends ≡ false = grind (arith, nat_tests) in
-    sym (order_counted trail ∙ ap (λ b. b && (is_top (top_step trail) && ends_with (length trail) (count_step (length trail) trail (length trail - 1) none_yet))) not_few)
+    sym (order_counted trail ∙ ap (λ b. b
+    && (is_top (top_step trail) && ends_with (length trail) (count_step (length trail) trail (length trail - 1) none_yet))) not_few)
 
 pub by_turns : (trail : List AskedValue) (top : Bool) (turns : Bool) → length trail ≤ most_sends
     → is_top (top_step trail) ≡ top
@@ -72,7 +73,8 @@ pub by_turns : (trail : List AskedValue) (top : Bool) (turns : Bool) → length 
     → (top && turns) ≡ has_order trail
 by_turns trail top turns few is_one in_turn =
     sym (order_counted trail
-    ∙ ap (λ b. b && (is_top (top_step trail) && ends_with (length trail) (count_step (length trail) trail (length trail - 1) none_yet))) (le-leb (length trail) most_sends few)
+    ∙ ap (λ b. b && (is_top (top_step trail) && ends_with (length trail) (count_step (length trail) trail (length trail - 1) none_yet)))
+    (le-leb (length trail) most_sends few)
     ∙ ap (λ b. b && ends_with (length trail) (count_step (length trail) trail (length trail - 1) none_yet)) is_one
     ∙ ap (λ b. top && b) in_turn)
 

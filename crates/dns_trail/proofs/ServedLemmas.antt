@@ -89,6 +89,7 @@ pub keyed_more : {Z : Type 0} (old new : BTreeMap CacheKeyValue (Vec ℕ Z)) (en
 keyed_more old new entries i e key lt is own keyed more =
     let long : length (take i entries) ≡ i = grind (arith, length-take-le) in
     let place : AddedPlace key_cmp old new e.key (length (take i entries)) =
-    subst (λ k. AddedPlace key_cmp old new k (length (take i entries))) own (subst (λ n. AddedPlace key_cmp old new key n) (sym long) more) in
+    subst (λ k. AddedPlace key_cmp old new k (length (take i entries))) own
+    (subst (λ n. AddedPlace key_cmp old new key n) (sym long) more) in
     subst (λ es. AreKeyed new es) (sym (take_more entries i e lt ∙ ap (λ x. take i entries ++ x ∷ []) (sym is)))
     (keeps_added key_total (λ e. e.key) old new (take i entries) e keyed place)

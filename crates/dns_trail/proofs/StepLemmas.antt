@@ -85,7 +85,8 @@ pub seen_ends : (g : StepContext) (step : AskedValue) (b : Bool) (told : Told) �
 seen_ends g step b told is heard plain =
     ap (λ x. nothing_if x step) is ∙ bare_end Seen step (seen_end step.ending)
     ∙ ap (λ x. some_if x (ended_of step))
-    (sym (ap (λ o. option_map_or (λ t. if step.judged then judged_holds g step t (foreign_record step.query t) else ends_bare Seen step) o (ends_bare Failed step)) heard
+    (sym (ap (λ o. option_map_or (λ t. if step.judged then judged_holds g step t (foreign_record step.query t)
+    else ends_bare Seen step) o (ends_bare Failed step)) heard
     ∙ ap (λ x. if x then judged_holds g step told (foreign_record step.query told) else ends_bare Seen step) plain))
 
 -- a reply that was to be judged
@@ -95,7 +96,8 @@ pub judged_ends : (g : StepContext) (step : AskedValue) (told : Told) (o : Optio
     → o ≡ some_if (step_holds_by g step step.reply) (ended_of step)
 judged_ends g step told o heard judged is =
     is ∙ ap (λ x. some_if x (ended_of step))
-    (sym (ap (λ h. option_map_or (λ t. if step.judged then judged_holds g step t (foreign_record step.query t) else ends_bare Seen step) h (ends_bare Failed step)) heard
+    (sym (ap (λ h. option_map_or (λ t. if step.judged then judged_holds g step t (foreign_record step.query t)
+    else ends_bare Seen step) h (ends_bare Failed step)) heard
     ∙ ap (λ x. if x then judged_holds g step told (foreign_record step.query told) else ends_bare Seen step) judged))
 
 -- a record of another class
@@ -128,7 +130,8 @@ entries_fail g step told placed o none is fails =
     let no = no_entries (entries_hold g (judged_part step.depth told) step.sets) _ (subst P is fails) in
     sym (ap (λ b. some_if b (ended_of step))
     (ap (λ x. judged_holds g step told x) (sym none)
-    ∙ ap (λ b. b && ending_holds g step told (outcome_of g.limits step.query told (with_entries (judged_part step.depth told) step.sets))) no))
+    ∙ ap (λ b. b && ending_holds g step told (outcome_of g.limits step.query told (with_entries (judged_part step.depth told) step.sets)))
+    no))
 
 are_entries : (b : Bool) (sets x : List MarkedSet) → Some sets ≡ some_if b x → (b ≡ true) × (sets ≡ x)
 are_entries true sets x h = (refl, cc)
@@ -149,7 +152,8 @@ entries_given g step told placed sets o q b none is given own asks ends =
     are_entries (entries_hold g (judged_part step.depth told) step.sets) sets
     (with_entries (judged_part step.depth told) step.sets) (subst P is given) in
     ap (judged_holds g step told) (sym none)
-    ∙ ap (λ x. x && ending_holds g step told (outcome_of g.limits step.query told (with_entries (judged_part step.depth told) step.sets))) hold.0
+    ∙ ap (λ x. x && ending_holds g step told (outcome_of g.limits step.query told (with_entries (judged_part step.depth told) step.sets)))
+    hold.0
     ∙ ap (λ xs. ending_holds g step told (outcome_of g.limits step.query told xs)) (sym hold.1)
     ∙ ap (λ x. ending_holds g step told (outcome_of g.limits x told sets)) (sym asks)
     ∙ sym (by_parts g step told (outcome_of g.limits q told sets) own) ∙ sym ends
@@ -172,7 +176,8 @@ ended_given g step told placed sets heard is given =
 -- ---- steps
 
 -- what is left decides
-pub record AreSteps (j : Judge) (limits : Limits) (cached : List EntryValue) (steps : List AskedValue) (n : ℕ) (ended : List EndedValue) : Type 0 where
+pub record AreSteps (j : Judge) (limits : Limits) (cached : List EntryValue) (steps : List AskedValue) (n : ℕ)
+    (ended : List EndedValue) : Type 0 where
   pub known : ended ≡ map ended_of (take n steps)
   pub hold : steps_hold j limits cached (take n steps) (drop n steps) ≡ steps_hold j limits cached [] steps
 
@@ -185,7 +190,8 @@ one_more : (j : Judge) (limits : Limits) (cached : List EntryValue) (steps : Lis
     (step : AskedValue) → n < length steps
     → step ≡ get_or steps n step
     → steps_hold j limits cached (take n steps)
-    (drop n steps) ≡ (step_holds j limits cached (take n steps) step && steps_hold j limits cached (take (n + 1) steps) (drop (n + 1) steps))
+    (drop n steps) ≡ (step_holds j limits cached (take n steps) step
+    && steps_hold j limits cached (take (n + 1) steps) (drop (n + 1) steps))
 unfolding steps_hold
 one_more j limits cached steps n step lt is =
     let front : take (n + 1) steps ≡ take n steps ++ step ∷ [] =

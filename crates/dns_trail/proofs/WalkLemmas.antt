@@ -69,7 +69,8 @@ pub sets_next : (visit : ℕ → Counts → Option Counts) (n : ℕ) (sets : Lis
     → count_asks visit n (asks_of_sets (drop i sets)) counts ≡ whole
     → count_asks visit n (asks_of_sets (drop (i + 1) sets)) next ≡ whole
 sets_next visit n sets i set asked counts next whole within is own one rest =
-    sym (sets_from visit n sets i set asked counts within is own ∙ ap (λ o. and_then_some o (count_asks visit n (asks_of_sets (drop (i + 1) sets)))) one) ∙ rest
+    sym (sets_from visit n sets i set asked counts within is own
+    ∙ ap (λ o. and_then_some o (count_asks visit n (asks_of_sets (drop (i + 1) sets)))) one) ∙ rest
 
 pub sets_cut : (visit : ℕ → Counts → Option Counts) (n : ℕ) (sets : List JudgedSetValue) (i : ℕ) (set : JudgedSetValue)
     (asked : List AskRef)
@@ -77,7 +78,8 @@ pub sets_cut : (visit : ℕ → Counts → Option Counts) (n : ℕ) (sets : List
     → count_asks visit n asked counts ≡ None
     → count_asks visit n (asks_of_sets (drop i sets)) counts ≡ whole → None ≡ whole
 sets_cut visit n sets i set asked counts whole within is own one rest =
-    sym (sets_from visit n sets i set asked counts within is own ∙ ap (λ o. and_then_some o (count_asks visit n (asks_of_sets (drop (i + 1) sets)))) one) ∙ rest
+    sym (sets_from visit n sets i set asked counts within is own
+    ∙ ap (λ o. and_then_some o (count_asks visit n (asks_of_sets (drop (i + 1) sets)))) one) ∙ rest
 
 pub sets_end : (visit : ℕ → Counts → Option Counts) (n : ℕ) (sets : List JudgedSetValue) (i : ℕ) (counts : Counts)
     (whole : Option Counts)
@@ -92,7 +94,8 @@ pub step_none : (trail : List AskedValue) (n : ℕ) (counts : Counts) → slice_
     → None ≡ count_step (suc n) trail n counts
 unfolding count_step
 step_none trail n counts is =
-    sym (ap (λ o. option_and_then (λ step. option_and_then (end_at n) (count_asks (count_step n trail) n (asks_of step) (one_sent counts))) o) is)
+    sym (ap (λ o. option_and_then (λ step. option_and_then (end_at n)
+    (count_asks (count_step n trail) n (asks_of step) (one_sent counts))) o) is)
 
 -- the counts after the sets of a step, and those after its excuse too
 pub step_from : (trail : List AskedValue) (n : ℕ) (step : AskedValue) (sets : List JudgedSetValue)
@@ -106,8 +109,10 @@ step_from trail n step sets excuse counts judged asked is own_sets own_excuse ov
     sym (ap (λ o. option_and_then (λ s. option_and_then (end_at n) (count_asks (count_step n trail) n (asks_of s) (one_sent counts))) o) is
     ∙ ap (option_and_then (end_at n))
     (count_asks-append (count_step n trail) n (asks_of_sets step.sets) step.excuse (one_sent counts)
-    ∙ ap (λ xs. and_then_some (count_asks (count_step n trail) n (asks_of_sets xs) (one_sent counts)) (count_asks (count_step n trail) n step.excuse)) (sym own_sets)
-    ∙ ap (λ xs. and_then_some (count_asks (count_step n trail) n (asks_of_sets sets) (one_sent counts)) (count_asks (count_step n trail) n xs)) (sym own_excuse)
+    ∙ ap (λ xs. and_then_some (count_asks (count_step n trail) n (asks_of_sets xs) (one_sent counts))
+    (count_asks (count_step n trail) n step.excuse)) (sym own_sets)
+    ∙ ap (λ xs. and_then_some (count_asks (count_step n trail) n (asks_of_sets sets) (one_sent counts))
+    (count_asks (count_step n trail) n xs)) (sym own_excuse)
     ∙ ap (λ o. and_then_some o (count_asks (count_step n trail) n excuse)) over_sets ∙ over_excuse))
 
 pub ended_here : (n : ℕ) (counts : Counts) → counts.ended ≡ n

@@ -41,7 +41,9 @@ pub other_proof : (g : StepContext) (class : ℕ) (start name : Labels) (asks : 
 unfolding search_by
 other_proof g class start [] asks ask left named is other = absurd (named refl)
 other_proof g class start (label ∷ name) asks ask left named is other =
-    sym (ap (λ b. option_map zone_proof (if b then search_after g class (label ∷ name) left (probe_by g.earlier (label ∷ name) ask) (search_by g class start name left) else None)) other)
+    sym (ap (λ b. option_map zone_proof (if b
+    then search_after g class (label ∷ name) left (probe_by g.earlier (label ∷ name) ask) (search_by g class start name left)
+    else None)) other)
     ∙ ap (λ xs. option_map zone_proof (search_by g class start (label ∷ name) xs)) (sym is)
 
 -- else it goes by what the ask saw
@@ -54,7 +56,8 @@ unfolding search_by
 seen_proof g class start [] asks ask left probe named is plain sees = absurd (named refl)
 seen_proof g class start (label ∷ name) asks ask left probe named is plain sees =
     ap (λ xs. search_by g class start (label ∷ name) xs) is
-    ∙ ap (λ b. if b then search_after g class (label ∷ name) left (probe_by g.earlier (label ∷ name) ask) (search_by g class start name left) else None) plain
+    ∙ ap (λ b. if b then search_after g class (label ∷ name) left (probe_by g.earlier (label ∷ name) ask)
+    (search_by g class start name left) else None) plain
     ∙ ap (λ s. search_after g class (label ∷ name) left s (search_by g class start name left)) sees
 
 pub cut_proof : (g : StepContext) (class : ℕ) (start name : Labels) (asks : List AskRef) (ask : AskRef)

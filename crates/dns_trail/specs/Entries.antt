@@ -1,8 +1,10 @@
 -- For private functions of this crate only: the entry of a set, by its parts.
-use Rattle.std.specs.Prelude.{ℕ, Bool, ◌≡◌, false, ◌==◌, ◌&&◌, List, take, Option}
+use Rattle.std.specs.Prelude.{ℕ, Bool, ◌≡◌, true, false, ◌==◌, ◌&&◌, List, take, Option}
 use Rattle.std.specs.Option.{option_map, option_map_or}
 use Rattle.std.specs.List.{list_any}
 use Rattle.dns_model.specs.declared.trail.AskRef.{AskRef}
+use Rattle.dns_model.specs.declared.trail.MarkOrigin.{MarkOrigin}
+use Rattle.dns_model.specs.declared.trail.MarkOrigin.TheVariants.{Repeat}
 use Rattle.dns_model.specs.Names.{name_eq}
 use Rattle.dns_model.specs.Records.{RrSet, Question, question_eq}
 use Rattle.dns_model.specs.SoundAnswers.{PlacedSet, section_eq}
@@ -43,6 +45,18 @@ is_by_signatures g placed entry = is_by_verdicts placed entry (verdicts_of_set g
 abbrev pub repeats_from : Question → PlacedSet → JudgedSetValue → Option AskedValue → Bool
 repeats_from q placed entry step =
     option_map_or (λ s. question_eq q s.query && list_any (is_repeat placed entry) (judged_sets s)) step false
+
+-- an earlier step found the mark
+abbrev pub is_repeated_by : MarkOrigin → Bool
+is_repeated_by (Repeat number) = true
+is_repeated_by _ = false
+
+-- it did for some entry of a step, and of some step
+abbrev pub step_repeats : AskedValue → Bool
+step_repeats step = list_any (λ e. is_repeated_by e.origin) step.sets
+
+abbrev pub has_repeats : List AskedValue → Bool
+has_repeats steps = list_any step_repeats steps
 
 -- at this moment the time of what was kept isn't up, and it serves the set with this entry
 abbrev pub serves_at : ℕ → Judge → Question → PlacedSet → JudgedSetValue → EntryValue → Bool

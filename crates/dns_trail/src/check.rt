@@ -1,3 +1,5 @@
+//! Whether a trail is a derivation: its order, and then its steps (RFC 4035, 4.3, 4.5, 5.2 and 5.3).
+
 ghost use Rattle.std.specs.Prelude.{◌≡◌, IfOk};
 ghost use Rattle.dns_model.specs.Chains.{judge as judge_by};
 ghost use Rattle.dns_rules.specs.CacheEntries.{live};
@@ -8,7 +10,7 @@ use crate::kept::KeptEntries;
 use crate::steps::steps_hold;
 use dns_cache::Entry;
 use dns_evidence::{Limits, Trail, Verifier, effective};
-use dns_name::NoMemory;
+use dns_record::NoMemory;
 use dns_trust::{Judge, TrustAnchors};
 use std::alloc::Global;
 

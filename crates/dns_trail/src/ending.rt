@@ -17,9 +17,8 @@ use crate::step_context::StepContext;
 use dns_evidence::{Asked, ChainedSet, Ending, Verifier};
 use dns_message::Message;
 use dns_model::{Denial, Proof};
-use dns_name::NoMemory;
 use dns_outcome::{Outcome, outcome_by_zone, outcome_of};
-use dns_record::Record;
+use dns_record::{NoMemory, Record};
 use dns_trust::question_start;
 
 /// The ending of a step and the asks on which it stands follow from its judged sets.
@@ -65,10 +64,7 @@ fn is_answered(ending: &Ending, denial: Denial) -> bool
 {
     match ending {
         Ending::Answered(given) => *given == denial,
-        Ending::Denied(_) => false,
-        Ending::Foreign { .. } => false,
-        Ending::Failed => false,
-        Ending::Seen => false,
+        _ => false,
     }
 }
 
@@ -77,11 +73,8 @@ fn is_denied(ending: &Ending, proof: Proof) -> bool
     ensures { result ≡ ending_eq (Refused proof) (ending_value ending.now) }
 {
     match ending {
-        Ending::Answered(_) => false,
         Ending::Denied(given) => *given == proof,
-        Ending::Foreign { .. } => false,
-        Ending::Failed => false,
-        Ending::Seen => false,
+        _ => false,
     }
 }
 
@@ -89,26 +82,14 @@ fn is_denied(ending: &Ending, proof: Proof) -> bool
 pub(crate) fn is_failed(ending: &Ending) -> bool
     ensures { result ≡ is_failure (ending_value ending.now) }
 {
-    match ending {
-        Ending::Answered(_) => false,
-        Ending::Denied(_) => false,
-        Ending::Foreign { .. } => false,
-        Ending::Failed => true,
-        Ending::Seen => false,
-    }
+    matches!(ending, Ending::Failed)
 }
 
 /// The step's reply was only seen.
 pub(crate) fn is_seen(ending: &Ending) -> bool
     ensures { result ≡ is_sight (ending_value ending.now) }
 {
-    match ending {
-        Ending::Answered(_) => false,
-        Ending::Denied(_) => false,
-        Ending::Foreign { .. } => false,
-        Ending::Failed => false,
-        Ending::Seen => true,
-    }
+    matches!(ending, Ending::Seen)
 }
 
 /// The ending names a record of another class.
@@ -116,8 +97,6 @@ pub(crate) fn is_foreign(found: &Record, ending: &Ending) -> bool
     ensures { result ≡ names_foreign found.now (ending_value ending.now) }
 {
     match ending {
-        Ending::Answered(_) => false,
-        Ending::Denied(_) => false,
         Ending::Foreign {
             owner,
             class,
@@ -125,7 +104,6 @@ pub(crate) fn is_foreign(found: &Record, ending: &Ending) -> bool
         } => {
             found.name == *owner && found.dns_class == *class && found.record_type == *record_type
         }
-        Ending::Failed => false,
-        Ending::Seen => false,
+        _ => false,
     }
 }

@@ -21,8 +21,7 @@ use crate::step_context::{StepContext, answer_of, is_ask};
 use crate::verdicts::verdicts_by;
 use dns_evidence::{ChainedSet, JudgedSet, MarkedSet, PlacedSet, Verifier};
 use dns_model::{AskRef, MarkOrigin, Proof};
-use dns_name::NoMemory;
-use dns_record::RecordSet;
+use dns_record::{NoMemory, RecordSet};
 use dns_trust::{
     KeysStep, chained_by, ds_ask_of, first_signatures, is_key_set, judged_by_ds, keys_step_of,
     needs_zone, set_start, unsigned_set,
@@ -44,7 +43,6 @@ pub(crate) fn judged_sets<V: Verifier>(
     placed.reverse();
     'sets: while let Some(next) = placed.pop() {
         let Some((entry, others)) = entries.split_first() else {
-            drop(next);
             return Ok(None);
         };
         let Some(set) = judged_set(context, next, entry)? else {
@@ -69,23 +67,16 @@ fn judged_set<V: Verifier>(
     ensures { IfOk result (IsMarkedBy entry_holds (step_context_by V.answers context.now) placed entry.now) }
 {
     if !is_entry_of(&placed, entry) {
-        drop(placed);
         return Ok(None);
     }
     match entry.origin {
         MarkOrigin::Table => judged_by_rules(context, placed, entry),
         MarkOrigin::Repeat(number) => {
-            let Ok(repeated) = is_repeated(context, &placed, entry, number) else {
-                drop(placed);
-                return Err(NoMemory);
-            };
+            let repeated = is_repeated(context, &placed, entry, number)?;
             Ok(marked_if(context.alloc, repeated, placed, entry))
         }
         MarkOrigin::Cache => {
-            let Ok(served) = is_served(context, &placed, entry) else {
-                drop(placed);
-                return Err(NoMemory);
-            };
+            let served = is_served(context, &placed, entry)?;
             Ok(marked_if(context.alloc, served, placed, entry))
         }
     }
@@ -98,6 +89,7 @@ fn is_entry_of(placed: &PlacedSet, entry: &JudgedSet) -> bool
     placed.section == entry.section && is_for(&placed.set, entry)
 }
 
+// The entry has the owner and type of the set.
 fn is_for(set: &RecordSet, entry: &JudgedSet) -> bool
     ensures { result ≡ (name_eq set.now.owner entry.now.owner && (set.now.rtype == entry.now.rtype)) }
 {
@@ -116,7 +108,6 @@ fn marked_if(
     if follows {
         Some(marked(alloc, placed, entry))
     } else {
-        drop(placed);
         None
     }
 }
@@ -149,11 +140,11 @@ fn as_in_entry(alloc: Global, set: ChainedSet, entry: &JudgedSet) -> Option<Chai
             chain: Vec::new(alloc),
         })
     } else {
-        drop(judged);
         None
     }
 }
 
+// The entry has the mark of a judged set, and names the signature that decided.
 fn has_mark(judged: &MarkedSet, entry: &JudgedSet) -> bool
     ensures { result ≡ has_mark_of judged.now entry.now }
 {
@@ -206,7 +197,6 @@ fn judged_key_set<V: Verifier>(
             if asks.is_empty() {
                 Ok(as_in_entry(context.alloc, set, entry))
             } else {
-                drop(set);
                 Ok(None)
             }
         }
@@ -224,19 +214,12 @@ fn judged_by_one_ask<V: Verifier>(
     ensures { IfOk result (IsMarkedBy keys_hold (step_context_by V.answers context.now) placed entry.now) }
 {
     let Some((ask, left)) = asks_of(entry).split_first() else {
-        drop(placed);
         return Ok(None);
     };
-    let Ok(question) = ds_ask_of(set_of(&placed)) else {
-        drop(placed);
-        return Err(NoMemory);
-    };
+    let question = ds_ask_of(set_of(&placed))?;
     if !left.is_empty() || !is_ask(context, &question, *ask) {
-        drop(question);
-        drop(placed);
         return Ok(None);
     }
-    drop(question);
     let answer = answer_of(&context.earlier, *ask);
     let set = judged_by_ds(context.alloc, context.judge, placed, answer)?;
     Ok(as_in_entry(context.alloc, set, entry))
@@ -287,7 +270,6 @@ fn judged_signed<V: Verifier>(
     let set = set_of(&placed);
     let signatures = first_signatures(set);
     let Some(verdicts) = verdicts_by(context, set, signatures, asks_of(entry))? else {
-        drop(placed);
         return Ok(None);
     };
     let set = chained_by(placed, verdicts)?;

@@ -5,7 +5,7 @@ ghost use Rattle.dns_trail.specs.Indexed.{AreKeyed, HaveKey};
 
 use crate::places::{Places, add_place, places_of};
 use dns_cache::{CacheKey, Entry};
-use dns_name::NoMemory;
+use dns_record::NoMemory;
 use std::alloc::Global;
 use std::collections::BTreeMap;
 use std::marker::Model;
@@ -58,15 +58,14 @@ fn places_of_entries(alloc: Global, entries: &[Entry]) -> Result<Places<CacheKey
     ensures { IfOk result (λ p. AreKeyed p entries.now) }
 {
     let mut places = BTreeMap::new(alloc);
-    let mut place = 0;
-    'each: while place < entries.len() {
-        let key = key_of_entry(&entries[place])?;
+    'each: for (place, entry) in entries.iter().enumerate() {
+        let key = key_of_entry(entry)?;
         add_place(alloc, &mut places, key, place)?;
-        place += 1;
     }
     Ok(places)
 }
 
+// The key of an entry, in memory of its own.
 fn key_of_entry(entry: &Entry) -> Result<CacheKey, NoMemory>
     ensures { IfOk result (λ k. k ≡ entry.now.key) }
 {

@@ -1,3 +1,5 @@
+//! Whether the steps of a trail stand in the order in which they were sent and ended (RFC 4035, 4.3 and 5).
+
 ghost use Rattle.std.specs.Prelude.{◌≡◌, ◌<◌, ◌-◌, suc, length};
 ghost use Rattle.dns_rules.specs.Asking.{most_sends};
 ghost use Rattle.dns_rules.specs.DerivationParts.{asks_of_sets, is_top};

@@ -8,8 +8,7 @@ ghost use Rattle.dns_trail.specs.Places.{AddedPlace, places_under};
 ghost use Rattle.dns_trail.specs.SetKeys.{trail_key_of, key_of_record as key_in};
 
 use dns_evidence::ChainedSet;
-use dns_name::{NoMemory, Octets};
-use dns_record::{Record, RecordSet};
+use dns_record::{NoMemory, Octets, Record, RecordSet};
 use std::alloc::Global;
 use std::collections::BTreeMap;
 
@@ -90,15 +89,14 @@ pub(crate) fn places_of_sets(alloc: Global, sets: &[ChainedSet]) -> Result<Place
     ensures { IfOk result (λ p. AreIndexed p (bare sets.now)) }
 {
     let mut places = BTreeMap::new(alloc);
-    let mut place = 0;
-    'each: while place < sets.len() {
-        let key = key_of_set(alloc, &sets[place])?;
+    'each: for (place, chained) in sets.iter().enumerate() {
+        let key = key_of_set(alloc, chained)?;
         add_place(alloc, &mut places, key, place)?;
-        place += 1;
     }
     Ok(places)
 }
 
+// The key of a judged set.
 fn key_of_set(alloc: Global, chained: &ChainedSet) -> Result<SetKey, NoMemory>
     ensures { IfOk result (λ k. k ≡ trail_key_of chained.now.judged.set) }
 {

@@ -9,14 +9,13 @@ ghost use Rattle.dns_rules.specs.Derivation.{is_empty, is_repeat as is_repeat_of
 ghost use Rattle.dns_model.specs.Records.{question_eq};
 ghost use Rattle.dns_model.specs.SoundAnswers.{PlacedSet};
 ghost use Rattle.dns_evidence.specs.Finding.{passes_at};
-ghost use Rattle.dns_trail.specs.Entries.{repeats_from};
+ghost use Rattle.dns_trail.specs.Entries.{has_repeats as has_repeats_in, is_repeated_by, repeats_from, step_repeats as repeats_in};
 
 use crate::places::{SetKey, places_of};
 use crate::step_context::{Ended, StepContext};
 use dns_evidence::{Asked, ChainedSet, JudgedSet, MarkedSet, PlacedSet};
 use dns_model::MarkOrigin;
-use dns_name::NoMemory;
-use dns_record::{Query, Record, RecordSet};
+use dns_record::{NoMemory, Query, Record, RecordSet};
 use std::alloc::Global;
 
 /// The entry asks nothing, and says what the step with a number found of an equal set for the same question.
@@ -41,6 +40,7 @@ pub(crate) fn is_repeated<V>(
     found_alike(context.alloc, ended, placed, entry)
 }
 
+// The step asks the same question.
 fn asks_same(query: &Query, step: &Asked) -> bool
     ensures { result ≡ question_eq query.now step.now.query }
 {
@@ -80,6 +80,7 @@ fn has_repeat_at(
         .any(|place| is_repeat_at(sets, *place, placed, entry))
 }
 
+// There is a set at a place, and it is equal.
 fn is_repeat_at(sets: &[ChainedSet], place: usize, placed: &PlacedSet, entry: &JudgedSet) -> bool
     ensures { result ≡ passes_at (is_repeat_of placed.now entry.now) (bare sets.now) place }
 {
@@ -89,6 +90,7 @@ fn is_repeat_at(sets: &[ChainedSet], place: usize, placed: &PlacedSet, entry: &J
     }
 }
 
+// One of the sets is equal.
 fn has_repeat(sets: &[ChainedSet], placed: &PlacedSet, entry: &JudgedSet) -> bool
     ensures { result ≡ list_any (λ c. is_repeat_of placed.now entry.now c.judged) sets.now }
 {
@@ -96,6 +98,7 @@ fn has_repeat(sets: &[ChainedSet], placed: &PlacedSet, entry: &JudgedSet) -> boo
         .any(|set| is_repeat(&placed.set, entry, &set.judged))
 }
 
+// A judged set has the records and signatures of a set, and its mark is that of the entry.
 fn is_repeat(set: &RecordSet, entry: &JudgedSet, judged: &MarkedSet) -> bool
     ensures { (p : PlacedSet) → p.set ≡ set.now → result ≡ is_repeat_of p entry.now judged.now }
 {
@@ -132,15 +135,23 @@ fn is_same_bytes(one: &Record, other: &Record) -> bool
         && one.rdata == other.rdata
 }
 
-/// Some entry of a trail repeats a set of an earlier step.
-pub(crate) fn has_repeats(steps: &[Asked]) -> bool {
+/// Some entry of a trail says that an earlier step found its mark.
+pub(crate) fn has_repeats(steps: &[Asked]) -> bool
+    ensures { result ≡ has_repeats_in steps.now }
+{
     steps.iter().any(step_repeats)
 }
 
-fn step_repeats(step: &Asked) -> bool {
+// Some entry of a step says so.
+fn step_repeats(step: &Asked) -> bool
+    ensures { result ≡ repeats_in step.now }
+{
     step.sets.iter().any(entry_repeats)
 }
 
-fn entry_repeats(entry: &JudgedSet) -> bool {
+// The entry says so.
+fn entry_repeats(entry: &JudgedSet) -> bool
+    ensures { result ≡ is_repeated_by entry.now.origin }
+{
     matches!(entry.origin, MarkOrigin::Repeat(_))
 }

@@ -13,8 +13,7 @@ ghost use Rattle.dns_model.specs.Trails.{Records};
 use crate::step_context::{Earlier, StepContext, answer_of, is_ask, is_plain_ask};
 use dns_evidence::{Asked, Reply, Told, Verifier};
 use dns_model::{AskRef, Proof};
-use dns_name::{Name, NoMemory};
-use dns_record::DNSClass;
+use dns_record::{DNSClass, Name, NoMemory};
 use dns_trust::{NsProbe, ds_query, has_ns_record, ns_query, zone_mark};
 
 /// What the zone of a name leaves to what is unsigned in it, by the asks of the search for it; None where these aren't
@@ -39,6 +38,7 @@ pub(crate) fn search_zone<V: Verifier>(
         drop(question);
         return Ok(None);
     }
+    // The search goes on above by calling itself, so the question is freed first.
     drop(question);
     match probe_by(&context.earlier, name, *ask) {
         NsProbe::Found => ask_zone(context, class, name, left),
@@ -76,10 +76,8 @@ fn ask_zone<V: Verifier>(
     };
     let question = ds_query(zone.try_clone()?, class);
     if !left.is_empty() || !is_ask(context, &question, *ask) {
-        drop(question);
         return Ok(None);
     }
-    drop(question);
     let answer = answer_of(&context.earlier, *ask);
     let mark = zone_mark(context.alloc, context.judge.verifier, class, zone, answer)?;
     Ok(Some(mark))
@@ -94,11 +92,11 @@ fn probe_by(earlier: &Earlier<'_>, name: &Name, ask: AskRef) -> NsProbe
             Some(step) => probe_at(name, step),
             None => NsProbe::Failed,
         },
-        AskRef::TooDeep => NsProbe::Failed,
-        AskRef::TooMany => NsProbe::Failed,
+        AskRef::TooDeep | AskRef::TooMany => NsProbe::Failed,
     }
 }
 
+// What a step that was a plain ask for the NS records of a name came to.
 fn probe_at(name: &Name, step: &Asked) -> NsProbe
     ensures { probe_value result ≡ probe_of name.now step.now.reply }
 {

@@ -13,9 +13,9 @@ ghost use Rattle.dns_trust.specs.Judge.{judge_of};
 
 use crate::step_context::StepContext;
 use dns_cache::{CacheKey, Entry};
+use dns_chain_check::{mark_of, sig_of, still_holds};
 use dns_evidence::{JudgedSet, PlacedSet, Verifier};
-use dns_name::NoMemory;
-use dns_serving::{mark_of, sig_of, still_holds};
+use dns_record::NoMemory;
 
 /// The entry asks nothing, and says what one that was kept does and that may serve the set.
 pub(crate) fn is_served<V: Verifier>(
@@ -33,17 +33,11 @@ pub(crate) fn is_served<V: Verifier>(
     let key = CacheKey::of(context.query, &placed.set)?;
     let mut left = context.cached.places_with(&key);
     'kept: while let Some((place, more)) = left.split_first() {
-        let Ok(serves) = serves_at(context, &key, placed, entry, *place) else {
-            drop(key);
-            return Err(NoMemory);
-        };
-        if serves {
-            drop(key);
+        if serves_at(context, &key, placed, entry, *place)? {
             return Ok(true);
         }
         left = more;
     }
-    drop(key);
     Ok(false)
 }
 

@@ -20,6 +20,7 @@ use std::marker::Model;
 #[derive(Drop)]
 pub(crate) struct StepContext<'a, 'j, V> {
     pub(crate) alloc: Global,
+    /// Verifier, trust anchors and moment.
     pub(crate) judge: &'a Judge<'j, V>,
     /// How far the lookup went.
     pub(crate) limits: Limits,
@@ -27,7 +28,9 @@ pub(crate) struct StepContext<'a, 'j, V> {
     pub(crate) cached: &'a KeptEntries<'a>,
     /// The steps before it.
     pub(crate) earlier: Earlier<'a>,
+    /// The question of the step.
     pub(crate) query: &'a Query,
+    /// How deep it was asked.
     pub(crate) depth: u16,
     /// Some entry of the trail repeats a set, so that sets have to be found.
     pub(crate) repeats: bool,
@@ -36,6 +39,7 @@ pub(crate) struct StepContext<'a, 'j, V> {
 /// The steps before one, of which is known what they came to.
 #[derive(Drop)]
 pub(crate) struct Earlier<'a> {
+    /// These steps, in order.
     pub(crate) steps: &'a [Asked],
     /// What these came to, by their numbers.
     pub(crate) ended: &'a [Ended],
@@ -120,6 +124,7 @@ fn is_judged_step<V>(context: &StepContext<'_, '_, V>, query: &Query, number: u3
     }
 }
 
+// The step judges what it hears, and asks this question at this depth.
 fn is_judged_at(depth: u32, query: &Query, step: &Asked) -> bool
     ensures { result ≡ is_judged_ask depth query.now (Some step.now) }
 {
@@ -147,6 +152,7 @@ fn is_plain_step<V>(context: &StepContext<'_, '_, V>, query: &Query, number: u32
     }
 }
 
+// The step only sees what it hears, and asks this question at this depth.
 fn is_plain_at(depth: u16, query: &Query, step: &Asked) -> bool
     ensures { result ≡ is_plain_in depth query.now (Some step.now) }
 {
@@ -162,7 +168,6 @@ pub(crate) fn answer_of<'a>(earlier: &Earlier<'a>, ask: AskRef) -> &'a Option<Ve
             Some(ended) => ended.answer(),
             None => earlier.missing,
         },
-        AskRef::TooDeep => earlier.missing,
-        AskRef::TooMany => earlier.missing,
+        AskRef::TooDeep | AskRef::TooMany => earlier.missing,
     }
 }

@@ -20,11 +20,9 @@ use crate::places::{PlacesByKey, places_of_sets};
 use crate::repeats::has_repeats;
 use crate::step_context::{Earlier, Ended, StepContext};
 use dns_evidence::{Asked, ChainedSet, Ending, Limits, Reply, Told, Verifier};
-use dns_grouping::judged_part;
 use dns_message::Message;
-use dns_name::NoMemory;
-use dns_outcome::foreign_record;
-use dns_record::{OpCode, clone_records};
+use dns_outcome::{foreign_record, judged_part, told_message};
+use dns_record::NoMemory;
 use dns_trust::Judge;
 use std::alloc::Global;
 
@@ -41,9 +39,7 @@ pub(crate) fn steps_hold<'a, V: Verifier>(
 {
     let repeats = has_repeats(steps);
     let mut ended = Vec::new(alloc);
-    let mut number = 0;
-    'steps: while number < steps.len() {
-        let step = &steps[number];
+    'steps: for (number, step) in steps.iter().enumerate() {
         let missing = None;
         let earlier = Earlier {
             steps: &steps[..number],
@@ -64,7 +60,6 @@ pub(crate) fn steps_hold<'a, V: Verifier>(
             return Ok(false);
         };
         ended.push(next)?;
-        number += 1;
     }
     Ok(true)
 }
@@ -98,34 +93,8 @@ fn end_told<V: Verifier>(
     if !step.judged {
         return Ok(end_bare(context.alloc, step, is_seen(&step.ending)));
     }
-    let message = message_of(context.alloc, told)?;
+    let message = told_message(context.alloc, told)?;
     end_judged(context, step, &message)
-}
-
-// A message with the records that a reply told.
-fn message_of(alloc: Global, told: &Told) -> Result<Message, NoMemory>
-    ensures { IfOk result (λ m. told_by m ≡ told.now.0) }
-{
-    let answers = clone_records(&told.answers)?;
-    let authorities = clone_records(&told.authorities)?;
-    let additionals = clone_records(&told.additionals)?;
-    Ok(Message {
-        id: 0,
-        response: true,
-        op_code: OpCode(0),
-        authoritative: false,
-        truncated: false,
-        recursion_desired: false,
-        recursion_available: false,
-        authentic_data: false,
-        checking_disabled: false,
-        response_code: told.code,
-        queries: Vec::new(alloc),
-        answers,
-        authorities,
-        additionals,
-        edns: None,
-    })
 }
 
 // A step nothing of which is judged, and whether its ending is the one that it may have.
@@ -201,10 +170,7 @@ fn ended_with(
             others: Vec::new(alloc),
             places,
         },
-        Ending::Denied(_) => unanswered(sets, places),
-        Ending::Foreign { .. } => unanswered(sets, places),
-        Ending::Failed => unanswered(sets, places),
-        Ending::Seen => unanswered(sets, places),
+        _ => unanswered(sets, places),
     }
 }
 

@@ -15,9 +15,8 @@ ghost use Rattle.dns_trail.specs.Ended.{some_if};
 use crate::step_context::{StepContext, answer_of, is_ask};
 use dns_evidence::Verifier;
 use dns_model::AskRef;
-use dns_name::NoMemory;
 use dns_rdata::Rrsig;
-use dns_record::{Record, RecordSet};
+use dns_record::{NoMemory, Record, RecordSet};
 use dns_trust::{SetSignature, Verdict, chained_verdict, is_skipped_read, key_query};
 
 // The verdict of a signature, and the asks that are left after its own.
@@ -87,10 +86,8 @@ fn try_signature<'a, V: Verifier>(
     };
     let question = key_query(context.alloc, set, &read)?;
     if !is_ask(context, &question, *ask) {
-        drop(question);
         return Ok(None);
     }
-    drop(question);
     let answer = answer_of(&context.earlier, *ask);
     let signature = SetSignature {
         set,

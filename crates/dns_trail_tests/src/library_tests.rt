@@ -1,5 +1,6 @@
 //! A lookup with an upstream and a verifier of one's own. docs/LIBRARY.md shows this file up to the tests, as a program.
-use crate::rows::check_row;
+
+use crate::parts::check_row;
 use dns_chain::{
     DnssecDnsHandle, IterationLimits, Judge, TrustAnchors, TtlRanges, Validation, Verifier, Wanted,
 };
@@ -70,6 +71,10 @@ impl DnsHandle for Upstream {
             self.faults = self.faults.saturating_add(1);
         }
         reply
+    }
+
+    fn is_using_edns(&self) -> bool {
+        true
     }
 }
 
@@ -203,9 +208,7 @@ fn a_record_is_secure_by_its_chain_while_its_signature_holds(rt: HostRuntime) {
 
 fn is_bogus(alloc: Global) -> Result<bool, NetError> {
     let response = look_up(alloc, 3000)?;
-    let held = has_mark(&response, Proof::Bogus) && response.chains.is_empty();
-    drop(response);
-    Ok(held)
+    Ok(has_mark(&response, Proof::Bogus) && response.chains.is_empty())
 }
 
 #[test]

@@ -1,8 +1,9 @@
-use crate::rows::{check_row, name};
+//! What links show.
+
+use crate::parts::{check_row, name_of};
 use dns_evidence::{Chain, Link, all_shown, shows_ds, shows_key, shows_member};
 use dns_model::Section;
-use dns_name::NameRef;
-use dns_record::{DNSClass, Rdata, RecordType};
+use dns_record::{DNSClass, NameRef, Rdata, RecordType};
 use std::alloc::Global;
 use std::process::Abort;
 
@@ -24,7 +25,7 @@ fn push(rt: &impl Abort, links: &mut Vec<Link>, link: Link) {
 fn links(rt: &impl Abort, alloc: Global) -> Vec<Link> {
     let class = DNSClass::IN;
     let anchored = Link::Anchored {
-        owner: name(rt, alloc, "ORG."),
+        owner: name_of(rt, alloc, "ORG."),
         class,
         key: key(rt, alloc),
     };
@@ -33,14 +34,14 @@ fn links(rt: &impl Abort, alloc: Global) -> Vec<Link> {
     let mut first = Vec::new(alloc);
     first.push(0).expect(rt, "memory");
     let key_set = Link::KeySet {
-        owner: name(rt, alloc, "ORG."),
+        owner: name_of(rt, alloc, "ORG."),
         class,
         keys: one_key(rt, alloc),
         links: first,
     };
     push(rt, &mut links, key_set);
     let delegation = Link::Signed {
-        owner: name(rt, alloc, "ORG."),
+        owner: name_of(rt, alloc, "ORG."),
         class,
         record_type: RecordType::DS,
         rdatas: one_key(rt, alloc),
@@ -116,15 +117,12 @@ fn is_shown(rt: &impl Abort, alloc: Global) -> bool {
         links: links(rt, alloc),
     };
     let copy = chain.try_clone().expect(rt, "memory");
+    // The copy stands by itself.
     drop(chain);
-    let owner = name(rt, alloc, "oRg.");
+    let owner = name_of(rt, alloc, "oRg.");
     let keys = one_key(rt, alloc);
-    let held = rows_hold(&copy.links, &owner.borrowed())
-        && numbered_rows_hold(&copy.links, &owner.borrowed(), &keys);
-    drop(keys);
-    drop(owner);
-    drop(copy);
-    held
+    rows_hold(&copy.links, &owner.borrowed())
+        && numbered_rows_hold(&copy.links, &owner.borrowed(), &keys)
 }
 
 #[test]

@@ -1,5 +1,6 @@
 //! The order of a trail's steps, short and long ones, and copies of steps.
-use crate::rows::{check_row, name};
+
+use crate::parts::{check_row, name_of};
 use dns_evidence::{Asked, Ending, JudgedSet, Reply};
 use dns_model::{AskRef, MarkOrigin, Proof, Section};
 use dns_record::{DNSClass, Query, RecordType};
@@ -60,14 +61,14 @@ fn bare_step(rt: &impl Abort, alloc: Global) -> Asked {
         depth: 0,
         judged: true,
         query: Query {
-            name: name(rt, alloc, "a."),
+            name: name_of(rt, alloc, "a."),
             query_type: RecordType::A,
             query_class: DNSClass::IN,
         },
         reply: Reply::Fault,
         sets: Vec::new(alloc),
         ending: Ending::Foreign {
-            owner: name(rt, alloc, "b."),
+            owner: name_of(rt, alloc, "b."),
             class: DNSClass::CH,
             record_type: RecordType::TXT,
         },
@@ -81,7 +82,7 @@ fn set(rt: &impl Abort, alloc: Global, ask: AskRef) -> JudgedSet {
     asked.push(ask).expect(rt, "memory");
     JudgedSet {
         section: Section::Answer,
-        owner: name(rt, alloc, "a."),
+        owner: name_of(rt, alloc, "a."),
         record_type: RecordType::A,
         mark: Proof::Bogus,
         origin: MarkOrigin::Repeat(2),
@@ -183,18 +184,14 @@ fn copies_are(rt: &impl Abort, alloc: Global, steps: &[Asked], want: bool) -> bo
         let copy = step.try_clone().expect(rt, "memory");
         copies.push(copy).expect(rt, "memory");
     }
-    let held = copies.len() == steps.len() && are_bare(&copies) && is_in_order(&copies) == want;
-    drop(copies);
-    held
+    copies.len() == steps.len() && are_bare(&copies) && is_in_order(&copies) == want
 }
 
 /// The steps of a row are in order where it says so, and so are their copies.
 fn are_ordered(rt: &impl Abort, alloc: Global, row: &Steps) -> bool {
     let mut steps = Vec::new(alloc);
     add_all(rt, alloc, &mut steps, row);
-    let held = is_in_order(&steps) == row.4 && copies_are(rt, alloc, &steps, row.4);
-    drop(steps);
-    held
+    is_in_order(&steps) == row.4 && copies_are(rt, alloc, &steps, row.4)
 }
 
 #[test]
@@ -218,9 +215,7 @@ fn is_top(rt: &impl Abort, alloc: Global, row: &Top) -> bool {
     let mut step = bare_step(rt, alloc);
     step.depth = row.0;
     step.judged = row.1;
-    let held = is_in_order(slice::from_ref(&step)) == row.2;
-    drop(step);
-    held
+    is_in_order(slice::from_ref(&step)) == row.2
 }
 
 #[test]

@@ -1,20 +1,17 @@
-//! Messages over connections (RFC 1035, 4.2; RFC 7766), over any link that the outside has.
-//!
-//! [`TcpStream`] cuts what a link gives into messages and writes those that wait, each behind its
-//! length. The layer above may use it as the machine of `specs/Feeding.antt` and `specs/Draining.antt`.
-//! [`unframe`] carries the law: frames in a row, however they are cut, give their messages.
+//! Transport under the names that a caller looks for: connections, sockets, dialers and clocks, messages and requests over TCP
+//! (RFC 7766) and over UDP (RFC 5452); and what a caller needs to name beside them.
 #![tactic(auto)]
 
-mod feed;
-mod frame_law;
-mod frame_reader;
-mod frame_writer;
-mod link_reads;
-mod stream_state;
-mod tcp_client_stream;
-mod tcp_stream;
-
-pub use feed::Feed;
-pub use frame_law::unframe;
-pub use tcp_client_stream::{DnsClientStream, TcpClientStream};
-pub use tcp_stream::TcpStream;
+pub use dns_handle::{
+    DnsHandle, DnsRequest, DnsRequestOptions, DnsResponse, IoKind, NetError, Protocol,
+};
+pub use dns_link::{
+    Clock, Counts, Datagrams, Dialer, FixedClock, Link, ListDatagrams, ListDialer, NetCall,
+    PairLink, SocketDatagrams, SocketDialer, SocketLink, SystemClock, TimedLink, kind_of,
+};
+pub use dns_tcp::{DnsClientStream, Feed, TcpClientStream, TcpExchange, TcpStream, unframe};
+pub use dns_udp::{
+    Accepted, Binding, MAX_RECEIVE_BUFFER_SIZE, Retries, UdpClientStream, UdpClientStreamBuilder,
+    UdpExchange, UdpSocket, UdpStream, accept_datagram, any_address, asks_alike, is_same_peer,
+    next_port, receive_buffer, spells_alike,
+};

@@ -4,7 +4,7 @@ use crate::entries::{chain_of, keys_of, secure_entry};
 use crate::form::{Form, Work};
 use dns_cache::{CacheKey, LruValidationCache, ValidationCache};
 use dns_evidence::Chain;
-use dns_name::NoMemory;
+use dns_record::NoMemory;
 use lru::LruCache;
 use std::alloc::Global;
 use std::hash::BuildHasherDefault;
@@ -26,10 +26,7 @@ impl Store for LruValidationCache {
     }
 
     fn find(&mut self, alloc: Global, key: &CacheKey) -> Result<bool, NoMemory> {
-        let given = self.get(alloc, key, 0)?;
-        let held = given.is_some();
-        drop(given);
-        Ok(held)
+        Ok(self.get(alloc, key, 0)?.is_some())
     }
 }
 
@@ -45,10 +42,9 @@ impl Store for LruCache<CacheKey, u64> {
     }
 }
 
-// Makes an entry and lets it go.
+// Makes an entry and frees it.
 fn copy(key: &CacheKey, chain: &Chain) -> Result<(), NoMemory> {
-    let entry = secure_entry(key, chain)?;
-    drop(entry);
+    let _ = secure_entry(key, chain)?;
     Ok(())
 }
 
@@ -107,9 +103,7 @@ fn cache_passes(
     chain: &Chain,
 ) -> Result<u64, NoMemory> {
     let mut cache = LruValidationCache::new(alloc, room(form.work, keys.len()))?;
-    let count = passes(alloc, form.work, &mut cache, keys, chain, form.third);
-    drop(cache);
-    count
+    passes(alloc, form.work, &mut cache, keys, chain, form.third)
 }
 
 // A map for so many keys, made as the cache makes its own.
@@ -127,9 +121,7 @@ fn map_passes(
     chain: &Chain,
 ) -> Result<u64, NoMemory> {
     let mut map = map_for(alloc, room(form.work, keys.len()))?;
-    let count = passes(alloc, form.work, &mut map, keys, chain, form.second);
-    drop(map);
-    count
+    passes(alloc, form.work, &mut map, keys, chain, form.second)
 }
 
 /// How often it was done with so many keys in so many passes: on a cache, where each entry has a chain of so many links, or on a map.
@@ -137,12 +129,9 @@ pub(crate) fn worked_on(alloc: Global, form: Form) -> Result<u64, NoMemory> {
     let is_map = matches!(form.work, Work::MapGet | Work::MapPut);
     let keys = keys_of(alloc, form.first)?;
     let chain = chain_of(alloc, if is_map { 0 } else { form.second })?;
-    let count = if is_map {
+    if is_map {
         map_passes(alloc, form, &keys, &chain)
     } else {
         cache_passes(alloc, form, &keys, &chain)
-    };
-    drop(chain);
-    drop(keys);
-    count
+    }
 }

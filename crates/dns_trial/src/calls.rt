@@ -4,7 +4,7 @@ use crate::entries::{keys_of, plain_entry, value_in};
 use crate::plain_cache::Plain;
 use dns_cache::{CacheKey, ListCache, LruValidationCache, ValidationCache};
 use dns_multiplexer::{Draws, RandDraws};
-use dns_name::NoMemory;
+use dns_record::NoMemory;
 use std::alloc::Global;
 
 /// So many calls are played on one set of caches at most.
@@ -51,9 +51,7 @@ fn gives<C: ValidationCache>(
     wanted: Option<u32>,
 ) -> Result<bool, NoMemory> {
     let given = cache.get(alloc, call.key, call.moment)?;
-    let value = value_in(&given);
-    drop(given);
-    Ok(value == wanted)
+    Ok(value_in(&given) == wanted)
 }
 
 // Whether all three give one answer for a key, and have given entries as often.
@@ -119,7 +117,7 @@ fn difference_with(
     let mut hashed = LruValidationCache::new(alloc, capacity)?;
     let mut list = ListCache::new(alloc, capacity);
     let mut plain = Plain::new(alloc, capacity);
-    let difference = difference_on(
+    difference_on(
         alloc,
         random,
         &mut list,
@@ -128,11 +126,7 @@ fn difference_with(
         keys,
         first,
         end,
-    );
-    drop(plain);
-    drop(list);
-    drop(hashed);
-    difference
+    )
 }
 
 // The first of so many calls that isn't answered alike, by as many caches as these take.

@@ -6,8 +6,8 @@ use crate::measured::server;
 use dns_handle::NetError;
 use dns_link::{Link, PairLink};
 use dns_multiplexer::{BufDnsStreamHandle, SerialMessage};
-use dns_name::{NoMemory, Octets};
-use dns_transport::{Feed, TcpStream};
+use dns_record::{NoMemory, Octets};
+use dns_tcp::{Feed, TcpStream};
 use std::alloc::Global;
 
 /// The bytes of a message. As an array of a function they would be dear to prove.
@@ -19,7 +19,7 @@ const FRAME: usize = 512;
 /// So many messages go over a link.
 const MESSAGES: u32 = 100;
 
-/// The frames of a hundred messages, one behind the other: each message behind its length (RFC 1035, 4.2.2).
+// The frames of a hundred messages, one behind the other: each message behind its length (RFC 1035, 4.2.2).
 fn frames(alloc: Global) -> Result<Vec<u8>, NoMemory> {
     let mut bytes = Vec::new(alloc);
     for _ in 0..MESSAGES {
@@ -29,7 +29,7 @@ fn frames(alloc: Global) -> Result<Vec<u8>, NoMemory> {
     Ok(bytes)
 }
 
-/// A link with room for these frames where messages are to be written, and else one that gives them.
+// A link with room for these frames where messages are to be written, and else one that gives them.
 fn link_for(alloc: Global, work: Work, frames: &[u8]) -> Result<PairLink, NoMemory> {
     match work {
         Work::Written => PairLink::new(alloc, Vec::new(alloc), frames.len(), Vec::new(alloc)),
@@ -37,47 +37,39 @@ fn link_for(alloc: Global, work: Work, frames: &[u8]) -> Result<PairLink, NoMemo
     }
 }
 
-/// How many messages a stream gives until it ends.
+// How many messages a stream gives until it ends.
 fn read_all(stream: &mut TcpStream<PairLink>) -> u64 {
     let mut read: u64 = 0;
     for _ in 0..u64::MAX {
-        let reply = stream.feed();
-        let given = match &reply {
-            Ok(Feed::More) => Some(0),
-            Ok(Feed::Message(_)) => Some(1),
-            _ => None,
-        };
-        drop(reply);
-        match given {
-            Some(count) => read = read.saturating_add(count),
-            None => break,
+        match stream.feed() {
+            Ok(Feed::More) => {}
+            Ok(Feed::Message(_)) => read = read.saturating_add(1),
+            _ => break,
         }
     }
     read
 }
 
-/// A copy of bytes. It is a call of its own, so that no compiler leaves out a copy that nobody looks at.
+// A copy of bytes. It is a call of its own, so that no compiler leaves out a copy that nobody looks at.
 #[inline(never)]
 fn copy_of(alloc: Global, bytes: &[u8]) -> Result<Vec<u8>, NoMemory> {
     Ok(Vec::from_slice(alloc, bytes)?)
 }
 
-/// How many frames are read plainly off a link, each copied into a vector of its own.
+// How many frames are read plainly off a link, each copied into a vector of its own.
 fn copy_all(alloc: Global, link: &mut PairLink) -> Result<u64, NoMemory> {
     let mut buf = Vec::new(alloc);
     buf.resize(FRAME, 0)?;
     let mut copied: u64 = 0;
     for _ in 0..MESSAGES {
         if matches!(link.read(&mut buf), Ok(FRAME)) {
-            let copy = copy_of(alloc, &buf);
-            copied = copied.saturating_add(u64::from(copy.is_ok()));
-            drop(copy);
+            copied = copied.saturating_add(u64::from(copy_of(alloc, &buf).is_ok()));
         }
     }
     Ok(copied)
 }
 
-/// Whether a message is put into a stream's queue and written, so that nothing waits.
+// Whether a message is put into a stream's queue and written, so that nothing waits.
 fn is_written(
     alloc: Global,
     stream: &mut TcpStream<PairLink>,
@@ -85,23 +77,19 @@ fn is_written(
 ) -> Result<bool, NoMemory> {
     let bytes = Octets::from_slice(alloc, MESSAGE)?;
     if bytes.is_empty() {
-        drop(bytes);
         return Ok(false);
     }
     let addr = server();
-    let put = stream.enqueue(handle, SerialMessage { bytes, addr });
-    let is_put = put.is_ok();
-    drop(put);
-    if !is_put {
+    if stream
+        .enqueue(handle, SerialMessage { bytes, addr })
+        .is_err()
+    {
         return Ok(false);
     }
-    let drained = stream.drain();
-    let is_drained = matches!(&drained, Ok(true));
-    drop(drained);
-    Ok(is_drained)
+    Ok(matches!(stream.drain(), Ok(true)))
 }
 
-/// How many of a hundred messages are written.
+// How many of a hundred messages are written.
 fn write_all(
     alloc: Global,
     stream: &mut TcpStream<PairLink>,
@@ -114,30 +102,23 @@ fn write_all(
     Ok(written)
 }
 
-/// How many messages are read off a link, or written to one.
+// How many messages are read off a link, or written to one.
 fn streamed(alloc: Global, work: Work, link: PairLink) -> Result<u64, NoMemory> {
     let (mut stream, mut handle) = TcpStream::from_stream(alloc, link, server());
-    let count = match work {
+    match work {
         Work::Read => Ok(read_all(&mut stream)),
         _ => write_all(alloc, &mut stream, &mut handle),
-    };
-    drop(handle);
-    drop(stream);
-    count
+    }
 }
 
-/// How often it went well over one link.
+// How often it went well over one link.
 fn carried_once(alloc: Global, work: Work, frames: &[u8]) -> Result<u64, NoMemory> {
     let mut link = link_for(alloc, work, frames)?;
-    if let Work::Read | Work::Written = work {
-        return streamed(alloc, work, link);
-    }
-    let count = match work {
+    match work {
+        Work::Read | Work::Written => streamed(alloc, work, link),
         Work::Copied => copy_all(alloc, &mut link),
         _ => Ok(u64::from(MESSAGES)),
-    };
-    drop(link);
-    count
+    }
 }
 
 /// How often it went well over so many links.

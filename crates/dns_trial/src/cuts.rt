@@ -2,11 +2,11 @@
 ghost use Rattle.std.specs.Prelude.{◌≢◌, [], All, IfOk};
 
 use dns_handle::NetError;
-use dns_name::{NoMemory, Octets};
-use dns_transport::unframe;
+use dns_record::{NoMemory, Octets};
+use dns_tcp::unframe;
 use std::alloc::Global;
 
-/// A message of so many bytes, at most 65,535, behind its length (RFC 1035, 4.2.2).
+// A message of so many bytes, at most 65,535, behind its length (RFC 1035, 4.2.2).
 fn framed(alloc: Global, len: u32) -> Result<Vec<u8>, NoMemory> {
     let len = u16::try_from(len).unwrap_or(u16::MAX);
     let [high, low] = len.to_be_bytes();
@@ -18,7 +18,7 @@ fn framed(alloc: Global, len: u32) -> Result<Vec<u8>, NoMemory> {
     Ok(bytes)
 }
 
-/// Puts bytes behind other pieces as one of their own, if there are any.
+// Puts bytes behind other pieces as one of their own, if there are any.
 fn push_piece(alloc: Global, pieces: &mut Vec<Octets>, bytes: &[u8]) -> Result<(), NoMemory>
     requires { All (λ piece. piece ≢ []) pieces.old.items }
     ensures { All (λ piece. piece ≢ []) pieces.new.items }
@@ -41,7 +41,7 @@ pub(crate) fn cut_at(alloc: Global, bytes: &[u8], at: usize) -> Result<Vec<Octet
     Ok(pieces)
 }
 
-/// Bytes as pieces of one byte each.
+// Bytes as pieces of one byte each.
 fn single_bytes(alloc: Global, bytes: &[u8]) -> Result<Vec<Octets>, NoMemory>
     ensures { IfOk result (λ pieces. All (λ piece. piece ≢ []) pieces.items) }
 {
@@ -52,7 +52,7 @@ fn single_bytes(alloc: Global, bytes: &[u8]) -> Result<Vec<Octets>, NoMemory>
     Ok(pieces)
 }
 
-/// Whether what was read is the message of a frame alone.
+// Whether what was read is the message of a frame alone.
 fn is_message(read: &Result<Vec<Octets>, NetError>, frame: &[u8]) -> Result<bool, NoMemory> {
     match read {
         Ok(messages) => match (messages.as_slice(), frame) {
@@ -64,17 +64,15 @@ fn is_message(read: &Result<Vec<Octets>, NetError>, frame: &[u8]) -> Result<bool
     }
 }
 
-/// How often pieces give the message of a frame, and no more: once or never.
+// How often pieces give the message of a frame, and no more: once or never.
 fn times_read(alloc: Global, pieces: Vec<Octets>, frame: &[u8]) -> Result<u64, NoMemory>
     requires { All (λ piece. piece ≢ []) pieces.items }
 {
-    let read = unframe(alloc, pieces);
-    let held = is_message(&read, frame);
-    drop(read);
-    Ok(u64::from(held?))
+    let held = is_message(&unframe(alloc, pieces), frame)?;
+    Ok(u64::from(held))
 }
 
-/// How often a frame gives its message, cut before each of its bytes in turn.
+// How often a frame gives its message, cut before each of its bytes in turn.
 fn times_cut(alloc: Global, frame: &[u8]) -> Result<u64, NoMemory> {
     let mut read: u64 = 0;
     for at in 0..frame.len() {

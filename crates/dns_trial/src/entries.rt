@@ -4,8 +4,7 @@ ghost use Rattle.std.specs.Prelude.{◌≤◌, length};
 use dns_cache::{CacheKey, Entry, RrsetProof};
 use dns_evidence::{Chain, Link};
 use dns_model::{Proof, Section};
-use dns_name::{Name, NoMemory};
-use dns_record::{DNSClass, Query, Rdata, Record, RecordSet, RecordType};
+use dns_record::{DNSClass, Name, NoMemory, Query, Rdata, Record, RecordSet, RecordType};
 use std::alloc::Global;
 
 // The owner of all sets: `zone.example.`.
@@ -23,21 +22,14 @@ const SOME_BYTES: &[u8; 96] = &[7; 96];
 fn record(alloc: Global, record_type: RecordType, bytes: &[u8]) -> Result<Record, NoMemory>
     requires { length bytes.now ≤ 65535 }
 {
-    let rdata = Rdata::from_slice(alloc, bytes)?;
-    match owner(alloc) {
-        Ok(name) => Ok(Record {
-            name,
-            record_type,
-            dns_class: DNSClass::IN,
-            ttl: 3600,
-            rdata,
-            proof: Proof::Indeterminate,
-        }),
-        Err(error) => {
-            drop(rdata);
-            Err(error)
-        }
-    }
+    Ok(Record {
+        name: owner(alloc)?,
+        record_type,
+        dns_class: DNSClass::IN,
+        ttl: 3600,
+        rdata: Rdata::from_slice(alloc, bytes)?,
+        proof: Proof::Indeterminate,
+    })
 }
 
 // Puts a signature behind those of a set.
@@ -51,32 +43,19 @@ fn sign(alloc: Global, set: &mut RecordSet) -> Result<(), NoMemory> {
 fn set_of(alloc: Global, number: u32) -> Result<RecordSet, NoMemory> {
     let address = record(alloc, RecordType::A, &number.to_be_bytes())?;
     let mut set = RecordSet::of(alloc, address)?;
-    match sign(alloc, &mut set) {
-        Ok(()) => Ok(set),
-        Err(error) => {
-            drop(set);
-            Err(error)
-        }
-    }
+    sign(alloc, &mut set)?;
+    Ok(set)
 }
 
 // The key for a number.
 fn key_of(alloc: Global, number: u32) -> Result<CacheKey, NoMemory> {
+    let query = Query {
+        name: owner(alloc)?,
+        query_type: RecordType::A,
+        query_class: DNSClass::IN,
+    };
     let set = set_of(alloc, number)?;
-    match owner(alloc) {
-        Ok(name) => Ok(CacheKey {
-            query: Query {
-                name,
-                query_type: RecordType::A,
-                query_class: DNSClass::IN,
-            },
-            set,
-        }),
-        Err(error) => {
-            drop(set);
-            Err(error)
-        }
-    }
+    Ok(CacheKey { query, set })
 }
 
 /// So many keys, no two equal.
@@ -92,45 +71,19 @@ fn some_bytes(alloc: Global) -> Result<Rdata, NoMemory> {
     Rdata::from_slice(alloc, SOME_BYTES)
 }
 
-// A signature and the key that made it.
-fn signed(alloc: Global) -> Result<(Rdata, Rdata), NoMemory> {
-    let sig = some_bytes(alloc)?;
-    match some_bytes(alloc) {
-        Ok(key) => Ok((sig, key)),
-        Err(error) => {
-            drop(sig);
-            Err(error)
-        }
-    }
-}
-
 // A signed link of one rdata.
 fn link(alloc: Global, number: u32) -> Result<Link, NoMemory> {
     let mut rdatas = Vec::new(alloc);
     rdatas.push(some_bytes(alloc)?)?;
-    let owner = match owner(alloc) {
-        Ok(owner) => owner,
-        Err(error) => {
-            drop(rdatas);
-            return Err(error);
-        }
-    };
-    match signed(alloc) {
-        Ok((sig, key)) => Ok(Link::Signed {
-            owner,
-            class: DNSClass::IN,
-            record_type: RecordType::DNSKEY,
-            rdatas,
-            sig,
-            key_link: number,
-            key,
-        }),
-        Err(error) => {
-            drop(owner);
-            drop(rdatas);
-            Err(error)
-        }
-    }
+    Ok(Link::Signed {
+        owner: owner(alloc)?,
+        class: DNSClass::IN,
+        record_type: RecordType::DNSKEY,
+        rdatas,
+        sig: some_bytes(alloc)?,
+        key_link: number,
+        key: some_bytes(alloc)?,
+    })
 }
 
 /// A chain of so many signed links.
@@ -153,13 +106,8 @@ pub(crate) fn secure_entry(key: &CacheKey, chain: &Chain) -> Result<Entry, NoMem
         rrsig_index: Some(0),
     };
     let chain = chain.try_clone()?;
-    match key.try_clone() {
-        Ok(key) => Ok(Entry::new(key, u64::MAX, Ok(found), Some(chain))),
-        Err(error) => {
-            drop(chain);
-            Err(error)
-        }
-    }
+    let key = key.try_clone()?;
+    Ok(Entry::new(key, u64::MAX, Ok(found), Some(chain)))
 }
 
 /// An entry of a key without a chain; its value tells it from others.
@@ -175,11 +123,9 @@ pub(crate) fn plain_entry(key: &CacheKey, expires: u64, value: u32) -> Result<En
 
 /// The value of an entry that was given.
 pub(crate) fn value_in(given: &Option<Entry>) -> Option<u32> {
-    match given {
-        Some(entry) => match &entry.result {
-            Ok(found) => found.adjusted_ttl,
-            Err(_) => None,
-        },
-        None => None,
+    let entry = given.as_ref()?;
+    match &entry.result {
+        Ok(found) => found.adjusted_ttl,
+        Err(_) => None,
     }
 }

@@ -4,7 +4,7 @@ use crate::few_ids::FewIds;
 use crate::measured::{answer, multiplexer, response};
 use crate::plain_mux::{Event, MAXIMUM, Plain};
 use dns_multiplexer::{DnsMultiplexer, Draws, RandDraws};
-use dns_name::NoMemory;
+use dns_record::NoMemory;
 use std::alloc::Global;
 
 /// So many events are played on one pair of machines at most.
@@ -68,10 +68,7 @@ fn play(
 ) -> Result<Played, NoMemory> {
     let mut mux = multiplexer(alloc, FewIds::from_seed(seed, 3), MAXIMUM);
     let mut plain = Plain::new(alloc, FewIds::from_seed(seed, 3));
-    let played = play_on(alloc, random, &mut mux, &mut plain, first, end);
-    drop(plain);
-    drop(mux);
-    played
+    play_on(alloc, random, &mut mux, &mut plain, first, end)
 }
 
 // The first of so many events that isn't answered alike, by as many pairs as these take: the first one's draws have the seed.

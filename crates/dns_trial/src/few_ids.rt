@@ -1,3 +1,4 @@
+//! Few ids, so that live ones are often drawn.
 use dns_multiplexer::{Draws, RandDraws};
 
 /// Draws ids from 0 up to the greatest alone. Where that is 3, live ids are often drawn.

@@ -25,7 +25,7 @@ use dns_io::{OutputSink, status, words_of};
 use program::run;
 use std::process::ExitCode;
 
-/// Words that can't be read are no form.
+// Words that can't be read are no form.
 fn main(rt: HostRuntime) -> ExitCode {
     let alloc = rt.alloc();
     let words = match words_of(&rt) {

@@ -7,7 +7,7 @@ use dns_message::Message;
 use dns_multiplexer::{
     BufDnsStreamHandle, DnsMultiplexer, DnsRequestSender, RequestId, SerialMessage, Taken,
 };
-use dns_name::NoMemory;
+use dns_record::NoMemory;
 use std::alloc::Global;
 use std::net::{IpAddr, Ipv4Addr, SocketAddr};
 
@@ -71,12 +71,7 @@ pub(crate) fn send(
     if mux.is_shutdown() {
         return Ok(Answer::Other);
     }
-    let request = request(alloc);
-    let sent = mux.send_message(alloc, &request, moment);
-    drop(request);
-    let told = told_by(&sent);
-    drop(sent);
-    told
+    told_by(&mux.send_message(alloc, &request(alloc), moment))
 }
 
 fn given(taken: &Taken) -> Answer {
@@ -93,10 +88,7 @@ fn given(taken: &Taken) -> Answer {
 
 /// What a request is given.
 pub(crate) fn taken(mux: &mut DnsMultiplexer<FewIds>, number: u64) -> Answer {
-    let taken = mux.take(RequestId(number));
-    let answer = given(&taken);
-    drop(taken);
-    answer
+    given(&mux.take(RequestId(number)))
 }
 
 fn outbound(message: &Option<SerialMessage>) -> Answer {
@@ -111,10 +103,7 @@ fn outbound(message: &Option<SerialMessage>) -> Answer {
 
 /// What is popped.
 pub(crate) fn popped(mux: &mut DnsMultiplexer<FewIds>) -> Answer {
-    let message = mux.pop_outbound();
-    let answer = outbound(&message);
-    drop(message);
-    answer
+    outbound(&mux.pop_outbound())
 }
 
 /// What the multiplexer answers to an event, where the bytes that come are those of a response.

@@ -6,7 +6,7 @@ use crate::measured::{multiplexer, popped, response, send, set_front, taken};
 use crate::plain_mux::Answer;
 use dns_message::Message;
 use dns_multiplexer::{Arrival, DnsMultiplexer, DnsRequestSender, RequestId};
-use dns_name::NoMemory;
+use dns_record::NoMemory;
 use std::alloc::Global;
 
 // Sends a request and takes its message out: its number and its id. None where it is refused.
@@ -88,10 +88,7 @@ pub(crate) fn load(alloc: Global, form: Form) -> Result<u64, NoMemory> {
     let draws = FewIds::from_seed(1, u16::MAX);
     let mut mux = multiplexer(alloc, draws, (form.first as usize).saturating_add(1));
     let mut ids = Vec::new(alloc);
-    let count = load_by(alloc, &mut mux, form, &mut ids);
-    drop(ids);
-    drop(mux);
-    count
+    load_by(alloc, &mut mux, form, &mut ids)
 }
 
 /// How many of so many responses are decoded, without a multiplexer.
@@ -102,7 +99,6 @@ pub(crate) fn decoded(alloc: Global, times: u32) -> u64 {
         set_front(&mut response, (number % 65536) as u16, 0);
         let message = Message::from_vec(alloc, &response);
         count = count.saturating_add(u64::from(message.is_ok()));
-        drop(message);
     }
     count
 }

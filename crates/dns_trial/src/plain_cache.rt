@@ -1,7 +1,7 @@
 //! A cache as one would write it with a list of numbers alone.
 ghost use Rattle.std.specs.Prelude.{◌<◌, length, IfSome};
 
-use dns_name::NoMemory;
+use dns_record::NoMemory;
 use std::alloc::Global;
 
 /// What is kept for the key with a number.

@@ -3,7 +3,7 @@ ghost use Rattle.std.specs.Prelude.{◌<◌, length, IfSome};
 
 use crate::few_ids::FewIds;
 use dns_multiplexer::{Arrival, Draws, RequestId};
-use dns_name::NoMemory;
+use dns_record::NoMemory;
 use std::alloc::Global;
 
 /// So many requests are live at most: one more than there are ids.

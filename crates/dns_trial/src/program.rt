@@ -14,7 +14,7 @@ use crate::texts::push_line;
 use crate::{calls, events};
 use dns_io::Sink;
 use dns_io::status::{self, refuse_words, write_text};
-use dns_name::NoMemory;
+use dns_record::NoMemory;
 use std::alloc::Global;
 use std::thread::Threads;
 

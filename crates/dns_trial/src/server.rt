@@ -5,7 +5,7 @@ use std::net::TcpListener;
 /// The bytes of a request without a question, behind their length.
 pub(crate) const FRAME: usize = 14;
 
-/// Answers so many requests of a connection, and counts them.
+// Answers so many requests of a connection, and counts them.
 fn serve_all<S: Read + Write>(stream: &mut S, count: u32) -> u64 {
     let mut buf = [0u8; FRAME];
     let mut served: u64 = 0;

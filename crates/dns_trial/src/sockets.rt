@@ -2,16 +2,16 @@
 use crate::form::Work;
 use crate::measured::request;
 use crate::server::{FRAME, serve};
-use dns_exchange::TcpExchange;
 use dns_handle::{DnsHandle, NetError};
 use dns_link::{Link, SocketDialer};
 use dns_multiplexer::{Draws, RandDraws};
+use dns_tcp::TcpExchange;
 use std::alloc::Global;
 use std::io::{Read, Write};
 use std::net::{SocketAddr, TcpListener, TcpStream};
 use std::thread::{Threads, join};
 
-/// Sends so many requests by an exchange, if one was made, and counts the answers.
+// Sends so many requests by an exchange, if one was made, and counts the answers.
 fn ask_all<L: Link + Drop, D: Draws + Drop>(
     alloc: Global,
     made: &mut Result<TcpExchange<L, D>, NetError>,
@@ -22,23 +22,20 @@ fn ask_all<L: Link + Drop, D: Draws + Drop>(
         for _ in 0..count {
             let answer = exchange.send(alloc, request(alloc), 1000);
             answered = answered.saturating_add(u64::from(answer.is_ok()));
-            drop(answer);
         }
     }
     answered
 }
 
-/// The same over a new connection.
+// The same over a new connection.
 fn ask(rt: &HostRuntime, alloc: Global, server: SocketAddr, count: u32) -> u64 {
     let mut dial = SocketDialer::new(rt);
     let draws = RandDraws::from_seed(1);
     let mut made = TcpExchange::connect(alloc, &mut dial, server, None, 5000, None, draws);
-    let answered = ask_all(alloc, &mut made, count);
-    drop(made);
-    answered
+    ask_all(alloc, &mut made, count)
 }
 
-/// Writes and reads as many bytes by a plain stream.
+// Writes and reads as many bytes by a plain stream.
 fn echo_all<S: Read + Write>(stream: &mut S, count: u32) -> u64 {
     let mut buf = [0u8; FRAME];
     buf[1] = 12;
@@ -52,7 +49,7 @@ fn echo_all<S: Read + Write>(stream: &mut S, count: u32) -> u64 {
     answered
 }
 
-/// The same by a new socket.
+// The same by a new socket.
 fn echo(rt: &HostRuntime, server: SocketAddr, count: u32) -> u64 {
     match TcpStream::connect(rt, server) {
         Ok(mut stream) => echo_all(&mut stream, count),
@@ -60,7 +57,7 @@ fn echo(rt: &HostRuntime, server: SocketAddr, count: u32) -> u64 {
     }
 }
 
-/// The same by an exchange, or by a plain socket.
+// The same by an exchange, or by a plain socket.
 fn ask_by(rt: &HostRuntime, alloc: Global, work: Work, server: SocketAddr, count: u32) -> u64 {
     match work {
         Work::Asked => ask(rt, alloc, server, count),
@@ -68,7 +65,7 @@ fn ask_by(rt: &HostRuntime, alloc: Global, work: Work, server: SocketAddr, count
     }
 }
 
-/// How many of so many requests a listener of this machine answers.
+// How many of so many requests a listener of this machine answers.
 fn answered_by<T: Threads>(
     rt: &HostRuntime,
     threads: &T,

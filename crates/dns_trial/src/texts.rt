@@ -1,6 +1,6 @@
 //! The texts that the program writes.
 
-use dns_name::NoMemory;
+use dns_record::NoMemory;
 use dns_text::push_decimal;
 
 /// Puts a line with a word and a number behind a text.

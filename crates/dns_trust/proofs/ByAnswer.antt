@@ -49,7 +49,8 @@ by_fit : (j : Judge) (set : RrSet) (r : Rr) (cs : List ChainedSet) (sig : RrsigV
 by_fit j set r cs sig o is h found =
     let test = is_key_set_of set.class sig.signer in
     by_read j set r cs sig is ∙ ap (by_whole j set r cs sig) h
-    ∙ ap (λ k. with_chain (by_key_set j set r sig.signer k) (chain_by_set j set r sig.signer (find (λ c. test c.judged) cs))) (find-map test (λ c. c.judged) cs)
+    ∙ ap (λ k. with_chain (by_key_set j set r sig.signer k) (chain_by_set j set r sig.signer (find (λ c. test c.judged) cs)))
+    (find-map test (λ c. c.judged) cs)
     ∙ ap (by_found j set r sig.signer) found
 
 -- none is proved where the answer has no key set of the signer
@@ -58,7 +59,8 @@ pub no_key_set : (j : Judge) (set : RrSet) (r : Rr) (cs : List ChainedSet) (sig 
     → find (λ c. is_key_set_of set.class sig.signer c.judged) cs ≡ None → chained_verdict j set r (Some cs) ≡ failed
 no_key_set j set r cs sig is h found = by_fit j set r cs sig None is h found
 
-pub key_set_decides : (j : Judge) (set : RrSet) (r : Rr) (cs : List ChainedSet) (sig : RrsigValue) (keys : ChainedSet) → rrsig_of r ≡ Some sig
+pub key_set_decides : (j : Judge) (set : RrSet) (r : Rr) (cs : List ChainedSet) (sig : RrsigValue) (keys : ChainedSet)
+    → rrsig_of r ≡ Some sig
     → may_be_signed set sig ≡ true
     → find (λ c. is_key_set_of set.class sig.signer c.judged) cs ≡ Some keys
     → chained_verdict j set r (Some cs) ≡ chained_by_set j set r sig.signer keys

@@ -26,7 +26,8 @@ use Rattle.dns_trust.specs.KeysMarks.{MarkedValue, outcome_marked, by_ds_records
 abbrev pub unproved : Proof → MarkedValue
 unproved mark = record { mark = mark; sig = None; chain = [] }
 
-pub by_anchors : (j : Judge) (placed : PlacedSet) → chained_with placed (outcome_marked j placed.set [] (keys_outcome j placed.set None)) ≡ chained_keys j placed
+pub by_anchors : (j : Judge) (placed : PlacedSet)
+    → chained_with placed (outcome_marked j placed.set [] (keys_outcome j placed.set None)) ≡ chained_keys j placed
 unfolding chained_keys
 by_anchors j placed = refl
 
@@ -41,7 +42,8 @@ pub no_answer : (j : Judge) (set : RrSet) → unproved proof.Bogus ≡ marked_by
 unfolding zone_verdict
 no_answer j set = refl
 
-map_or-map : {X Y Z : Type 0} (g : Y → Z) (f : X → Y) (o : Option X) (d : Z) → option_map_or g (option_map f o) d ≡ option_map_or (λ x. g (f x)) o d
+map_or-map : {X Y Z : Type 0} (g : Y → Z) (f : X → Y) (o : Option X) (d : Z)
+    → option_map_or g (option_map f o) d ≡ option_map_or (λ x. g (f x)) o d
 map_or-map g f None d = refl
 map_or-map g f (Some x) d = refl
 
@@ -51,7 +53,8 @@ verdict_found verifier zone answer found =
     option_map_or (λ c. verdict_by_ds verifier zone c.judged.mark c.judged.set.records) found (verdict_without_ds zone (bare answer))
 
 pub verdict_of_answer : (verifier : VerifierAnswers) (class : ℕ) (zone : Labels) (answer : List ChainedSet) (found : Option ChainedSet)
-    → find (λ c. is_ds_set_of class zone c.judged) answer ≡ found → zone_verdict verifier class zone (Some (bare answer)) ≡ verdict_found verifier zone answer found
+    → find (λ c. is_ds_set_of class zone c.judged) answer ≡ found
+    → zone_verdict verifier class zone (Some (bare answer)) ≡ verdict_found verifier zone answer found
 unfolding zone_verdict
 verdict_of_answer verifier class zone answer found is =
     let test = is_ds_set_of class zone in
@@ -64,20 +67,24 @@ verdict_of_answer verifier class zone answer found is =
 marked_found : (j : Judge) (set : RrSet) (answer : List ChainedSet) (found : Option ChainedSet)
     → find (λ c. is_ds_set_of set.class set.owner c.judged) answer ≡ found
     → marked_by_zone j set (Some answer)
-    ≡ outcome_marked j set (option_map_or (λ c. c.chain) found []) (outcome_beside j set (Some (verdict_found j.answers set.owner answer found)))
+    ≡ outcome_marked j set (option_map_or (λ c. c.chain) found [])
+    (outcome_beside j set (Some (verdict_found j.answers set.owner answer found)))
 marked_found j set answer found is =
-    let marked = λ (o : Option ChainedSet) (v : ZoneVerdict). outcome_marked j set (option_map_or (λ c. c.chain) o []) (outcome_beside j set (Some v)) in
+    let marked = λ (o : Option ChainedSet) (v : ZoneVerdict). outcome_marked j set (option_map_or (λ c. c.chain) o [])
+    (outcome_beside j set (Some v)) in
     ap (λ o. marked o (zone_verdict j.answers set.class set.owner (Some (bare answer)))) is
     ∙ ap (marked found) (verdict_of_answer j.answers set.class set.owner answer found is)
 
 pub by_found : (j : Judge) (set : RrSet) (answer : List ChainedSet) (found : ChainedSet)
-    → find (λ c. is_ds_set_of set.class set.owner c.judged) answer ≡ Some found → marked_by_found j set found ≡ marked_by_zone j set (Some answer)
+    → find (λ c. is_ds_set_of set.class set.owner c.judged) answer ≡ Some found
+    → marked_by_found j set found ≡ marked_by_zone j set (Some answer)
 by_found j set answer found is = sym (marked_found j set answer (Some found) is)
 
 -- what an answer without a DS set of the owner leaves
 unproved_if : (j : Judge) (set : RrSet) (b : Bool)
     → unproved ((unsigned_mark (if b then Insecure (DsResponseInsecure set.owner) else Bogus (DsRecordShouldExist set.owner))).mark)
-    ≡ outcome_marked j set [] (outcome_beside j set (Some (if b then Insecure (DsResponseInsecure set.owner) else Bogus (DsRecordShouldExist set.owner))))
+    ≡ outcome_marked j set [] (outcome_beside j set (Some (if b then Insecure (DsResponseInsecure set.owner)
+    else Bogus (DsRecordShouldExist set.owner))))
 unproved_if j set true = refl
 unproved_if j set false = refl
 
@@ -118,7 +125,8 @@ by_unsupported : (j : Judge) (set : RrSet) (front : List LinkValue) (kept : List
 by_unsupported j set front kept true = refl
 by_unsupported j set front kept false = refl
 
-pub none_supported : (j : Judge) (set : RrSet) (front : List LinkValue) (records : List Rr) → filter (is_supported_ds j.answers) records ≡ []
+pub none_supported : (j : Judge) (set : RrSet) (front : List LinkValue) (records : List Rr)
+    → filter (is_supported_ds j.answers) records ≡ []
     → unproved (unsupported_mark records) ≡ by_ds_records j set front records
 none_supported j set front records none =
     let test = is_supported_ds j.answers in
@@ -126,9 +134,11 @@ none_supported j set front records none =
     by_unsupported j set front (filter test records) readable
     ∙ sym (ap (by_test j set front (filter test records) readable) (any_kept test records ∙ ap has_one none))
 
-pub some_supported : (j : Judge) (set : RrSet) (front : List LinkValue) (records kept : List Rr) → kept ≡ filter (is_supported_ds j.answers) records
+pub some_supported : (j : Judge) (set : RrSet) (front : List LinkValue) (records kept : List Rr)
+    → kept ≡ filter (is_supported_ds j.answers) records
     → (kept ≡ [] → ⊥) → outcome_marked j set front (outcome_beside_ds j set kept) ≡ by_ds_records j set front records
 some_supported j set front records kept is some =
     let test = is_supported_ds j.answers in
     ap (λ rs. outcome_marked j set front (outcome_beside_ds j set rs)) (is ∙ sym (filter-filter test records))
-    ∙ sym (ap (by_test j set front (filter test records) (list_any is_readable_ds records)) (any_kept test records ∙ sym (ap has_one is) ∙ one_if kept some))
+    ∙ sym (ap (by_test j set front (filter test records) (list_any is_readable_ds records)) (any_kept test records
+    ∙ sym (ap has_one is) ∙ one_if kept some))

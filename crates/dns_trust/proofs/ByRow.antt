@@ -25,7 +25,8 @@ failed_row verifier class zone = refl
 -- an answer with a DS set of the zone
 pub found_row : (verifier : VerifierAnswers) (class : ℕ) (zone : Labels) (answer : List ChainedSet) (found : ChainedSet)
     → find (λ c. is_ds_set_of class zone c.judged) answer ≡ Some found
-    → row_of (verdict_by_ds verifier zone found.judged.mark found.judged.set.records) ≡ row_of (zone_verdict verifier class zone (Some (bare answer)))
+    → row_of (verdict_by_ds verifier zone found.judged.mark found.judged.set.records)
+    ≡ row_of (zone_verdict verifier class zone (Some (bare answer)))
 found_row verifier class zone answer found is = ap row_of (sym (verdict_of_answer verifier class zone answer (Some found) is))
 
 -- and one without

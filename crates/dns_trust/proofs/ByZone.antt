@@ -21,7 +21,8 @@ insecure_if : (zone : Labels) (b : Bool)
 insecure_if zone true = refl
 insecure_if zone false = refl
 
-any_either : (p q : ChainedSet → Bool) (answer : List ChainedSet) → list_any (λ c. p c || q c) answer ≡ (list_any p answer || list_any q answer)
+any_either : (p q : ChainedSet → Bool) (answer : List ChainedSet)
+    → list_any (λ c. p c || q c) answer ≡ (list_any p answer || list_any q answer)
 any_either p q [] = refl
 any_either p q (c ∷ cs) = ap (λ b. (p c || q c) || b) (any_either p q cs) ∙ or_twice (p c) (q c) (list_any p cs) (list_any q cs)
 
@@ -57,10 +58,12 @@ mark_shown zone answer is =
 -- and else by hashes
 pub mark_hashed : (zone : Labels) (answer : List ChainedSet)
     → list_any (λ c. shows_no_ds zone c.judged || is_insecure_above zone c.judged) answer ≡ false
-    → (if shows_no_ds_by_hash zone (bare answer) then proof.Insecure else proof.Bogus) ≡ (unsigned_mark (verdict_without_ds zone (bare answer))).mark
+    → (if shows_no_ds_by_hash zone (bare answer) then proof.Insecure else proof.Bogus)
+    ≡ (unsigned_mark (verdict_without_ds zone (bare answer))).mark
 mark_hashed zone answer not_shown =
     let shown = list_any (shows_no_ds zone) (bare answer) in
     let hashed = shows_no_ds_by_hash zone (bare answer) in
     let above = list_any (is_insecure_above zone) (bare answer) in
-    ap (λ b. if b then proof.Insecure else proof.Bogus) (sym (either_false shown hashed above (sym (shown_or_above zone answer) ∙ not_shown)))
+    ap (λ b. if b then proof.Insecure
+    else proof.Bogus) (sym (either_false shown hashed above (sym (shown_or_above zone answer) ∙ not_shown)))
     ∙ insecure_if zone (shown || (hashed || above))

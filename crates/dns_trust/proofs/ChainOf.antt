@@ -21,7 +21,8 @@ chain_else-append [] v chain = refl
 chain_else-append (w ∷ vs) v chain = ap (chain_if_proved w.verdict w.chain) (chain_else-append vs v chain)
 
 -- one link more, behind a front
-pub links_more : {L : Type 0} (value : L → LinkValue) (link_of : Rr → LinkValue) (front : List LinkValue) (links more : List L) (keys all : List Rr) (i : ℕ) (link : L) (key : Rr)
+pub links_more : {L : Type 0} (value : L → LinkValue) (link_of : Rr
+    → LinkValue) (front : List LinkValue) (links more : List L) (keys all : List Rr) (i : ℕ) (link : L) (key : Rr)
     → keys ≡ all → i < length keys → key ≡ slice_index_or keys i key → value link ≡ link_of key → more ≡ links ++ link ∷ []
     → map value links ≡ front ++ map link_of (take i all)
     → map value more ≡ front ++ map link_of (take (i + 1) all)

@@ -29,7 +29,8 @@ two_more [] r = refl
 two_more (a ∷ []) r = refl
 two_more (a ∷ b ∷ ys) r = refl
 
-counted_step : (ys kept : List Rr) (b : Bool) (r : Rr) → kept ≡ take 2 ys → (if b then kept_two kept r else kept) ≡ take 2 (ys ++ cond b (r ∷ []) [])
+counted_step : (ys kept : List Rr) (b : Bool) (r : Rr) → kept ≡ take 2 ys
+    → (if b then kept_two kept r else kept) ≡ take 2 (ys ++ cond b (r ∷ []) [])
 counted_step ys kept true r is = ap (λ k. kept_two k r) is ∙ two_more ys r
 counted_step ys kept false r is = is ∙ ap (take 2) (sym (append-nil ys))
 
@@ -45,7 +46,8 @@ eq_back n a = grind (arith, nat_tests)
 
 -- another algorithm or tag is another key of the map
 pub tag_at : (n m a t : ℕ) → is_at (algorithm_tag_cmp (n, m)) (a, t) ≡ ((a == n) && (t == m))
-tag_at n m a t = then_eq (nat_cmp n a) (nat_cmp m t) ∙ ap (λ b. b && is_eq (nat_cmp m t)) (eq_back n a) ∙ ap (λ b. (a == n) && b) (eq_back m t)
+tag_at n m a t = then_eq (nat_cmp n a) (nat_cmp m t) ∙ ap (λ b. b && is_eq (nat_cmp m t)) (eq_back n a)
+    ∙ ap (λ b. (a == n) && b) (eq_back m t)
 
 few_true : (n : ℕ) → n < 2 → nat_lt n 2 ≡ true
 few_true n h = grind (arith, nat_tests)
@@ -92,7 +94,8 @@ module _ {Z : Type 0} where
 
   -- there were two
   pub tag_full : (m : BTreeMap (ℕ × ℕ) (Vec (Bor Rr) Z)) (there : Vec (Bor Rr) Z) (r : Rr) (algorithm tag : ℕ)
-      → Some there ≡ get algorithm_tag_cmp m (algorithm, tag) → 2 ≤ length there.items → shown there.items ≡ kept_two (counted_at m algorithm tag) r
+      → Some there ≡ get algorithm_tag_cmp m (algorithm, tag) → 2 ≤ length there.items
+      → shown there.items ≡ kept_two (counted_at m algorithm tag) r
   unfolding counted_at
   tag_full m there r algorithm tag is full =
       sym (ap (λ o. kept_two (shown_or_none o) r) (sym is)
@@ -104,16 +107,20 @@ module _ {Z : Type 0} where
   unfolding counted_at
   tag_new m v r algorithm tag is one = ap shown one ∙ ap (λ o. kept_two (shown_or_none o) r.now) is
 
-  pub none_counted : (owner : Labels) (records : List Rr) (m : BTreeMap (ℕ × ℕ) (Vec (Bor Rr) Z)) → m.entries ≡ [] → KeepsFirstTwo owner (take 0 records) m
+  pub none_counted : (owner : Labels) (records : List Rr) (m : BTreeMap (ℕ × ℕ) (Vec (Bor Rr) Z)) → m.entries ≡ []
+      → KeepsFirstTwo owner (take 0 records) m
   unfolding counted_at
   none_counted owner records m empty a t = rw empty refl
 
-  pub counted_all : (owner : Labels) (records : List Rr) (i : ℕ) (m : BTreeMap (ℕ × ℕ) (Vec (Bor Rr) Z)) → length records ≤ i → KeepsFirstTwo owner (take i records) m
+  pub counted_all : (owner : Labels) (records : List Rr) (i : ℕ) (m : BTreeMap (ℕ × ℕ) (Vec (Bor Rr) Z)) → length records ≤ i
+      → KeepsFirstTwo owner (take i records) m
       → KeepsFirstTwo owner records m
-  counted_all owner records i m h counted a t = counted a t ∙ ap (λ rs. take 2 (filter (is_delegation_at owner a t) rs)) (take_all i records h)
+  counted_all owner records i m h counted a t = counted a t
+      ∙ ap (λ rs. take 2 (filter (is_delegation_at owner a t) rs)) (take_all i records h)
 
   -- one record more
-  pub counted_more : (owner : Labels) (records : List Rr) (i : ℕ) (m n : BTreeMap (ℕ × ℕ) (Vec (Bor Rr) Z)) (r : Rr) → i < length records → r ≡ slice_index_or records i r
+  pub counted_more : (owner : Labels) (records : List Rr) (i : ℕ) (m n : BTreeMap (ℕ × ℕ) (Vec (Bor Rr) Z)) (r : Rr)
+      → i < length records → r ≡ slice_index_or records i r
       → KeepsFirstTwo owner (take i records) m
       → ((a t : ℕ) → counted_at n a t ≡ counted_after m (is_delegation_at owner a t r) r a t)
       → KeepsFirstTwo owner (take (i + 1) records) n
@@ -130,7 +137,8 @@ pub counted_for : (owner : Labels) (key : Rr) (records : List Rr) (text : Dnskey
     → counted_ds owner key records ≡ take 2 (filter (is_delegation_at owner text.algorithm (key_tag_of key.rdata)) records)
 counted_for owner key records text is =
     ap (λ o. take 2 (filter (λ r. name_eq owner r.owner
-    && option_map_or (λ k. option_map_or (λ ds. (k.algorithm == ds.algorithm) && (key_tag_of key.rdata == ds.key_tag)) (ds_of r) false) o false) records)) is
+    && option_map_or (λ k. option_map_or (λ ds. (k.algorithm == ds.algorithm) && (key_tag_of key.rdata == ds.key_tag)) (ds_of r) false)
+    o false) records)) is
 
 skipped : (b : Bool) (r : Rr) (rest : List Rr) → rest ≡ [] → cond (b && false) (r ∷ rest) rest ≡ []
 skipped true r rest h = h
@@ -141,11 +149,13 @@ no_ds owner [] = refl
 no_ds owner (r ∷ records) = skipped (name_eq owner r.owner) r (filter (λ r. name_eq owner r.owner && false) records) (no_ds owner records)
 
 -- a record that is no key is matched by none
-pub no_key_matched : (answers : VerifierAnswers) (owner : Labels) (key : Rr) (records : List Rr) → dnskey_of key ≡ None → matching_ds answers owner key records ≡ None
+pub no_key_matched : (answers : VerifierAnswers) (owner : Labels) (key : Rr) (records : List Rr) → dnskey_of key ≡ None
+    → matching_ds answers owner key records ≡ None
 no_key_matched answers owner key records is =
     let test = λ (r : Rr). matches answers owner key.rdata r.rdata in
     ap (λ o. find test (take 2 (filter (λ r. name_eq owner r.owner
-    && option_map_or (λ k. option_map_or (λ ds. (k.algorithm == ds.algorithm) && (key_tag_of key.rdata == ds.key_tag)) (ds_of r) false) o false) records))) is
+    && option_map_or (λ k. option_map_or (λ ds. (k.algorithm == ds.algorithm) && (key_tag_of key.rdata == ds.key_tag)) (ds_of r) false)
+    o false) records))) is
     ∙ ap (λ rs. find test (take 2 rs)) (no_ds owner records)
 
 -- ---- one after the other, where there is no map
@@ -160,7 +170,8 @@ take_next (suc zero) r rest h = refl
 take_next (suc (suc k)) r rest h = absurd (omega arith)
 
 -- the record at this number counts and is the one
-pub met_here : (test q : Rr → Bool) (rs : List Rr) (i k : ℕ) (r : Rr) → k < 2 → i < length rs → r ≡ slice_index_or rs i r → q r ≡ true → test r ≡ true
+pub met_here : (test q : Rr → Bool) (rs : List Rr) (i k : ℕ) (r : Rr) → k < 2 → i < length rs → r ≡ slice_index_or rs i r
+    → q r ≡ true → test r ≡ true
     → find test (take (2 - k) (filter q (drop i rs))) ≡ Some r
 met_here test q rs i k r few h is met passed =
     let rest = filter q (drop (i + 1) rs) in
@@ -169,7 +180,8 @@ met_here test q rs i k r few h is met passed =
     ∙ ap (λ b. cond b (Some r) (find test (take (2 - (k + 1)) rest))) passed
 
 -- it counts and isn't
-pub met_past : (test q : Rr → Bool) (rs : List Rr) (i k : ℕ) (r : Rr) → k < 2 → i < length rs → r ≡ slice_index_or rs i r → q r ≡ true → test r ≡ false
+pub met_past : (test q : Rr → Bool) (rs : List Rr) (i k : ℕ) (r : Rr) → k < 2 → i < length rs → r ≡ slice_index_or rs i r
+    → q r ≡ true → test r ≡ false
     → find test (take (2 - (k + 1)) (filter q (drop (i + 1) rs))) ≡ find test (take (2 - k) (filter q (drop i rs)))
 met_past test q rs i k r few h is met failed =
     let rest = filter q (drop (i + 1) rs) in
@@ -190,12 +202,15 @@ unread_key : (rdata : List ℕ) (o : Option DnskeyValue) → algorithm_and_tag r
 unread_key rdata None h = refl
 unread_key rdata (Some text) h = cc
 
-pub match_unread : (answers : VerifierAnswers) (owner : Labels) (key : Rr) (records : List Rr) → algorithm_and_tag key.rdata (dnskey_of key) ≡ None
+pub match_unread : (answers : VerifierAnswers) (owner : Labels) (key : Rr) (records : List Rr)
+    → algorithm_and_tag key.rdata (dnskey_of key) ≡ None
     → matching_ds answers owner key records ≡ None
 match_unread answers owner key records none = no_key_matched answers owner key records (unread_key key.rdata (dnskey_of key) none)
 
-module _ {Z : Type 0} (answers : VerifierAnswers) (owner : Labels) (key : Rr) (records : List Rr) (m : BTreeMap (ℕ × ℕ) (Vec (Bor Rr) Z)) where
-  match_step : (pair : ℕ × ℕ) (o : Option DnskeyValue) → dnskey_of key ≡ o → algorithm_and_tag key.rdata o ≡ Some pair → KeepsFirstTwo owner records m
+module _ {Z : Type 0} (answers : VerifierAnswers) (owner : Labels) (key : Rr) (records : List Rr)
+    (m : BTreeMap (ℕ × ℕ) (Vec (Bor Rr) Z)) where
+  match_step : (pair : ℕ × ℕ) (o : Option DnskeyValue) → dnskey_of key ≡ o → algorithm_and_tag key.rdata o ≡ Some pair
+      → KeepsFirstTwo owner records m
       → matching_ds answers owner key records ≡ find (λ r. matches answers owner key.rdata r.rdata) (counted_at m pair.0 pair.1)
   match_step pair None is at counted = cc
   match_step pair (Some text) is at counted =
@@ -205,19 +220,22 @@ module _ {Z : Type 0} (answers : VerifierAnswers) (owner : Labels) (key : Rr) (r
       ∙ ap (λ (p : ℕ × ℕ). find test (counted_at m p.0 p.1)) same
 
   -- some records are kept for its algorithm and tag
-  pub match_there : (pair : ℕ × ℕ) (there : Vec (Bor Rr) Z) → algorithm_and_tag key.rdata (dnskey_of key) ≡ Some pair → KeepsFirstTwo owner records m
+  pub match_there : (pair : ℕ × ℕ) (there : Vec (Bor Rr) Z) → algorithm_and_tag key.rdata (dnskey_of key) ≡ Some pair
+      → KeepsFirstTwo owner records m
       → Some there ≡ get algorithm_tag_cmp m pair
       → find (λ r. matches answers owner key.rdata r.rdata) (shown there.items) ≡ matching_ds answers owner key records
   unfolding counted_at
   match_there pair there at counted is =
-      ap (λ o. find (λ r. matches answers owner key.rdata r.rdata) (shown_or_none o)) is ∙ sym (match_step pair (dnskey_of key) refl at counted)
+      ap (λ o. find (λ r. matches answers owner key.rdata r.rdata) (shown_or_none o)) is
+      ∙ sym (match_step pair (dnskey_of key) refl at counted)
 
   -- none are
   pub match_none : (pair : ℕ × ℕ) → algorithm_and_tag key.rdata (dnskey_of key) ≡ Some pair → KeepsFirstTwo owner records m
       → None ≡ get algorithm_tag_cmp m pair → matching_ds answers owner key records ≡ None
   unfolding counted_at
   match_none pair at counted is =
-      match_step pair (dnskey_of key) refl at counted ∙ sym (ap (λ o. find (λ r. matches answers owner key.rdata r.rdata) (shown_or_none o)) is)
+      match_step pair (dnskey_of key) refl at counted
+      ∙ sym (ap (λ o. find (λ r. matches answers owner key.rdata r.rdata) (shown_or_none o)) is)
 
 -- ---- the digest types that are supported
 

@@ -35,7 +35,8 @@ pub none_kept : (keys once : List Rr) (seen : BTreeSet (Bor (List ℕ))) → see
 none_kept keys once seen empty none = record { searched = λ may test all tells. ap (find test) none; copies = λ q. rw empty refl }
 
 -- the keys so far, once there is one more
-more_keys : (keys : List Rr) (i : ℕ) (key : Rr) → i < length keys → key ≡ slice_index_or keys i key → take (i + 1) keys ≡ take i keys ++ key ∷ []
+more_keys : (keys : List Rr) (i : ℕ) (key : Rr) → i < length keys → key ≡ slice_index_or keys i key
+    → take (i + 1) keys ≡ take i keys ++ key ∷ []
 more_keys keys i key h at = take_more keys i key h ∙ ap (λ k. take i keys ++ k ∷ []) (sym at)
 
 -- ---- one key more
@@ -44,17 +45,20 @@ last_any : (p : Rr → Bool) (met : List Rr) (key : Rr) → list_any p (met ++ k
 last_any p met key = list_any-append p met (key ∷ []) ∙ last_step (list_any p met) (p key)
 
 copies_more : (keys : List Rr) (i : ℕ) (once : List Rr) (seen next : BTreeSet (Bor (List ℕ))) (key : Rr) (rdata : Bor (List ℕ))
-    → i < length keys → key ≡ slice_index_or keys i key → rdata.now ≡ key.rdata → Kept keys i once seen → Updates by_bytes seen next rdata true
+    → i < length keys → key ≡ slice_index_or keys i key → rdata.now ≡ key.rdata → Kept keys i once seen
+    → Updates by_bytes seen next rdata true
     → (q : Bor (List ℕ)) → contains by_bytes next q ≡ list_any (λ k. bytes_eq k.rdata q.now) (take (i + 1) keys)
 copies_more keys i once seen next key rdata h at is kept updates q =
     updates.0 q
     ∙ ap (λ b. cond b true (contains by_bytes seen q)) (is_eq-slice_cmp rdata.now q.now ∙ ap (λ bytes. bytes_eq bytes q.now) is)
     ∙ ap (cond (bytes_eq key.rdata q.now) true) (kept.copies q)
-    ∙ sym (ap (list_any (λ k. bytes_eq k.rdata q.now)) (more_keys keys i key h at) ∙ last_any (λ k. bytes_eq k.rdata q.now) (take i keys) key)
+    ∙ sym (ap (list_any (λ k. bytes_eq k.rdata q.now)) (more_keys keys i key h at)
+    ∙ last_any (λ k. bytes_eq k.rdata q.now) (take i keys) key)
 
 -- a key whose rdata wasn't seen is kept
 pub kept_new : (keys : List Rr) (i : ℕ) (once more : List Rr) (seen next : BTreeSet (Bor (List ℕ))) (key : Rr) (rdata : Bor (List ℕ))
-    → i < length keys → key ≡ slice_index_or keys i key → rdata.now ≡ key.rdata → Kept keys i once seen → Updates by_bytes seen next rdata true
+    → i < length keys → key ≡ slice_index_or keys i key → rdata.now ≡ key.rdata → Kept keys i once seen
+    → Updates by_bytes seen next rdata true
     → more ≡ once ++ key ∷ [] → Kept keys (i + 1) more next
 kept_new keys i once more seen next key rdata h at is kept updates grown = record {
   searched = λ may test all tells.
@@ -76,8 +80,10 @@ was_seen added true is h = refl
 was_seen added false is h = sym h ∙ is
 
 -- one whose rdata was seen is passed over
-pub kept_copy : (keys : List Rr) (i : ℕ) (once : List Rr) (seen next : BTreeSet (Bor (List ℕ))) (key : Rr) (rdata : Bor (List ℕ)) (added : Bool)
-    → i < length keys → key ≡ slice_index_or keys i key → rdata.now ≡ key.rdata → Kept keys i once seen → Updates by_bytes seen next rdata true
+pub kept_copy : (keys : List Rr) (i : ℕ) (once : List Rr) (seen next : BTreeSet (Bor (List ℕ))) (key : Rr)
+    (rdata : Bor (List ℕ)) (added : Bool)
+    → i < length keys → key ≡ slice_index_or keys i key → rdata.now ≡ key.rdata → Kept keys i once seen
+    → Updates by_bytes seen next rdata true
     → added ≡ not (contains by_bytes seen rdata) → added ≡ false → Kept keys (i + 1) once next
 kept_copy keys i once seen next key rdata added h at is kept updates insert refused =
     let met : contains by_bytes seen rdata ≡ true = was_seen added (contains by_bytes seen rdata) insert refused in
@@ -92,5 +98,6 @@ kept_copy keys i once seen next key rdata added h at is kept updates insert refu
     }
 
 -- no key is left
-pub kept_all : (keys : List Rr) (i : ℕ) (once : List Rr) (seen : BTreeSet (Bor (List ℕ))) → length keys ≤ i → Kept keys i once seen → AreOnce once keys
+pub kept_all : (keys : List Rr) (i : ℕ) (once : List Rr) (seen : BTreeSet (Bor (List ℕ))) → length keys ≤ i
+    → Kept keys i once seen → AreOnce once keys
 kept_all keys i once seen h kept may test all tells = kept.searched may test all tells ∙ ap (find test) (take_all i keys h)

@@ -34,7 +34,8 @@ position-map p f xs = rw (prefix_len-map (λ y. not (p y)) f xs, length-map xs f
 
 -- ---- the first signature that is good by one of some keys
 
-pub first_signed_by-from : (j : Judge) (set : RrSet) (keys rs : List Rr) → first_signed_by j set keys rs ≡ signed_from (signing_key j set keys) 0 rs
+pub first_signed_by-from : (j : Judge) (set : RrSet) (keys rs : List Rr)
+    → first_signed_by j set keys rs ≡ signed_from (signing_key j set keys) 0 rs
 unfolding first_signed_by signed_from
 first_signed_by-from j set keys rs = refl
 

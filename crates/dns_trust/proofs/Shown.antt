@@ -15,7 +15,8 @@ shown_within references i h = omega (arith, h, length-map references (λ (r : Bo
 pub shown_end : (references : List (Bor Rr)) (i : ℕ) → length references ≤ i → length (shown references) ≤ i
 shown_end references i h = omega (arith, h, length-map references (λ (r : Bor Rr). r.now))
 
-pub shown_at : (references : List (Bor Rr)) (i : ℕ) (r : Bor Rr) → r ≡ slice_index_or references i r → r.now ≡ slice_index_or (shown references) i r.now
+pub shown_at : (references : List (Bor Rr)) (i : ℕ) (r : Bor Rr) → r ≡ slice_index_or references i r
+    → r.now ≡ slice_index_or (shown references) i r.now
 shown_at references i r is = ap (λ (x : Bor Rr). x.now) is ∙ sym (get_or-map (λ (x : Bor Rr). x.now) references i r)
 
 pub shown_more : (kept more : List (Bor Rr)) (rs : List Rr) (i : ℕ) (x : Bor Rr) → i < length rs → x.now ≡ slice_index_or rs i x.now

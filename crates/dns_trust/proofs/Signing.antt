@@ -13,7 +13,8 @@ use Rattle.dns_trust.specs.Beside.{is_matched_only}
 use Rattle.dns_trust.specs.Signers.{AreOnce, first_signed_by}
 use Rattle.dns_trust.proofs.Searches.{first_signed_by-from}
 
-all_step : (may : Rr → Bool) (b : Bool) (r : Rr) (kept : List Rr) → may r ≡ b → list_all may kept ≡ true → list_all may (cond b (r ∷ kept) kept) ≡ true
+all_step : (may : Rr → Bool) (b : Bool) (r : Rr) (kept : List Rr) → may r ≡ b → list_all may kept ≡ true
+    → list_all may (cond b (r ∷ kept) kept) ≡ true
 all_step may true r kept is h = ap (λ c. c && list_all may kept) is ∙ h
 all_step may false r kept is h = h
 
@@ -23,7 +24,8 @@ all_filter may (r ∷ rs) = all_step may (may r) r (filter may rs) refl (all_fil
 
 -- the first signature that is good by one of the keys that may sign, copies aside, is the first that is good by one of them
 signed_once : (may : Rr → Bool) (j : Judge) (set : RrSet) (once keys : List Rr) → ((key : Rr) → may key ≡ true → IsKeyOf set key)
-    → keys ≡ filter may set.records → AreOnce once keys → first_signed_by j set once (take most_signatures set.signatures) ≡ signed_by may j set
+    → keys ≡ filter may set.records → AreOnce once keys
+    → first_signed_by j set once (take most_signatures set.signatures) ≡ signed_by may j set
 signed_once may j set once keys own is copies =
     first_signed_by-from j set once (take most_signatures set.signatures)
     ∙ signed_among may j set once
@@ -35,7 +37,8 @@ pub anchored_once : (j : Judge) (set : RrSet) (once keys : List Rr) → keys ≡
     → first_signed_by j set once (take most_signatures set.signatures) ≡ signed_by (is_anchored_key j set) j set
 anchored_once j set once keys = signed_once (is_anchored_key j set) j set once keys (anchored_is_key j set)
 
-pub matched_once : (j : Judge) (set : RrSet) (ds once keys : List Rr) → keys ≡ filter (is_matched_only j set ds) set.records → AreOnce once keys
+pub matched_once : (j : Judge) (set : RrSet) (ds once keys : List Rr) → keys ≡ filter (is_matched_only j set ds) set.records
+    → AreOnce once keys
     → first_signed_by j set once (take most_signatures set.signatures) ≡ signed_by (is_matched_only j set ds) j set
 matched_once j set ds once keys =
     signed_once (is_matched_only j set ds) j set once keys

@@ -1,6 +1,6 @@
 -- For the calls of this crate, and for no promise of a check or a lookup: verdicts of signatures with their chains, as
 -- the plain ones.
-use Rattle.std.specs.Prelude.{List, [], map, Option, None, Some, Vec}
+use Rattle.std.specs.Prelude.{List, [], map, Option, None, Some, if◌then◌else◌, Vec}
 use Rattle.std.specs.List.{find}
 use Rattle.dns_model.specs.declared.proof.Proof.TheVariants.{Secure}
 use Rattle.dns_model.specs.Names.{Labels}
@@ -19,6 +19,10 @@ abbrev pub verdict_value : Verdict → ChainedVerdict
 verdict_value (Proved links) = record { verdict = marks.Proved; chain = map link_value links.items }
 verdict_value Insecure = record { verdict = marks.Insecure; chain = [] }
 verdict_value Failed = record { verdict = marks.Failed; chain = [] }
+
+-- the links of a verdict that proves
+abbrev pub links_of : ChainedVerdict → Option (List LinkValue)
+links_of v = if marks.is_proved v.verdict then Some v.chain else None
 
 -- the sets of an answer, if there is one
 abbrev pub listed : {X Z : Type 0} → Option (Vec X Z) → Option (List X)

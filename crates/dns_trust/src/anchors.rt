@@ -1,3 +1,5 @@
+//! The set of keys that are trusted without a signature (RFC 4035, 4.4).
+
 ghost use Rattle.std.specs.Prelude.{◌≡◌, ◌↔◌, ◌++◌, ◌∷◌, [], not, length, IsTrue, IfOk, OnOk, OnErr};
 ghost use Rattle.std.specs.List.{list_any};
 ghost use Rattle.dns_model.specs.Keys.{holds_anchor, is_anchor as is_anchor_of};
@@ -5,12 +7,12 @@ ghost use Rattle.dns_evidence.specs.Finding.{passes_at};
 ghost use Rattle.dns_trust.specs.Anchoring.{anchor_number, with_anchor};
 
 use dns_evidence::{PlacesByNumber, add_place, mix, mix_lowered, places_of};
-use dns_name::{Name, NoMemory, Octets};
+use dns_record::{Name, NoMemory, Octets};
 use std::alloc::Global;
 use std::collections::BTreeMap;
 use std::marker::Model;
 
-/// A key that is trusted without a signature (RFC 4035, 4.4).
+// A key that is trusted without a signature.
 #[derive(Drop)]
 struct TrustAnchor {
     owner: Name,
@@ -72,7 +74,7 @@ impl TrustAnchors {
         }
     }
 
-    /// Trusts a key from now on; whether it wasn't trusted before. For want of memory all stays as it was.
+    /// Trusts a key from now on; whether it wasn't trusted before. Where memory runs out all stays as it was.
     pub fn insert_with_name(
         &mut self,
         owner: Name,
@@ -101,13 +103,12 @@ impl TrustAnchors {
     {
         let mut copy = TrustAnchors::empty(*self.anchors.allocator());
         for anchor in &self.anchors {
-            let next = anchor.try_clone()?;
-            copy.push(next)?;
+            copy.push(anchor.try_clone()?)?;
         }
         Ok(copy)
     }
 
-    // One key more. For want of memory all stays as it was.
+    // One key more. Where memory runs out all stays as it was.
     fn push(&mut self, anchor: TrustAnchor) -> Result<(), NoMemory>
         ensures ok { OnOk result (self.new ≡ self.old ++ anchor ∷ []) }
         ensures err { OnErr result (self.new ≡ self.old) }

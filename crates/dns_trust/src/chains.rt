@@ -1,3 +1,5 @@
+//! The chains of Secure sets: a chain that is there already, with the links of one set more (RFC 4035, 5.2 and 5.3).
+
 ghost use Rattle.std.specs.Prelude.{◌≡◌, ◌+◌, ◌-◌, ◌++◌, IfOk, [], length, map};
 ghost use Rattle.std.specs.Option.{option_copied, option_map_or};
 ghost use Rattle.dns_model.specs.Chains.{KeySet, Signed, rdatas_of as rdatas_in};
@@ -9,11 +11,10 @@ ghost use Rattle.dns_trust.specs.Signers.{signed_value};
 use crate::keys::is_anchored;
 use crate::{DsIndex, Judge, SignedBy};
 use dns_evidence::{Link, Verifier, clone_links};
-use dns_name::NoMemory;
-use dns_record::{Rdata, Record, RecordSet};
+use dns_record::{NoMemory, Rdata, Record, RecordSet};
 use std::alloc::Global;
 
-// The chain of a key set with one link more: its key signed this set.
+/// The chain of a key set with one link more: its key signed this set.
 pub(crate) fn signed_chain(
     alloc: Global,
     set: &RecordSet,
@@ -26,12 +27,11 @@ pub(crate) fn signed_chain(
 {
     let key_link = last_number(chain)?;
     let mut links = clone_links(chain)?;
-    let link = signed_link(alloc, set, sig, key_link, key)?;
-    links.push(link)?;
+    links.push(signed_link(alloc, set, sig, key_link, key)?)?;
     Ok(links)
 }
 
-// Behind other links the link of a key of a key set, and then the set that it signed.
+/// Behind other links the link of a key of a key set, and then the set that it signed.
 pub(crate) fn self_signed_chain(
     alloc: Global,
     set: &RecordSet,
@@ -45,22 +45,20 @@ pub(crate) fn self_signed_chain(
     let mut links = front;
     links.push(link)?;
     let key_link = last_number(&links)?;
-    let signed = signed_link(alloc, set, by.signature, key_link, by.key)?;
-    links.push(signed)?;
+    links.push(signed_link(alloc, set, by.signature, key_link, by.key)?)?;
     Ok(links)
 }
 
-// A link for each key of a wholly anchored key set, and then the set.
+/// A link for each key of a wholly anchored key set, and then the set.
 pub(crate) fn anchored_chain(alloc: Global, set: &RecordSet) -> Result<Vec<Link>, NoMemory>
     ensures { IfOk result (λ v. map link_value v.items ≡ whole_chain set.now [] (anchored_link_of set.now)) }
 {
     let mut links = anchored_links(alloc, set)?;
-    let link = key_set_link(alloc, set, 0)?;
-    links.push(link)?;
+    links.push(key_set_link(alloc, set, 0)?)?;
     Ok(links)
 }
 
-// Behind the chain of a DS set a link for each key of a key set that is anchored or matched, and then the set.
+/// Behind the chain of a DS set a link for each key of a key set that is anchored or matched, and then the set.
 pub(crate) fn trusted_chain<V: Verifier>(
     alloc: Global,
     judge: &Judge<'_, V>,
@@ -73,8 +71,7 @@ pub(crate) fn trusted_chain<V: Verifier>(
         (trusted_link_of (judge_of V.answers judge.now) set.now (length front.now.items - 1) ds.now.records)) }
 {
     let mut links = trusted_links(judge, set, front, ds)?;
-    let link = key_set_link(alloc, set, front.len())?;
-    links.push(link)?;
+    links.push(key_set_link(alloc, set, front.len())?)?;
     Ok(links)
 }
 
@@ -84,8 +81,7 @@ fn anchored_links(alloc: Global, set: &RecordSet) -> Result<Vec<Link>, NoMemory>
 {
     let mut links = Vec::new(alloc);
     for key in &set.records {
-        let link = anchored_link(set, key)?;
-        links.push(link)?;
+        links.push(anchored_link(set, key)?)?;
     }
     Ok(links)
 }
@@ -105,13 +101,12 @@ fn trusted_links<V: Verifier>(
     let ds_link = last_number(front)?;
     let mut links = clone_links(front)?;
     for key in &set.records {
-        let link = trusted_link(judge, set, ds_link, ds, key)?;
-        links.push(link)?;
+        links.push(trusted_link(judge, set, ds_link, ds, key)?)?;
     }
     Ok(links)
 }
 
-// The number of the last link of a chain.
+/// The number of the last link of a chain.
 pub(crate) fn last_number(chain: &Vec<Link>) -> Result<u32, NoMemory>
     ensures { IfOk result (λ n. n ≡ length chain.now.items - 1) }
 {
@@ -140,7 +135,7 @@ fn trusted_link<V: Verifier>(
     link_by_found(set, ds_link, key, found)
 }
 
-// The link of a key of a set by the DS that was found to match it; without one it is the link of an anchored key.
+/// The link of a key of a set by the DS that was found to match it; without one it is the link of an anchored key.
 pub(crate) fn link_by_found(
     set: &RecordSet,
     ds_link: u32,
@@ -161,28 +156,23 @@ pub(crate) fn link_by_found(
 fn link_by_ds(set: &RecordSet, ds_link: u32, key: &Record, ds: &Record) -> Result<Link, NoMemory>
     ensures { IfOk result (λ l. link_value l ≡ matched_link_of set.now ds_link key.now ds.now) }
 {
-    let owner = set.name.try_clone()?;
-    let key = key.rdata.try_clone()?;
-    let ds = ds.rdata.try_clone()?;
     Ok(Link::Matched {
-        owner,
+        owner: set.name.try_clone()?,
         class: set.dns_class,
-        key,
+        key: key.rdata.try_clone()?,
         ds_link,
-        ds,
+        ds: ds.rdata.try_clone()?,
     })
 }
 
-// The link of an anchored key of a set.
+/// The link of an anchored key of a set.
 pub(crate) fn anchored_link(set: &RecordSet, key: &Record) -> Result<Link, NoMemory>
     ensures { IfOk result (λ l. link_value l ≡ anchored_link_of set.now key.now) }
 {
-    let owner = set.name.try_clone()?;
-    let key = key.rdata.try_clone()?;
     Ok(Link::Anchored {
-        owner,
+        owner: set.name.try_clone()?,
         class: set.dns_class,
-        key,
+        key: key.rdata.try_clone()?,
     })
 }
 
@@ -215,18 +205,14 @@ fn signed_link(
         Signed set.now.owner set.now.class set.now.rtype (rdatas_in set.now.records)
         sig.now.rdata key_link key.now.rdata) }
 {
-    let owner = set.name.try_clone()?;
-    let rdatas = rdatas_of(alloc, &set.records)?;
-    let sig = sig.rdata.try_clone()?;
-    let key = key.rdata.try_clone()?;
     Ok(Link::Signed {
-        owner,
+        owner: set.name.try_clone()?,
         class: set.dns_class,
         record_type: set.record_type,
-        rdatas,
-        sig,
+        rdatas: rdatas_of(alloc, &set.records)?,
+        sig: sig.rdata.try_clone()?,
         key_link,
-        key,
+        key: key.rdata.try_clone()?,
     })
 }
 
@@ -236,8 +222,7 @@ fn rdatas_of(alloc: Global, records: &[Record]) -> Result<Vec<Rdata>, NoMemory>
 {
     let mut rdatas = Vec::new(alloc);
     for record in records {
-        let rdata = record.rdata.try_clone()?;
-        rdatas.push(rdata)?;
+        rdatas.push(record.rdata.try_clone()?)?;
     }
     Ok(rdatas)
 }
@@ -248,8 +233,7 @@ fn numbers(alloc: Global, first: usize, keys: &[Rdata]) -> Result<Vec<u32>, NoMe
 {
     let mut numbers = Vec::new(alloc);
     for place in 0..keys.len() {
-        let number = number_at(first, place)?;
-        numbers.push(number)?;
+        numbers.push(number_at(first, place)?)?;
     }
     Ok(numbers)
 }

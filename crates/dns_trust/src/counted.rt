@@ -1,3 +1,5 @@
+//! Of the keys of a zone those that count for a signature: the first two of each tag.
+
 ghost use Rattle.std.specs.Prelude.{◌≡◌, ℕ, IfOk, OnOk, nat_lt};
 ghost use Rattle.std.specs.List.{find, list_any};
 ghost use Rattle.std.specs.Option.{option_copied};
@@ -10,13 +12,12 @@ ghost use Rattle.dns_trust.specs.Counting.{count_in, tag_count_after, count_afte
 use crate::good::is_good_read;
 use crate::{Judge, SetSignature};
 use dns_evidence::Verifier;
-use dns_name::{NameRef, NoMemory};
 use dns_rdata::{Dnskey, Rrsig, key_tag};
-use dns_record::Record;
+use dns_record::{NameRef, NoMemory, Record};
 use std::alloc::Global;
 use std::collections::BTreeMap;
 
-// The first counted key of its signer by which a signature of a set is good; the first two keys of a tag count.
+/// The first counted key of its signer by which a signature of a set is good; the first two keys of a tag count.
 pub(crate) fn first_good<'a, V: Verifier>(
     alloc: Global,
     judge: &Judge<'_, V>,
@@ -109,7 +110,7 @@ fn count(counts: &mut BTreeMap<u16, u8>, tag: u16) -> Result<bool, NoMemory>
     Ok(true)
 }
 
-// Some record is a key of the zone.
+/// Some record is a key of the zone.
 pub(crate) fn has_key_of(zone: &NameRef<'_>, keys: &[Record]) -> bool
     ensures { result ≡ list_any (is_key_of_zone zone.now) keys.now }
 {

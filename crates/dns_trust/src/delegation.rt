@@ -1,3 +1,5 @@
+//! DS records and the keys that they match (RFC 4034, 5.1.4; RFC 4035, 5.2).
+
 ghost use Rattle.std.specs.Prelude.{◌≡◌, ◌↔◌, ◌==◌, ◌&&◌, ℕ, [], IfOk, OnOk, IsTrue};
 ghost use Rattle.std.specs.List.{filter, find};
 ghost use Rattle.std.specs.Option.{option_copied};
@@ -8,9 +10,8 @@ ghost use Rattle.dns_rules.specs.Delegations.{is_supported_ds as is_supported_re
 ghost use Rattle.dns_trust.specs.Delegating.{shown, counted_at, counted_after, algorithm_and_tag, KeepsFirstTwo, is_delegation_at};
 
 use dns_evidence::Verifier;
-use dns_name::{Name, NoMemory};
 use dns_rdata::{DigestType, Dnskey, Ds, key_tag};
-use dns_record::{Record, RecordType};
+use dns_record::{Name, NoMemory, Record, RecordType};
 use std::alloc::Global;
 use std::collections::BTreeMap;
 use std::marker::Model;
@@ -80,12 +81,8 @@ impl<'a> DsIndex<'a> {
         ensures { option_copied result ≡ matching_record (V.answers verifier.now) self.now.owner key.now
             self.now.records }
     {
-        let Some(pair) = algorithm_and_tag_of(key) else {
-            return None;
-        };
-        let Some(counted) = self.counted.get(&pair) else {
-            return None;
-        };
+        let pair = algorithm_and_tag_of(key)?;
+        let counted = self.counted.get(&pair)?;
         first_match(verifier, self.owner, key, counted.as_slice())
     }
 }
@@ -127,6 +124,7 @@ pub fn is_supported_ds<V: Verifier>(verifier: &V, ds: &Record) -> bool
     }
 }
 
+// References to all of some records, in order.
 fn all_of<'a>(alloc: Global, records: &'a [Record]) -> Result<Vec<&'a Record>, NoMemory>
     ensures { IfOk result (λ v. shown v.items ≡ records.now) }
 {
@@ -137,6 +135,7 @@ fn all_of<'a>(alloc: Global, records: &'a [Record]) -> Result<Vec<&'a Record>, N
     Ok(all)
 }
 
+// References to the supported ones of some records, in order.
 fn supported<'a, V: Verifier>(
     alloc: Global,
     verifier: &V,

@@ -5,9 +5,8 @@ ghost use Rattle.std.specs.Prelude.{◌≡◌};
 ghost use Rattle.dns_model.specs.Chains.{signer_fits as signer_is_above, never_expanded, right_below_signer};
 ghost use Rattle.dns_model.specs.Serial.{timely};
 
-use dns_name::{Name, NameRef};
 use dns_rdata::{Rrsig, SerialNumber};
-use dns_record::RecordType;
+use dns_record::{Name, NameRef, RecordType};
 
 /// The signer stands at the owner or above it; a DS stands in the zone above.
 pub fn signer_fits(owner: &Name, record_type: RecordType, signer: &NameRef<'_>) -> bool

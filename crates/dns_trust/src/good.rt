@@ -1,15 +1,17 @@
+//! Whether a signature is good by a key (RFC 4035, 5.3.3).
+
 ghost use Rattle.std.specs.Prelude.{◌≡◌, IfOk, OnOk, Some};
+ghost use Rattle.dns_model.specs.RecordViews.{dnskey_of};
 ghost use Rattle.dns_model.specs.Serial.{timely};
-ghost use Rattle.dns_rules.specs.Validity.{is_good_by as is_good_in, is_valid as is_valid_in};
+ghost use Rattle.dns_rules.specs.Validity.{is_good_by as is_good_in, is_good_but_for_revoke as is_good_but_for_revoke_in, is_valid as is_valid_in};
 ghost use Rattle.dns_rules.specs.MarkParts.{sig_validity};
 ghost use Rattle.dns_trust.specs.Judge.{judge_of};
 ghost use Rattle.dns_trust.specs.SetSignatures.{IsRead, bytes_of, IsBuilt, is_good_of};
 
-use crate::{Judge, RrsigValidity, SetSignature, is_usable};
+use crate::{Judge, RrsigValidity, SetSignature, is_usable_but_for_revoke};
 use dns_evidence::Verifier;
-use dns_name::{NoMemory, Octets};
 use dns_rdata::{Dnskey, Rrsig, signed_data};
-use dns_record::{Record, RecordSet};
+use dns_record::{NoMemory, Octets, Record, RecordSet};
 use std::alloc::Global;
 
 /// Whether a signature of a set is good by a key at a moment: it fits, the key may sign, and the verifier accepts it
@@ -36,7 +38,34 @@ pub fn is_good_by<V: Verifier>(
     is_good_read(alloc, judge, &signature, key, &mut built)
 }
 
-// The same of a signature that is read. The bytes that it is over are built for the first key that comes so far, and kept.
+/// Whether it is, but for the flag REVOKE of the key, which isn't looked at: a revoked key's own signature counts too (RFC 5011,
+/// 2.1).
+#[tactic(auto, using(crate::proofs::Reading::unread_but_for_revoke, crate::proofs::Reading::no_key_but_for_revoke))]
+pub fn is_good_but_for_revoke<V: Verifier>(
+    alloc: Global,
+    judge: &Judge<'_, V>,
+    set: &RecordSet,
+    sig: &Record,
+    key: &Record,
+) -> Result<bool, NoMemory>
+    ensures { IfOk result (λ b. b ≡ is_good_but_for_revoke_in (judge_of V.answers judge.now) set.now sig.now key.now) }
+{
+    let Some(read) = Rrsig::of(sig) else {
+        return Ok(false);
+    };
+    let Some(dnskey) = Dnskey::of(key) else {
+        return Ok(false);
+    };
+    let signature = SetSignature {
+        set,
+        sig,
+        read: &read,
+    };
+    let mut built = None;
+    is_good_by_read(alloc, judge, &signature, key, &dnskey, &mut built)
+}
+
+/// Whether a signature that is read is good by a key. The bytes that it is over are built for the first key that comes so far, and kept.
 #[tactic(auto, using(crate::proofs::Reading::read_good))]
 pub(crate) fn is_good_read<V: Verifier>(
     alloc: Global,
@@ -53,14 +82,36 @@ pub(crate) fn is_good_read<V: Verifier>(
     let Some(dnskey) = Dnskey::of(key) else {
         return Ok(false);
     };
+    if dnskey.is_revoked() {
+        return Ok(false);
+    }
+    is_good_by_read(alloc, judge, signature, key, &dnskey, built)
+}
+
+// The same by a key that is read, but for its flag REVOKE.
+fn is_good_by_read<V: Verifier>(
+    alloc: Global,
+    judge: &Judge<'_, V>,
+    signature: &SetSignature<'_>,
+    key: &Record,
+    dnskey: &Dnskey<'_>,
+    built: &mut Option<Octets>,
+) -> Result<bool, NoMemory>
+    requires read { IsRead signature.now }
+    requires key { dnskey_of key.now ≡ Some dnskey.now }
+    requires built { IsBuilt signature.now built.old }
+    ensures good { IfOk result (λ b. b ≡
+        is_good_but_for_revoke_in (judge_of V.answers judge.now) signature.now.set.now signature.now.sig.now key.now) }
+    ensures built { OnOk result (IsBuilt signature.now built.new) }
+{
     if !is_valid(signature, key, judge.moment) {
         return Ok(false);
     }
-    if !is_usable(judge.verifier, &dnskey) {
+    if !is_usable_but_for_revoke(judge.verifier, dnskey) {
         return Ok(false);
     }
     let bytes = signed_data_once(alloc, signature, built.take())?;
-    let accepted = accepts_signature(judge.verifier, signature.read, &dnskey, &bytes);
+    let accepted = accepts_signature(judge.verifier, signature.read, dnskey, &bytes);
     *built = Some(bytes);
     Ok(accepted)
 }

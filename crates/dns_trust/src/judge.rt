@@ -1,3 +1,5 @@
+//! By what is judged: a verifier, trust anchors and a moment.
+
 use crate::TrustAnchors;
 
 /// By what signatures and sets are judged.

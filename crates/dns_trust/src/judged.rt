@@ -1,3 +1,5 @@
+//! The mark of a set that isn't DNSKEY, by the verdicts of its signatures (RFC 4035, 5.3.3).
+
 ghost use Rattle.std.specs.Prelude.{◌≡◌, IfOk, map};
 ghost use Rattle.std.specs.List.{position};
 ghost use Rattle.dns_evidence.specs.Link.{link_value};
@@ -8,7 +10,7 @@ ghost use Rattle.dns_trust.specs.Verdicts.{verdict_value};
 use crate::Verdict;
 use dns_evidence::{ChainedSet, Link, MarkedSet, PlacedSet};
 use dns_model::Proof;
-use dns_name::NoMemory;
+use dns_record::NoMemory;
 
 /// A set that isn't DNSKEY, judged by the verdicts of its signatures: the first that proves it decides, else the first that
 /// shows that no more than Insecure can be expected (RFC 4035, 5.3.3).
@@ -48,12 +50,14 @@ fn place_of_insecure(verdicts: &[Verdict]) -> Result<Option<u32>, NoMemory>
     numbered(first_insecure(verdicts))
 }
 
+// The same as an index.
 fn first_proof(verdicts: &[Verdict]) -> Option<usize>
     ensures { result ≡ position (λ v. is_proved (verdict_value v).verdict) verdicts.now }
 {
     verdicts.iter().position(Verdict::is_proved)
 }
 
+// The same as an index.
 fn first_insecure(verdicts: &[Verdict]) -> Option<usize>
     ensures { result ≡ position (λ v. shows_insecure (verdict_value v).verdict) verdicts.now }
 {
@@ -79,7 +83,7 @@ fn chain_of(mut verdicts: Vec<Verdict>) -> Vec<Link>
 {
     let mut chain = Vec::new(*verdicts.allocator());
     while let Some(verdict) = verdicts.pop() {
-        if let Verdict::Proved(links) = verdict {
+        if let Some(links) = verdict.into_links() {
             chain = links;
         }
     }

@@ -1,3 +1,5 @@
+//! The mark of a DNSKEY set with its chain: by trust anchors, or else by the DS set of its owner (RFC 4035, 5.2).
+
 ghost use Rattle.std.specs.Prelude.{◌≡◌, true, None, Some, IfOk, [], map};
 ghost use Rattle.std.specs.List.{find};
 ghost use Rattle.std.specs.Option.{option_copied};
@@ -20,8 +22,7 @@ use crate::unsigned::{ds_set_of, mark_by_unsupported, mark_without_ds};
 use crate::{AnchoredRow, DsIndex, Judge, MatchedRow, SignedBy, anchored_row, ds_query};
 use dns_evidence::{ChainedSet, Link, MarkedSet, PlacedSet, Verifier, clone_links};
 use dns_model::Proof;
-use dns_name::NoMemory;
-use dns_record::{Query, Record, RecordSet};
+use dns_record::{NoMemory, Query, Record, RecordSet};
 use std::alloc::Global;
 
 /// How far a DNSKEY set is judged by anchors alone.
@@ -212,9 +213,7 @@ fn marked_by_set<V: Verifier>(
             let records = found.judged.set.records.as_slice();
             marked_by_records(alloc, judge, set, &found.chain, records)
         }
-        Proof::Insecure => Ok(refused(alloc, Proof::Bogus)),
-        Proof::Bogus => Ok(refused(alloc, Proof::Bogus)),
-        Proof::Indeterminate => Ok(refused(alloc, Proof::Bogus)),
+        Proof::Insecure | Proof::Bogus | Proof::Indeterminate => Ok(refused(alloc, Proof::Bogus)),
     }
 }
 
@@ -262,7 +261,7 @@ fn marked_by_ds<V: Verifier>(
     }
 }
 
-// Signed by a key of it that a DS matches. The link of that key is built last, since it is dear to let go.
+// Signed by a key of it that a DS matches.
 fn signed_by_ds<V: Verifier>(
     alloc: Global,
     judge: &Judge<'_, V>,

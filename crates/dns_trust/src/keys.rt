@@ -1,3 +1,5 @@
+//! Which row of the marks of DNSKEY sets holds: by anchored keys, or by keys that DS records match (RFC 4035, 5.2).
+
 ghost use Rattle.std.specs.Prelude.{◌≡◌, true, IfOk, None};
 ghost use Rattle.std.specs.List.{filter, list_all};
 ghost use Rattle.std.specs.Option.{option_map};
@@ -12,9 +14,8 @@ ghost use Rattle.dns_trust.specs.Rows.{anchored_outcome, matched_outcome};
 use crate::signers::{each_once, first_signed};
 use crate::{DsIndex, Judge, SignedBy, TrustAnchors};
 use dns_evidence::Verifier;
-use dns_name::{Name, NoMemory};
 use dns_rdata::Dnskey;
-use dns_record::{Record, RecordSet, RecordType};
+use dns_record::{Name, NoMemory, Record, RecordSet, RecordType};
 use std::alloc::Global;
 
 /// What trust anchors say of a DNSKEY set (RFC 4035, 5.2).
@@ -218,7 +219,7 @@ fn is_trusted<V: Verifier>(
     is_anchored(judge, set, key) || is_matched(judge, set, key, ds)
 }
 
-// The record is a key of the set's owner that can be read, and an anchor of it.
+/// The record is a key of the set's owner that can be read, and an anchor of it.
 pub(crate) fn is_anchored<V: Verifier>(judge: &Judge<'_, V>, set: &RecordSet, key: &Record) -> bool
     ensures { result ≡ is_anchored_key (judge_of V.answers judge.now) set.now key.now }
 {

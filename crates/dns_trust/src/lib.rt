@@ -25,7 +25,7 @@ pub use anchors::TrustAnchors;
 pub use counted::counted_keys;
 pub use delegation::{DsIndex, ds_matches, is_supported_ds, matching_ds};
 pub use fitting::{is_never_expanded, is_right_below_signer, is_timely, signer_fits};
-pub use good::{accepts_signature, is_good_by, is_valid, signed_data_once};
+pub use good::{accepts_signature, is_good_but_for_revoke, is_good_by, is_valid, signed_data_once};
 pub use judge::Judge;
 pub use judged::chained_by;
 pub use key_sets::{KeysStep, ds_ask_of, judged_beside, judged_by_ds, keys_step_of};
@@ -37,7 +37,7 @@ pub use searching::{
 pub use set_signature::SetSignature;
 pub use signers::{SignedBy, first_signatures};
 pub use unsigned::{shows_unsigned_cut, unsigned_set, zone_mark};
-pub use usable::{KeyFault, is_usable, key_fault};
+pub use usable::{KeyFault, is_usable, is_usable_but_for_revoke, key_fault};
 pub use validity::RrsigValidity;
 pub use verdict::{Verdict, chained_verdict, is_skipped_read, key_query, may_be_signed};
 pub use zone_rows::{ZoneRow, zone_row};

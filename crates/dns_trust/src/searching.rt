@@ -6,8 +6,7 @@ ghost use Rattle.dns_model.specs.Types.{type_dnskey};
 ghost use Rattle.dns_rules.specs.Delegations.{ds_question};
 ghost use Rattle.dns_rules.specs.Unsigned.{is_ns_of as is_ns_record, needs_zone, ns_question, question_start as start_of_question, set_start as start_of_set};
 
-use dns_name::{Name, NoMemory};
-use dns_record::{DNSClass, Query, Record, RecordSet, RecordType};
+use dns_record::{DNSClass, Name, NoMemory, Query, Record, RecordSet, RecordType};
 
 /// What a plain ask for the NS records of a name comes to.
 #[derive(Clone, Copy)]
@@ -87,6 +86,7 @@ pub fn has_ns_record(
     has_ns_in(name, answers) || has_ns_in(name, authorities) || has_ns_in(name, additionals)
 }
 
+// Some of these records is an NS record of the name.
 fn has_ns_in(name: &Name, records: &[Record]) -> bool
     ensures { result ≡ list_any (is_ns_record name.now) records.now }
 {

@@ -1,3 +1,5 @@
+//! A signature beside its set.
+
 use dns_rdata::Rrsig;
 use dns_record::{Record, RecordSet};
 

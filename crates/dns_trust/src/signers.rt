@@ -1,3 +1,5 @@
+//! The first signature of a key set that is good by one of some keys of it, among those that are tried (RFC 4035, 5.3.3).
+
 ghost use Rattle.std.specs.Prelude.{◌≡◌, ◌≤◌, IfOk, length, take};
 ghost use Rattle.std.specs.List.{find};
 ghost use Rattle.std.specs.Option.{option_map, option_copied};
@@ -10,9 +12,8 @@ ghost use Rattle.dns_trust.specs.Signers.{AreOnce, signed_value, first_signed_by
 use crate::good::is_good_read;
 use crate::{Judge, SetSignature};
 use dns_evidence::Verifier;
-use dns_name::NoMemory;
 use dns_rdata::Rrsig;
-use dns_record::{Record, RecordSet};
+use dns_record::{NoMemory, Record, RecordSet};
 use std::alloc::Global;
 use std::collections::BTreeSet;
 
@@ -39,7 +40,7 @@ pub fn first_signatures(set: &RecordSet) -> &[Record]
     &signatures[..signatures.len().min(MOST_SIGNATURES)]
 }
 
-// Of keys with one rdata the first alone, since a signature that isn't good by it is good by none of them.
+/// Of keys with one rdata the first alone, since a signature that isn't good by it is good by none of them.
 pub(crate) fn each_once<'a>(alloc: Global, keys: &[&'a Record]) -> Result<Vec<&'a Record>, NoMemory>
     ensures { IfOk result (λ v. AreOnce (shown v.items) (shown keys.now)) }
 {
@@ -48,15 +49,14 @@ pub(crate) fn each_once<'a>(alloc: Global, keys: &[&'a Record]) -> Result<Vec<&'
     for key in keys {
         let key = *key;
         let rdata = key.rdata.as_slice();
-        if !seen.insert(rdata)? {
-            continue;
+        if seen.insert(rdata)? {
+            once.push(key)?;
         }
-        once.push(key)?;
     }
     Ok(once)
 }
 
-// The first signature of a set that is good by one of some keys, among its first eight signatures.
+/// The first signature of a set that is good by one of some keys, among its first eight signatures.
 pub(crate) fn first_signed<'a, V: Verifier>(
     alloc: Global,
     judge: &Judge<'_, V>,

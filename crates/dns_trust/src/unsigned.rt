@@ -1,3 +1,5 @@
+//! What a zone leaves to its unsigned sets, by the answer to the ask for its DS set (RFC 4035, 4.3 and 5.2; RFC 5155, 8.9).
+
 ghost use Rattle.std.specs.Prelude.{◌≡◌, ◌||◌, [], None, IfOk, if◌then◌else◌};
 ghost use Rattle.std.specs.List.{list_any, find};
 ghost use Rattle.std.specs.Option.{option_map, option_copied};
@@ -15,9 +17,8 @@ use dns_denial::verify_nsec3_insecure_delegation;
 use dns_denying::nsec3_denials;
 use dns_evidence::{ChainedSet, MarkedSet, PlacedSet, Verifier};
 use dns_model::{Proof, Section};
-use dns_name::{Name, NoMemory};
 use dns_rdata::{Ds, Nsec};
-use dns_record::{DNSClass, Record, RecordType};
+use dns_record::{DNSClass, Name, NoMemory, Record, RecordType};
 use std::alloc::Global;
 
 /// An unsigned set with the mark that its zone leaves to it. It has no chain.
@@ -59,11 +60,8 @@ fn mark_of_row(row: ZoneRow) -> Proof
     ensures { (verdict : ZoneVerdict) → row ≡ row_of verdict → result ≡ (unsigned_mark verdict).mark }
 {
     match row {
-        ZoneRow::Unsupported => Proof::Insecure,
-        ZoneRow::ShownAbsent => Proof::Insecure,
-        ZoneRow::Unanswered => Proof::Bogus,
-        ZoneRow::Signed => Proof::Bogus,
-        ZoneRow::NotShown => Proof::Bogus,
+        ZoneRow::Unsupported | ZoneRow::ShownAbsent => Proof::Insecure,
+        ZoneRow::Unanswered | ZoneRow::Signed | ZoneRow::NotShown => Proof::Bogus,
     }
 }
 
@@ -153,6 +151,7 @@ fn shows_no_ds(zone: &Name, judged: &MarkedSet) -> bool
         && has_unsigned_cut(&set.records)
 }
 
+// Some record shows a delegation to an unsigned zone.
 fn has_unsigned_cut(records: &[Record]) -> bool
     ensures { result ≡ list_any shows_cut records.now }
 {
@@ -175,6 +174,7 @@ pub fn shows_unsigned_cut(next: &Record) -> bool
     }
 }
 
+// The types are those of such a delegation.
 fn is_unsigned_cut(nsec: &Nsec<'_>) -> bool
     ensures { result ≡ is_cut nsec.now.types }
 {

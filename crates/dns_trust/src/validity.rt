@@ -1,3 +1,5 @@
+//! Whether a signature fits a set, a key and a moment, before any arithmetic on it (RFC 4035, 5.3.1).
+
 ghost use Rattle.std.specs.Prelude.{◌≡◌, Some};
 ghost use Rattle.dns_model.specs.Serial.{timely};
 ghost use Rattle.dns_model.specs.RecordViews.{dnskey_of};

@@ -1,6 +1,8 @@
+//! What one signature does for its set, by the answer to the ask for its signer's keys (RFC 4035, 5.3).
+
 ghost use Rattle.std.specs.Prelude.{◌≡◌, IfOk, List, Some, map};
 ghost use Rattle.std.specs.List.{find};
-ghost use Rattle.std.specs.Option.{option_copied};
+ghost use Rattle.std.specs.Option.{option_copied, option_map};
 ghost use Rattle.dns_model.specs.Chains.{LinkValue};
 ghost use Rattle.dns_rules.specs.Marks.{counted_keys, key_question, is_key_set_of, may_be_signed as may_be_signed_by, is_proved as is_proof, shows_insecure};
 ghost use Rattle.dns_rules.specs.ChainedSets.{with_chain, chained_verdict};
@@ -8,20 +10,18 @@ ghost use Rattle.dns_rules.specs.MarkParts.{by_insecure_key, is_skipped_read};
 ghost use Rattle.dns_evidence.specs.Link.{link_value};
 ghost use Rattle.dns_trust.specs.Judge.{judge_of};
 ghost use Rattle.dns_trust.specs.SetSignatures.{IsRead};
-ghost use Rattle.dns_trust.specs.Verdicts.{verdict_value, listed, chained_by_set, chained_by_secure};
+ghost use Rattle.dns_trust.specs.Verdicts.{verdict_value, links_of, listed, chained_by_set, chained_by_secure};
 
 use crate::chains::signed_chain;
 use crate::counted::{first_good, has_key_of};
 use crate::{Judge, SetSignature, is_never_expanded, is_right_below_signer, signer_fits};
 use dns_evidence::{ChainedSet, Link, MarkedSet, Verifier};
 use dns_model::{Proof, Section};
-use dns_name::{NameRef, NoMemory};
 use dns_rdata::Rrsig;
-use dns_record::{DNSClass, Query, Record, RecordSet, RecordType};
+use dns_record::{DNSClass, NameRef, NoMemory, Query, Record, RecordSet, RecordType};
 use std::alloc::Global;
 
 /// What one signature does for its set.
-#[derive(Drop)]
 pub enum Verdict {
     /// It makes the set Secure, by these links.
     Proved(Vec<Link>),
@@ -31,24 +31,40 @@ pub enum Verdict {
     Failed,
 }
 
+// By hand, so that a function that lets one go calls this.
+impl Drop for Verdict {
+    fn drop(self) {
+        match self {
+            Verdict::Proved(_) => {}
+            Verdict::Insecure => {}
+            Verdict::Failed => {}
+        }
+    }
+}
+
 impl Verdict {
     /// Whether it makes the set Secure.
     pub fn is_proved(&self) -> bool
         ensures { result ≡ is_proof (verdict_value self.now).verdict }
     {
-        match self {
-            Verdict::Proved(_) => true,
-            _ => false,
-        }
+        matches!(self, Verdict::Proved(_))
     }
 
     /// Whether it shows that no more than Insecure can be expected.
     pub fn shows_insecure(&self) -> bool
         ensures { result ≡ shows_insecure (verdict_value self.now).verdict }
     {
+        matches!(self, Verdict::Insecure)
+    }
+
+    /// The links by which it makes the set Secure; None where it doesn't.
+    pub(crate) fn into_links(self) -> Option<Vec<Link>>
+        ensures { option_map (λ v. map link_value v.items) result ≡ links_of (verdict_value self) }
+    {
         match self {
-            Verdict::Insecure => true,
-            _ => false,
+            Verdict::Proved(links) => Some(links),
+            Verdict::Insecure => None,
+            Verdict::Failed => None,
         }
     }
 }
@@ -98,8 +114,7 @@ fn by_key_set<V: Verifier>(
             let read = signature.read;
             Ok(by_insecure_keys(&read.signer, &keys.judged.set.records))
         }
-        Proof::Bogus => Ok(Verdict::Failed),
-        Proof::Indeterminate => Ok(Verdict::Failed),
+        Proof::Bogus | Proof::Indeterminate => Ok(Verdict::Failed),
     }
 }
 
@@ -188,9 +203,8 @@ pub fn is_skipped_read(asked: &Query, set: &RecordSet, read: &Rrsig<'_>) -> bool
 pub fn key_query(alloc: Global, set: &RecordSet, read: &Rrsig<'_>) -> Result<Query, NoMemory>
     ensures { IfOk result (λ q. q ≡ key_question set.now.class read.now.signer) }
 {
-    let name = read.signer.to_name(alloc)?;
     Ok(Query {
-        name,
+        name: read.signer.to_name(alloc)?,
         query_type: RecordType::DNSKEY,
         query_class: set.dns_class,
     })

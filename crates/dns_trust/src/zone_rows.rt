@@ -1,3 +1,5 @@
+//! Which row of the DS verdict of a zone holds (RFC 4035, 5.2).
+
 ghost use Rattle.std.specs.Prelude.{◌≡◌, IfOk};
 ghost use Rattle.std.specs.Option.{option_map};
 ghost use Rattle.dns_rules.specs.ChainedSets.{bare};
@@ -10,8 +12,7 @@ ghost use Rattle.dns_trust.specs.ZoneRows.{absence_row, row_of, unsupported_row}
 use crate::unsigned::{ds_set_of, has_readable, has_supported, mark_without_ds};
 use dns_evidence::{ChainedSet, Verifier};
 use dns_model::Proof;
-use dns_name::{Name, NoMemory};
-use dns_record::{DNSClass, Record};
+use dns_record::{DNSClass, Name, NoMemory, Record};
 use std::alloc::Global;
 
 /// Which row of the DS verdict of a zone holds (RFC 4035, 5.2).
@@ -57,9 +58,7 @@ fn row_by_set<V: Verifier>(verifier: &V, zone: &Name, found: &ChainedSet) -> Zon
 {
     match found.judged.mark {
         Proof::Secure => row_by_ds(verifier, found.judged.set.records.as_slice()),
-        Proof::Insecure => ZoneRow::NotShown,
-        Proof::Bogus => ZoneRow::NotShown,
-        Proof::Indeterminate => ZoneRow::NotShown,
+        Proof::Insecure | Proof::Bogus | Proof::Indeterminate => ZoneRow::NotShown,
     }
 }
 
@@ -90,8 +89,7 @@ fn row_by_unsupported(records: &[Record]) -> ZoneRow
 fn row_without_ds(alloc: Global, zone: &Name, sets: &[ChainedSet]) -> Result<ZoneRow, NoMemory>
     ensures { IfOk result (λ row. row ≡ row_of (verdict_without_ds zone.now (bare sets.now))) }
 {
-    let mark = mark_without_ds(alloc, zone, sets)?;
-    Ok(row_of_absence(mark))
+    Ok(row_of_absence(mark_without_ds(alloc, zone, sets)?))
 }
 
 // By what such an answer leaves to unsigned sets.
@@ -100,8 +98,6 @@ fn row_of_absence(mark: Proof) -> ZoneRow
 {
     match mark {
         Proof::Insecure => ZoneRow::ShownAbsent,
-        Proof::Secure => ZoneRow::NotShown,
-        Proof::Bogus => ZoneRow::NotShown,
-        Proof::Indeterminate => ZoneRow::NotShown,
+        Proof::Secure | Proof::Bogus | Proof::Indeterminate => ZoneRow::NotShown,
     }
 }

@@ -2,8 +2,8 @@
 use Rattle.std.proofs.Common.{◌≡◌, ◌+◌, inl, inr, List, [], ◌∷◌, ◌++◌, length, Option, None, Some, refl, sym, ap, ◌∙◌, append-nil, append_assoc, length-append, arith}
 use Rattle.dns_link.specs.Counts.{CountsValue, no_counts, with_counts}
 use Rattle.dns_link.specs.Moved.{DatagramValue, and_those}
-use Rattle.dns_sockets.specs.Met.{AreGiven, DialerView, HasMet, Meets, sum_met}
-use Rattle.dns_sockets.proofs.MetLemmas.{meets_back, meets_none, meets_then, sum_none_last, sum_shift, sum_swap}
+use Rattle.dns_udp.specs.Met.{AreGiven, DialerView, HasMet, Meets, sum_met}
+use Rattle.dns_udp.proofs.MetLemmas.{meets_back, meets_none, meets_then, sum_none_last, sum_shift, sum_swap}
 use Rattle.dns_udp.specs.OpenSockets.{AreHeard, Holds, IsHeard, Joins, Tells, Turned}
 use Rattle.dns_udp.proofs.SocketLemmas.{heard_behind}
 

@@ -14,10 +14,10 @@ use Rattle.dns_message.specs.MessageAt.{HeaderValue, header_at, message_at, ques
 use Rattle.dns_message.specs.RecordAt.{section_at}
 use Rattle.dns_message.proofs.HeaderReading.{header_short, header_whole}
 use Rattle.dns_message.proofs.RecordReading.{bind_ok}
-use Rattle.dns_datagrams.specs.declared.acceptance.Accepted.TheVariants.{Ignored, CaseMismatch, Answer}
-use Rattle.dns_datagrams.specs.Acceptance.{accepted, accepted_message, accepted_reading}
-use Rattle.dns_datagrams.specs.Addresses.{is_same_peer}
-use Rattle.dns_datagrams.specs.Questions.{asks_alike, spells_alike}
+use Rattle.dns_udp.specs.declared.acceptance.Accepted.TheVariants.{Ignored, CaseMismatch, Answer}
+use Rattle.dns_udp.specs.Acceptance.{accepted, accepted_message, accepted_reading}
+use Rattle.dns_udp.specs.Addresses.{is_same_peer}
+use Rattle.dns_udp.specs.Questions.{asks_alike, spells_alike}
 use Rattle.dns_udp.specs.Requests.{put_back, questions_put_back}
 
 -- ---- the id is the first two bytes

@@ -5,9 +5,9 @@ use Rattle.dns_handle.specs.declared.io_kind.IoKind.{IoKind}
 use Rattle.dns_handle.specs.declared.error.NetError.{NetError}
 use Rattle.dns_link.specs.Counts.{CountsValue, no_counts}
 use Rattle.dns_link.specs.Moved.{DatagramValue, IsNew}
-use Rattle.dns_sockets.specs.Bindings.{IsMadeAfter, only_faults}
-use Rattle.dns_sockets.specs.Met.{DialerView, sum_met}
-use Rattle.dns_sockets.proofs.MetLemmas.{meets_end, meets_fault, sum_none_last, sum_shift}
+use Rattle.dns_udp.specs.Bindings.{IsMadeAfter, only_faults}
+use Rattle.dns_udp.specs.Met.{DialerView, sum_met}
+use Rattle.dns_udp.proofs.MetLemmas.{meets_end, meets_fault, sum_none_last, sum_shift}
 use Rattle.dns_udp.specs.OpenSockets.{Holds, IsHeard}
 use Rattle.dns_udp.specs.Waiting.{FailsBy, IsSentOn, Opens, OpensBy}
 use Rattle.dns_udp.proofs.HoldLemmas.{holds_more}

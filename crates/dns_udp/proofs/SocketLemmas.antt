@@ -4,9 +4,9 @@ use Rattle.std.specs.declared.net.socket_addr.SocketAddr.{SocketAddr}
 use Rattle.dns_handle.specs.declared.io_kind.IoKind.{IoKind}
 use Rattle.dns_link.specs.Counts.{CountsValue, after_receive, no_counts}
 use Rattle.dns_link.specs.Moved.{DatagramValue, IsNew, IsEmptyIfTold, and_then, received_by}
-use Rattle.dns_sockets.specs.Met.{one_met, sum_met}
+use Rattle.dns_udp.specs.Met.{one_met, sum_met}
 use Rattle.dns_udp.specs.OpenSockets.{AreHeard, IsHeard, Tells, Turned}
-use Rattle.dns_sockets.proofs.MetLemmas.{meets_none, meets_receive, meets_then, sum_none, sum_none_last, sum_shift, sum_swap}
+use Rattle.dns_udp.proofs.MetLemmas.{meets_none, meets_receive, meets_then, sum_none, sum_none_last, sum_shift, sum_swap}
 
 -- ---- one socket
 

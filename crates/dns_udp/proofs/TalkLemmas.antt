@@ -10,8 +10,8 @@ use Rattle.dns_handle.specs.Replies.{error_of, reply_of}
 use Rattle.dns_handle.specs.declared.error.NetError.{NetError}
 use Rattle.dns_link.specs.Counts.{CountsValue, no_counts}
 use Rattle.dns_link.specs.Moved.{DatagramValue}
-use Rattle.dns_datagrams.specs.Questions.{asks_alike}
-use Rattle.dns_sockets.specs.Met.{DialerView, HasMet}
+use Rattle.dns_udp.specs.Questions.{asks_alike}
+use Rattle.dns_udp.specs.Met.{DialerView, HasMet}
 use Rattle.dns_udp.specs.Conversations.{Ends, IsConversation}
 use Rattle.dns_udp.specs.Encodings.{IsEncoded}
 use Rattle.dns_udp.specs.OpenSockets.{Holds}

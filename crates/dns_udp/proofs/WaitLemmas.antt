@@ -18,11 +18,11 @@ use Rattle.dns_handle.specs.declared.error.NetError.TheVariants.{Proto, QueryCas
 use Rattle.dns_handle.specs.declared.error.ProtoError.TheVariants.{Decode}
 use Rattle.dns_link.specs.Counts.{CountsValue, no_counts}
 use Rattle.dns_link.specs.Moved.{DatagramValue}
-use Rattle.dns_datagrams.specs.declared.acceptance.Accepted.{Accepted}
-use Rattle.dns_datagrams.specs.declared.acceptance.Accepted.TheVariants.{Undecodable, CaseMismatch, Answer}
-use Rattle.dns_sockets.specs.Bindings.{DrawsPorts, only_faults}
-use Rattle.dns_sockets.specs.Met.{DialerView, capped, sum_met}
-use Rattle.dns_sockets.proofs.BindingLemmas.{ports_then}
+use Rattle.dns_udp.specs.declared.acceptance.Accepted.{Accepted}
+use Rattle.dns_udp.specs.declared.acceptance.Accepted.TheVariants.{Undecodable, CaseMismatch, Answer}
+use Rattle.dns_udp.specs.Bindings.{DrawsPorts, only_faults}
+use Rattle.dns_udp.specs.Met.{DialerView, capped, sum_met}
+use Rattle.dns_udp.proofs.BindingLemmas.{ports_then}
 use Rattle.dns_udp.specs.Conversations.{AllFit, AreIgnored, Ends, EndsByFault, EndsByOne, OneIsJudged, tick}
 use Rattle.dns_udp.specs.OpenSockets.{Joins}
 use Rattle.dns_udp.specs.Requests.{AskedValue, buffer_size, fits, is_ignored, judged}

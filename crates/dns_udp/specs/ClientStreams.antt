@@ -6,7 +6,7 @@ use Rattle.dns_handle.specs.Requests.{RequestValue}
 use Rattle.dns_handle.specs.declared.error.NetError.{NetError}
 use Rattle.dns_handle.specs.declared.error.NetError.TheVariants.{Proto, NoMemory}
 use Rattle.dns_handle.specs.declared.error.ProtoError.TheVariants.{TooLong}
-use Rattle.dns_sockets.specs.Bindings.{BindingValue, IsBoundAt}
+use Rattle.dns_udp.specs.Bindings.{BindingValue, IsBoundAt}
 use Rattle.dns_udp.specs.Requests.{AskedValue}
 
 pub record ClientStreamValue : Type 0 where

@@ -1,5 +1,5 @@
 -- What a request that is sent by datagrams comes to (RFC 1035, 4.2.1 and 7.3; RFC 5452, 9.1).
-use Rattle.std.specs.Prelude.{ℕ, ◌+◌, ◌*◌, ◌≡◌, ◌<◌, ◌≤◌, ◌⊎◌, true, List, ◌∷◌, ◌++◌, length, Ok, Err}
+use Rattle.std.specs.Prelude.{ℕ, ◌+◌, ◌*◌, ◌≡◌, ◌<◌, ◌≤◌, ◌⊎◌, Bool, true, false, List, ◌∷◌, ◌++◌, length, replicate, Option, None, Some, Ok, Err}
 use Rattle.std.specs.List.{list_all}
 use Rattle.dns_model.specs.Records.{MessageValue}
 use Rattle.dns_message.specs.declared.encode_error.EncodeError.TheVariants as encode
@@ -7,12 +7,18 @@ use Rattle.dns_message.specs.WrittenAs.{encoded}
 use Rattle.dns_handle.specs.Errors.{Reply, Message, Proto, Io, Timeout, QueryCaseMismatch, NoMemory}
 use Rattle.dns_handle.specs.declared.error.ProtoError.TheVariants.{Decode, TooLong}
 use Rattle.dns_handle.specs.declared.notice.Notice.TheVariants.{NotAllBytesSent}
+use Rattle.dns_handle.specs.declared.io_kind.IoKind.{IoKind}
+use Rattle.dns_handle.specs.declared.io_kind.IoKind.TheVariants.{TimedOut}
+use Rattle.dns_link.specs.Calls.{IsToldWith, NetCalls, and_calls, last_fault, no_calls}
 use Rattle.dns_link.specs.Counts.{CountsValue}
 use Rattle.dns_link.specs.Moved.{DatagramValue}
+use Rattle.dns_link.specs.declared.net_call.NetCall.{NetCall}
+use Rattle.dns_link.specs.declared.net_call.NetCall.TheVariants.{Send}
 use Rattle.dns_multiplexer.specs.Draws.{Drawn}
-use Rattle.dns_datagrams.specs.declared.acceptance.Accepted.{Accepted}
-use Rattle.dns_datagrams.specs.declared.acceptance.Accepted.TheVariants.{Undecodable, CaseMismatch, Answer}
-use Rattle.dns_sockets.specs.Met.{DialerView, HasMet}
+use Rattle.dns_udp.specs.declared.acceptance.Accepted.{Accepted}
+use Rattle.dns_udp.specs.declared.acceptance.Accepted.TheVariants.{Undecodable, CaseMismatch, Answer}
+use Rattle.dns_udp.specs.Bindings.{AreTried, BindingValue}
+use Rattle.dns_udp.specs.Met.{DialerView, HasMet}
 use Rattle.dns_udp.specs.Requests.{AskedValue, fits, judged, is_ignored, response_by}
 
 -- a wait in which no datagram comes counts as so many milliseconds
@@ -75,6 +81,50 @@ Ends asked came met (Err (Io kind)) = EndsByFault asked came met × (0 < met.fau
 Ends asked came met (Err (Message NotAllBytesSent)) = EndsByFault asked came met × (0 < met.ends)
 Ends asked came met (Err NoMemory) = Unit {0}
 Ends asked came met (Err error) = ⊥
+
+-- ---- what is asked
+
+-- so many sockets were asked for and made, one after another, each by binds of its own that begin at no attempt; where not all
+-- were made, one more was asked for at last, and wasn't. These are the calls of their binds
+pub data AreAskedFor {R : Type 0} (draw : R → ℕ → R → Type 0) (binding : BindingValue) (from : R)
+    : R → ℕ → Bool → NetCalls → Type 0 where
+  NoSocket : AreAskedFor draw binding from from 0 true no_calls
+  AndMade : (mid to : R) (made after refused : ℕ) (calls more : NetCalls) → AreAskedFor draw binding from mid made true calls
+      → AreTried {G = Unit {0}} draw binding mid to 0 after refused more (Ok tt)
+      → AreAskedFor draw binding from to (made + 1) true (and_calls calls more)
+  AndRefused : (mid to : R) (made after refused : ℕ) (calls more : NetCalls) (kind : IoKind)
+      → AreAskedFor draw binding from mid made true calls
+      → AreTried {G = Unit {0}} draw binding mid to 0 after refused more (Err kind)
+      → AreAskedFor draw binding from to made false (and_calls calls more)
+
+-- an error of the outside has the kind of the last fault; no time is left, too, where each socket was made and none failed
+abbrev pub HasKind : Bool → Option IoKind → Option IoKind → Reply → Type 0
+HasKind all fault last (Err (Io kind)) = last ≡ Some kind
+HasKind all fault last (Err Timeout) = (last ≡ Some TimedOut) ⊎ ((all ≡ true) × (fault ≡ None))
+HasKind all fault last reply = Unit {0}
+
+-- the calls of sockets' binds, and one datagram of these bytes from each socket that was made; and the kind of the fault of one
+abbrev pub calls_with_sends : NetCalls → ℕ → NetCall → Option IoKind → NetCalls
+calls_with_sends binds made send fault = and_calls binds (record { made = replicate made send; fault = fault })
+
+-- what a call asked, from one state of its draws to another: sockets, and on each that was made the request once, as one datagram to
+-- the server
+pub record Asks {R : Type 0} (draw : R → ℕ → R → Type 0) (binding : BindingValue) (asked : AskedValue) (before now : Option NetCalls)
+    (from to : R) (reply : Reply) : Type 0 where
+  pub made : ℕ
+  pub all : Bool
+  pub binds : NetCalls
+  pub sockets : AreAskedFor draw binding from to made all binds
+  pub bytes : List ℕ
+  pub written : (made ≡ 0) ⊎ (encoded asked.request.message ≡ Ok bytes)
+  pub fault : Option IoKind
+  pub told : IsToldWith before (calls_with_sends binds made (Send bytes asked.server) fault) now
+  pub kind : HasKind all fault (last_fault binds.fault fault) reply
+
+-- the same, unless memory ran out
+abbrev pub AsksAll : {R : Type 0} → (R → ℕ → R → Type 0) → BindingValue → AskedValue → Option NetCalls → Option NetCalls → R → R → Reply
+    → Type 0
+AsksAll draw binding asked before now from to reply = (reply ≡ Err NoMemory) ⊎ Asks draw binding asked before now from to reply
 
 -- a call: the datagrams that came in it, what was met, and the local ports that were drawn, one after another
 pub record IsConversation {R : Type 0} (draws_port : R → ℕ → R → Type 0) (asked : AskedValue) (before now : DialerView)

@@ -1,5 +1,17 @@
+pub mod Met
+pub mod Bindings
+pub mod StreamViews
+pub mod Streams
+pub mod Addresses
+pub mod Questions
+pub mod Acceptance
+pub mod Tries
+pub mod Ports
+pub mod PlainAddresses
+pub mod Undecodables
 pub mod Requests
 pub mod Conversations
+pub mod Asks
 pub mod OpenSockets
 pub mod Waiting
 pub mod Encodings

@@ -2,7 +2,7 @@
 use Rattle.std.specs.Prelude.{◌≡◌, List, [], ◌∷◌, ◌++◌, length, Option, None, Some}
 use Rattle.dns_link.specs.Counts.{CountsValue, no_counts}
 use Rattle.dns_link.specs.Moved.{DatagramValue}
-use Rattle.dns_sockets.specs.Met.{DialerView, Meets, HasMet, sum_met}
+use Rattle.dns_udp.specs.Met.{DialerView, Meets, HasMet, sum_met}
 
 -- these came to a socket, where it tells them
 abbrev pub Tells : Option (List DatagramValue) → List DatagramValue → Type 0
@@ -48,3 +48,25 @@ pub record Turned {G : Type 0} (counts : G → CountsValue) (given : G → Optio
   pub after : List DatagramValue
   pub heard : AreHeard counts given sockets after (sum_met met one)
   pub joins : Joins new came after
+
+-- ---- steps of a call, from whatever was met before it
+
+-- a socket is put behind those that are open, or given back
+abbrev pub KeepsSocket : {G : Type 0} → (G → CountsValue) → (G → Option (List DatagramValue)) → DialerView → DialerView → List G → List G
+    → G → Type 0
+KeepsSocket counts given old_dial now_dial old now socket =
+    (before : DialerView) → (came : List DatagramValue) → (met : CountsValue) → (own : CountsValue)
+    → Holds counts given before old_dial old came met → IsHeard (counts socket) (given socket) [] own
+    → Holds counts given before now_dial now came (sum_met met own)
+
+-- one of the sockets is waited on
+abbrev pub TurnsOne : {G : Type 0} → (G → CountsValue) → (G → Option (List DatagramValue)) → List G → List G → List DatagramValue
+    → CountsValue → Type 0
+TurnsOne counts given old now new one =
+    (came : List DatagramValue) → (met : CountsValue) → AreHeard counts given old came met → Turned counts given now new came met one
+
+-- all sockets are given back
+abbrev pub GivesAllBack : {G : Type 0} → (G → CountsValue) → (G → Option (List DatagramValue)) → DialerView → DialerView → List G → Type 0
+GivesAllBack counts given old_dial now_dial sockets =
+    (before : DialerView) → (came : List DatagramValue) → (met : CountsValue) → Holds counts given before old_dial sockets came met
+    → HasMet before now_dial came met

@@ -6,9 +6,9 @@ use Rattle.dns_model.specs.SoundAnswers.{ResponseValue}
 use Rattle.dns_handle.specs.Requests.{RequestValue}
 use Rattle.dns_link.specs.Moved.{DatagramValue}
 use Rattle.dns_multiplexer.specs.Messages.{plain_response}
-use Rattle.dns_datagrams.specs.Acceptance.{accepted}
-use Rattle.dns_datagrams.specs.declared.acceptance.Accepted.{Accepted}
-use Rattle.dns_datagrams.specs.declared.acceptance.Accepted.TheVariants.{Ignored}
+use Rattle.dns_udp.specs.Acceptance.{accepted}
+use Rattle.dns_udp.specs.declared.acceptance.Accepted.{Accepted}
+use Rattle.dns_udp.specs.declared.acceptance.Accepted.TheVariants.{Ignored}
 
 -- a request on its way to a server
 pub record AskedValue : Type 0 where

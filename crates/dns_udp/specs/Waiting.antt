@@ -15,12 +15,13 @@ use Rattle.dns_handle.specs.declared.error.ProtoError.TheVariants.{Decode}
 use Rattle.dns_handle.specs.declared.notice.Notice.TheVariants.{NotAllBytesSent}
 use Rattle.dns_link.specs.Counts.{CountsValue, with_end, with_fault}
 use Rattle.dns_link.specs.Moved.{DatagramValue}
-use Rattle.dns_datagrams.specs.declared.acceptance.Accepted.TheVariants.{Ignored, Undecodable, CaseMismatch, Answer}
-use Rattle.dns_sockets.specs.Bindings.{DrawsPorts}
-use Rattle.dns_sockets.specs.Met.{DialerView, capped, sum_met}
+use Rattle.dns_udp.specs.declared.acceptance.Accepted.TheVariants.{Ignored, Undecodable, CaseMismatch, Answer}
+use Rattle.dns_udp.specs.Bindings.{DrawsPorts}
+use Rattle.dns_udp.specs.Met.{DialerView, capped, sum_met}
 use Rattle.dns_udp.specs.Conversations.{AllFit, AreIgnored, Ends, most_ignored, tick}
 use Rattle.dns_udp.specs.OpenSockets.{Holds}
 use Rattle.dns_udp.specs.Requests.{AskedValue, judged, response_by}
+use Rattle.dns_udp.specs.declared.waiting.Progress.{Progress}
 
 -- a send of the whole request, of a part of it, or one that failed
 abbrev pub IsSentOn : {X : Type 0} → CountsValue → CountsValue → Result X NetError → Type 0
@@ -48,6 +49,13 @@ pub record Opens {G X : Type 0} (counts : G → CountsValue) (given : G → Opti
   pub gots : more.gots ≡ 0
   pub quiet : more.quiet ≡ 0
   pub cause : OpensBy more result
+
+-- the same from whatever was met before it
+abbrev pub OpensMore : {G X : Type 0} → (G → CountsValue) → (G → Option (List DatagramValue)) → DialerView → DialerView → List G → List G
+    → Result X NetError → Type 0
+OpensMore counts given old_dial now_dial old now result =
+    (before : DialerView) → (came : List DatagramValue) → (met : CountsValue) → Holds counts given before old_dial old came met
+    → Opens counts given before now_dial now came met result
 
 -- a datagram as it was judged: no answer, the answer, or an error
 abbrev pub Judges : RequestValue → SocketAddr → DatagramValue → Option (Result ResponseValue NetError) → Type 0
@@ -91,3 +99,12 @@ pub record IsStopped {G R : Type 0} (counts : G → CountsValue) (given : G → 
 abbrev pub TurnEnds : (ℕ → ℕ → Type 0) → (Reply → Type 0) → ℕ → ℕ → Option (Result ResponseValue NetError) → Type 0
 TurnEnds Waits Stops elapsed ignored None = Waits elapsed ignored
 TurnEnds Waits Stops elapsed ignored (Some result) = Stops (reply_of result)
+
+-- the same from whatever went before it
+abbrev pub TakesTurn : {G R : Type 0} → (G → CountsValue) → (G → Option (List DatagramValue)) → (R → ℕ → R → Type 0) → AskedValue
+    → DialerView → DialerView → R → R → List G → List G → Progress → Progress → Option (Result ResponseValue NetError) → Type 0
+TakesTurn {R} counts given draw asked old_dial now_dial mid to old now progress after result =
+    (before : DialerView) → (from : R)
+    → IsWaiting counts given draw asked before old_dial from mid old progress.elapsed progress.ignored
+    → TurnEnds (λ elapsed ignored. IsWaiting counts given draw asked before now_dial from to now elapsed ignored)
+    (λ reply. IsStopped counts given draw asked before now_dial from to now reply) after.elapsed after.ignored result

@@ -1,12 +1,13 @@
+//! What is chosen for a client.
 ghost use Rattle.std.specs.Prelude.{◌≡◌};
 ghost use Rattle.dns_udp.specs.ClientStreams.{IsBuilt, plain_builder};
 ghost use Rattle.dns_udp.specs.Exchanges.{IsExchangeOf};
 
 use crate::client_stream::UdpClientStream;
 use crate::exchange::UdpExchange;
+use crate::{Binding, any_address};
 use dns_link::Dialer;
 use dns_multiplexer::Draws;
-use dns_sockets::{Binding, any_address};
 use std::alloc::Global;
 use std::collections::BTreeSet;
 use std::marker::Model;
@@ -123,6 +124,22 @@ impl UdpClientStreamBuilder {
     }
 
     /// A handle over the stream, by a dialer and draws.
+    ///
+    /// ```
+    /// fn ask_by_datagrams<R: Net + Clock + Copy + Drop>(
+    ///     alloc: Global,
+    ///     net: R,
+    ///     server: SocketAddr,
+    ///     seed: u64,
+    ///     request: DnsRequest,
+    ///     now: u64,
+    /// ) -> Result<DnsResponse, NetError> {
+    ///     let draws = RandDraws::from_seed(seed);
+    ///     let mut exchange =
+    ///         UdpClientStream::builder(alloc, server).exchange(SocketDialer::new(net), draws);
+    ///     exchange.send(alloc, request, now)
+    /// }
+    /// ```
     pub fn exchange<D: Dialer + Drop, R: Draws + Drop>(self, dial: D, draws: R) -> UdpExchange<D, R>
         ensures { IsExchangeOf self dial draws result }
     {

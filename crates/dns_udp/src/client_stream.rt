@@ -1,11 +1,12 @@
-ghost use Rattle.std.specs.Prelude.{◌≡◌, false, true, Err, Some, IfOk, min, max};
-ghost use Rattle.dns_datagrams.specs.Questions.{asks_alike};
+//! A client that sends requests to one server by datagrams.
+ghost use Rattle.std.specs.Prelude.{◌≡◌, false, true, Ok, Err, Some, IfOk, min, max};
+ghost use Rattle.dns_udp.specs.Questions.{asks_alike};
 ghost use Rattle.dns_handle.specs.Replies.{reply_of};
 ghost use Rattle.dns_message.specs.WrittenAs.{encoded};
 ghost use Rattle.dns_message.specs.declared.encode_error.EncodeError.TheVariants as encode;
-ghost use Rattle.dns_sockets.specs.Met.{dialer_view};
+ghost use Rattle.dns_udp.specs.Met.{dialer_view};
 ghost use Rattle.dns_udp.specs.ClientStreams.{IsTooLong, asked_of, plain_builder};
-ghost use Rattle.dns_udp.specs.Conversations.{IsConversation};
+ghost use Rattle.dns_udp.specs.Conversations.{AsksAll, IsConversation};
 ghost use Rattle.dns_udp.specs.Requests.{payload_of};
 ghost use Rattle.dns_udp.specs.Sendings.{asked_by};
 
@@ -13,12 +14,11 @@ use crate::builder::UdpClientStreamBuilder;
 use crate::open_sockets::retire_all;
 use crate::receiving::encoded;
 use crate::waiting::{Sending, wait};
-use dns_datagrams::Retries;
+use crate::{Binding, MAX_RECEIVE_BUFFER_SIZE, Retries, receive_buffer};
 use dns_handle::{DnsRequest, DnsResponse, NetError};
 use dns_link::Dialer;
 use dns_message::Edns;
 use dns_multiplexer::Draws;
-use dns_sockets::{Binding, MAX_RECEIVE_BUFFER_SIZE, receive_buffer};
 use std::alloc::Global;
 use std::fmt;
 use std::marker::Model;
@@ -96,6 +96,8 @@ impl UdpClientStream {
         requires { self.old.is_shutdown ≡ false }
         ensures talk { IsConversation R.draws_port (asked_of self.old request.now) (dialer_view D.counts D.given_datagrams dial.old)
             (dialer_view D.counts D.given_datagrams dial.new) draws.old draws.new (reply_of result) }
+        ensures asked { AsksAll R.draws_port self.old.binding (asked_of self.old request.now) (D.calls dial.old) (D.calls dial.new)
+            draws.old draws.new (reply_of result) }
         ensures id { IfOk result (λ r. r.message.id ≡ request.now.message.id) }
         ensures questions { IfOk result (λ r. asks_alike request.now.message.queries r.message.queries ≡ true) }
         ensures long { encoded request.now.message ≡ Err encode.TooLong
@@ -131,20 +133,22 @@ impl UdpClientStream {
     ) -> Result<DnsResponse, NetError>
         ensures talk { IsConversation R.draws_port (asked_of self.now request.now) (dialer_view D.counts D.given_datagrams dial.old)
             (dialer_view D.counts D.given_datagrams dial.new) draws.old draws.new (reply_of result) }
+        ensures asked { AsksAll R.draws_port self.now.binding (asked_of self.now request.now) (D.calls dial.old) (D.calls dial.new)
+            draws.old draws.new (reply_of result) }
         ensures id { IfOk result (λ r. r.message.id ≡ request.now.message.id) }
         ensures questions { IfOk result (λ r. asks_alike request.now.message.queries r.message.queries ≡ true) }
         ensures long { encoded request.now.message ≡ Err encode.TooLong
             → IsTooLong result × (dial.new ≡ dial.old) × (draws.new ≡ draws.old) }
     {
-        match encoded(request) {
-            Ok(bytes) => self.converse(alloc, dial, draws, request, bytes.as_slice()),
-            Err(error) => Err(error),
-        }
+        let bytes = encoded(request)?;
+        self.converse(alloc, dial, draws, request, bytes.as_slice())
     }
 
     /// A request on its way.
     fn sending<'a>(&'a self, request: &'a DnsRequest, bytes: &'a [u8]) -> Sending<'a>
-        ensures { asked_by result ≡ asked_of self.now request.now }
+        ensures asked { asked_by result ≡ asked_of self.now request.now }
+        ensures binding { result.binding.now ≡ self.now.binding }
+        ensures bytes { result.bytes.now ≡ bytes.now }
     {
         let interval = request.options.retry_interval_ms;
         Sending {
@@ -166,13 +170,13 @@ impl UdpClientStream {
         request: &DnsRequest,
         bytes: &[u8],
     ) -> Result<DnsResponse, NetError>
-        ensures { IsConversation R.draws_port (asked_of self.now request.now) (dialer_view D.counts D.given_datagrams dial.old)
+        requires { encoded request.now.message ≡ Ok bytes.now }
+        ensures talk { IsConversation R.draws_port (asked_of self.now request.now) (dialer_view D.counts D.given_datagrams dial.old)
             (dialer_view D.counts D.given_datagrams dial.new) draws.old draws.new (reply_of result) }
+        ensures asked { AsksAll R.draws_port self.now.binding (asked_of self.now request.now) (D.calls dial.old) (D.calls dial.new)
+            draws.old draws.new (reply_of result) }
     {
-        let mut buf = match receive_buffer(alloc, buffer_size(&request.message.edns)) {
-            Ok(buf) => buf,
-            Err(error) => return Err(NetError::from(error)),
-        };
+        let mut buf = receive_buffer(alloc, buffer_size(&request.message.edns))?;
         let sending = self.sending(request, bytes);
         let mut sockets = Vec::new(alloc);
         let reply = wait(alloc, &sending, dial, draws, &mut buf, &mut sockets);

@@ -1,3 +1,4 @@
+//! A handle that sends its requests by datagrams.
 ghost use Rattle.std.specs.Prelude.{◌≡◌};
 ghost use Rattle.dns_handle.specs.Replies.{reply_of};
 ghost use Rattle.dns_udp.specs.Exchanges.{Exchanged, faults_of, parts_of, sends_of, under_id};
@@ -61,7 +62,7 @@ fn exchange<D: Dialer, R: Draws>(
     draws: &mut R,
     request: DnsRequest,
 ) -> Result<DnsResponse, NetError>
-    ensures { Exchanged D.counts D.given_datagrams R.draws_id R.draws_port
+    ensures { Exchanged D.counts D.given_datagrams D.calls R.draws_id R.draws_port
         (record { stream = stream.now; dial = dial.old; draws = draws.old })
         (record { stream = stream.now; dial = dial.new; draws = draws.new }) request (reply_of result) }
 {
@@ -79,12 +80,12 @@ impl<D: Dialer + Drop, R: Draws + Drop> DnsHandle for UdpExchange<D, R> {
 
     ghost faults = { faults_of };
 
-    ghost sent = { λ old question new reply. ExchangesQuestion D.counts D.given_datagrams R.draws_id R.draws_port (parts_of old)
+    ghost sent = { λ old question new reply. ExchangesQuestion D.counts D.given_datagrams D.calls R.draws_id R.draws_port (parts_of old)
         (parts_of new) question reply };
 
     ghost told = { λ _. None };
 
-    ghost requested = { λ old request now new reply. Exchanged D.counts D.given_datagrams R.draws_id R.draws_port (parts_of old)
+    ghost requested = { λ old request now new reply. Exchanged D.counts D.given_datagrams D.calls R.draws_id R.draws_port (parts_of old)
         (parts_of new) request reply };
 
     fn send(
@@ -103,5 +104,9 @@ impl<D: Dialer + Drop, R: Draws + Drop> DnsHandle for UdpExchange<D, R> {
         self.sends = self.sends.saturating_add(1);
         self.faults = faults_after(self.faults, &reply);
         reply
+    }
+
+    fn is_using_edns(&self) -> bool {
+        true
     }
 }

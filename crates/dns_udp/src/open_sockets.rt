@@ -1,16 +1,18 @@
-ghost use Rattle.std.specs.Prelude.{◌≡◌, ◌<◌, ◌≤◌, ◌+◌, [], IfErr, IfOk, IfSome, List, OnOk, length};
+//! The sockets of a call: made, sent on, waited on by turns, and given back.
+ghost use Rattle.std.specs.Prelude.{◌≡◌, ◌<◌, ◌≤◌, ◌+◌, ◌%◌, ◌++◌, ◌∷◌, [], None, IfErr, IfOk, IfSome, OnOk, length, slice_set};
 ghost use Rattle.dns_handle.specs.declared.error.NetError.TheVariants.{NoMemory};
-ghost use Rattle.dns_link.specs.Counts.{CountsValue};
-ghost use Rattle.dns_link.specs.Moved.{DatagramValue, received_by};
-ghost use Rattle.dns_sockets.specs.Bindings.{DrawsPorts};
-ghost use Rattle.dns_sockets.specs.Met.{DialerView, HasMet, dialer_view, one_met, sum_met};
-ghost use Rattle.dns_udp.specs.OpenSockets.{AreHeard, Holds, IsHeard, Turned};
-ghost use Rattle.dns_udp.specs.Waiting.{IsSentOn, Opens};
+ghost use Rattle.dns_link.specs.Calls.{fault_of};
+ghost use Rattle.dns_link.specs.Moved.{received_by};
+ghost use Rattle.dns_udp.specs.Asks.{AreTold, AsksMore, GivesBack, IsSentAs, ask_plan, ask_state, failure};
+ghost use Rattle.dns_udp.specs.Bindings.{DrawsPorts};
+ghost use Rattle.dns_udp.specs.Met.{dialer_view, one_met};
+ghost use Rattle.dns_udp.specs.OpenSockets.{GivesAllBack, KeepsSocket, TurnsOne};
+ghost use Rattle.dns_udp.specs.Waiting.{IsSentOn, OpensMore};
 
+use crate::Binding;
 use dns_handle::{IoKind, NetError, Notice};
-use dns_link::{Datagrams, Dialer};
+use dns_link::{Datagrams, Dialer, NetCall};
 use dns_multiplexer::Draws;
-use dns_sockets::Binding;
 use std::collections::VecDeque;
 use std::net::SocketAddr;
 
@@ -18,16 +20,13 @@ use std::net::SocketAddr;
 fn send_on<G: Datagrams>(socket: &mut G, bytes: &[u8], server: SocketAddr) -> Result<(), NetError>
     ensures counts { IsSentOn (G.counts socket.old) (G.counts socket.new) result }
     ensures given { G.given socket.new ≡ G.given socket.old }
+    ensures asked { IsSentAs (NetCall.Send bytes.now server) (G.calls socket.old) (G.calls socket.new) result }
 {
-    match socket.send_to(bytes, server) {
-        Ok(taken) => {
-            if taken < bytes.len() {
-                return Err(NetError::Message(Notice::NotAllBytesSent));
-            }
-            Ok(())
-        }
-        Err(kind) => Err(NetError::from(kind)),
+    let taken = socket.send_to(bytes, server)?;
+    if taken < bytes.len() {
+        return Err(NetError::Message(Notice::NotAllBytesSent));
     }
+    Ok(())
 }
 
 /// Puts a socket behind those that are open, or gives it back where there is no room for it.
@@ -36,11 +35,10 @@ fn keep_socket<D: Dialer>(
     sockets: &mut Vec<D::Datagrams>,
     socket: D::Datagrams,
 ) -> Result<(), NetError>
-    ensures kept { (before : DialerView) → (came : List DatagramValue) → (met : CountsValue) → (own : CountsValue)
-        → Holds D.Datagrams.counts D.Datagrams.given before (dialer_view D.counts D.given_datagrams dial.old) sockets.old.items came met
-        → IsHeard (D.Datagrams.counts socket) (D.Datagrams.given socket) [] own
-        → Holds D.Datagrams.counts D.Datagrams.given before (dialer_view D.counts D.given_datagrams dial.new) sockets.new.items came
-        (sum_met met own) }
+    ensures kept { KeepsSocket D.Datagrams.counts D.Datagrams.given (dialer_view D.counts D.given_datagrams dial.old)
+        (dialer_view D.counts D.given_datagrams dial.new) sockets.old.items sockets.new.items socket }
+    ensures behind { OnOk result (sockets.new.items ≡ sockets.old.items ++ socket ∷ []) }
+    ensures dial { OnOk result (dial.new ≡ dial.old) }
     ensures len { OnOk result (length sockets.new.items ≡ length sockets.old.items + 1) }
     ensures memory { IfErr result (λ e. e ≡ NoMemory) }
 {
@@ -62,25 +60,19 @@ pub(crate) fn open_socket<D: Dialer, R: Draws>(
     bytes: &[u8],
     sockets: &mut Vec<D::Datagrams>,
 ) -> Result<(), NetError>
-    ensures opens { (before : DialerView) → (came : List DatagramValue) → (met : CountsValue)
-        → Holds D.Datagrams.counts D.Datagrams.given before (dialer_view D.counts D.given_datagrams dial.old) sockets.old.items came met
-        → Opens D.Datagrams.counts D.Datagrams.given before (dialer_view D.counts D.given_datagrams dial.new) sockets.new.items came
-        met result }
+    ensures opens { OpensMore D.Datagrams.counts D.Datagrams.given (dialer_view D.counts D.given_datagrams dial.old)
+        (dialer_view D.counts D.given_datagrams dial.new) sockets.old.items sockets.new.items result }
+    ensures asked { AsksMore (ask_plan D.Datagrams.calls R.draws_port binding.now (NetCall.Send bytes.now server))
+        (ask_state D.calls dial.old draws.old sockets.old.items) (ask_state D.calls dial.new draws.new sockets.new.items)
+        (failure result) }
     ensures len { OnOk result (length sockets.new.items ≡ length sockets.old.items + 1) }
     ensures ports { DrawsPorts R.draws_port draws.old draws.new }
 {
     let mut attempted = 0;
-    match binding.bind(dial, draws, &mut attempted) {
-        Err(kind) => Err(NetError::from(kind)),
-        Ok(socket) => {
-            let mut socket = socket;
-            let sent = send_on(&mut socket, bytes, server);
-            match keep_socket(dial, sockets, socket) {
-                Ok(()) => sent,
-                Err(error) => Err(error),
-            }
-        }
-    }
+    let mut socket = binding.bind(dial, draws, &mut attempted)?;
+    let sent = send_on(&mut socket, bytes, server);
+    keep_socket(dial, sockets, socket)?;
+    sent
 }
 
 /// Waits for a datagram on the socket whose turn it is.
@@ -90,8 +82,13 @@ pub(crate) fn receive_in_turn<G: Datagrams>(
     buf: &mut [u8],
 ) -> Result<Option<(usize, SocketAddr)>, IoKind>
     requires { turn.old < length sockets.old.items }
-    ensures turned { (came : List DatagramValue) → (met : CountsValue) → AreHeard G.counts G.given sockets.old.items came met
-        → Turned G.counts G.given sockets.new.items (received_by result buf.new) came met (one_met result) }
+    ensures turned { TurnsOne G.counts G.given sockets.old.items sockets.new.items (received_by result buf.new) (one_met result) }
+
+    // The socket whose turn it is is waited on and no other, and the next one's turn is next.
+    ensures heard { (socket : G) × (sockets.new.items ≡ slice_set sockets.old.items turn.old socket) }
+    ensures next { turn.new ≡ (turn.old + 1) % length sockets.old.items }
+    ensures asked { (send : NetCall) → AreTold G.calls send sockets.old.items None
+        → AreTold G.calls send sockets.new.items (fault_of result) }
     ensures len { length sockets.new.items ≡ length sockets.old.items }
     ensures turn { turn.new < length sockets.new.items }
     ensures bound { IfOk result (λ came. IfSome came (λ d. d.0 ≤ length buf.new)) }
@@ -103,9 +100,9 @@ pub(crate) fn receive_in_turn<G: Datagrams>(
 
 /// Gives all sockets back.
 pub(crate) fn retire_all<D: Dialer>(dial: &mut D, sockets: Vec<D::Datagrams>)
-    ensures { (before : DialerView) → (came : List DatagramValue) → (met : CountsValue)
-        → Holds D.Datagrams.counts D.Datagrams.given before (dialer_view D.counts D.given_datagrams dial.old) sockets.items came met
-        → HasMet before (dialer_view D.counts D.given_datagrams dial.new) came met }
+    ensures met { GivesAllBack D.Datagrams.counts D.Datagrams.given (dialer_view D.counts D.given_datagrams dial.old)
+        (dialer_view D.counts D.given_datagrams dial.new) sockets.items }
+    ensures asked { GivesBack D.Datagrams.calls sockets.items (D.calls dial.old) (D.calls dial.new) }
 {
     let mut left = VecDeque::from_vec(sockets);
     while let Some(socket) = left.pop_front() {

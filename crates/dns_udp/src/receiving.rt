@@ -1,16 +1,16 @@
+//! What becomes of a datagram that comes.
 ghost use Rattle.std.specs.Prelude.{◌≡◌, ◌<◌, ◌≤◌, ◌^◌, IfOk, OnOk, length, map, take};
 ghost use Rattle.dns_multiplexer.specs.Messages.{plain_response};
 ghost use Rattle.dns_udp.specs.Encodings.{IsEncoded};
 ghost use Rattle.dns_udp.specs.Requests.{put_back, questions_put_back, response_by};
 ghost use Rattle.dns_udp.specs.Waiting.{Judges};
 
-use dns_datagrams::{Accepted, accept_datagram};
+use crate::{Accepted, accept_datagram};
 use dns_evidence::Trail;
 use dns_handle::{DnsRequest, DnsResponse, NetError, ProtoError};
 use dns_message::{EncodeError, Message};
 use dns_model::Denial;
-use dns_name::{NoMemory, Octets};
-use dns_record::Query;
+use dns_record::{NoMemory, Octets, Query};
 use std::alloc::Global;
 use std::net::SocketAddr;
 

@@ -1,21 +1,19 @@
-ghost use Rattle.std.specs.Prelude.{◌≡◌, ◌<◌, ◌≤◌, ◌+◌, ◌-◌, ◌^◌, [], List, IfOk, IfSome, IfNone, OnOk, length};
+//! Waiting for the answer of a request, on sockets that are opened one after another.
+ghost use Rattle.std.specs.Prelude.{◌≡◌, ◌<◌, ◌≤◌, ◌+◌, ◌-◌, ◌^◌, [], Some, IfOk, IfSome, IfNone, OnOk, length};
 ghost use Rattle.dns_handle.specs.Replies.{reply_of};
-ghost use Rattle.dns_link.specs.Counts.{CountsValue};
-ghost use Rattle.dns_link.specs.Moved.{DatagramValue};
-ghost use Rattle.dns_sockets.specs.Bindings.{DrawsPorts};
-ghost use Rattle.dns_sockets.specs.Met.{DialerView, dialer_view};
-ghost use Rattle.dns_udp.specs.OpenSockets.{Holds};
+ghost use Rattle.dns_udp.specs.Asks.{AsksMore, AsksOn, answer, ask_state, failure};
+ghost use Rattle.dns_udp.specs.Bindings.{DrawsPorts};
+ghost use Rattle.dns_udp.specs.Met.{dialer_view};
 ghost use Rattle.dns_udp.specs.Requests.{buffer_size};
-ghost use Rattle.dns_udp.specs.Sendings.{asked_by};
-ghost use Rattle.dns_udp.specs.Waiting.{IsStopped, IsWaiting, Opens, TurnEnds, goes_on};
+ghost use Rattle.dns_udp.specs.Sendings.{asked_by, plan_of};
+ghost use Rattle.dns_udp.specs.Waiting.{IsStopped, OpensMore, TakesTurn, goes_on};
 
 use crate::open_sockets::{open_socket, receive_in_turn};
 use crate::receiving::judge_front;
-use dns_datagrams::Retries;
+use crate::{Binding, Retries};
 use dns_handle::{DnsRequest, DnsResponse, NetError};
 use dns_link::Dialer;
 use dns_multiplexer::Draws;
-use dns_sockets::Binding;
 use std::alloc::Global;
 use std::net::SocketAddr;
 
@@ -39,13 +37,13 @@ pub(crate) struct Sending<'a> {
 
 /// How far a call has come.
 #[derive(Clone, Copy)]
-struct Progress {
+pub(crate) struct Progress {
     /// Milliseconds, by the waits in which no datagram came.
-    elapsed: u64,
+    pub(crate) elapsed: u64,
     /// So many datagrams were no answer.
-    ignored: u32,
+    pub(crate) ignored: u32,
     /// The number of the socket whose turn it is.
-    turn: usize,
+    pub(crate) turn: usize,
 }
 
 /// Whether an answer is still waited for: there is time left, and not too many datagrams were no answer.
@@ -64,27 +62,25 @@ fn open_more<D: Dialer, R: Draws>(
     elapsed: u64,
     sockets: &mut Vec<D::Datagrams>,
 ) -> Result<(), NetError>
-    ensures opens { (before : DialerView) → (came : List DatagramValue) → (met : CountsValue)
-        → Holds D.Datagrams.counts D.Datagrams.given before (dialer_view D.counts D.given_datagrams dial.old) sockets.old.items came met
-        → Opens D.Datagrams.counts D.Datagrams.given before (dialer_view D.counts D.given_datagrams dial.new) sockets.new.items came
-        met result }
+    ensures opens { OpensMore D.Datagrams.counts D.Datagrams.given (dialer_view D.counts D.given_datagrams dial.old)
+        (dialer_view D.counts D.given_datagrams dial.new) sockets.old.items sockets.new.items result }
+    ensures asked { AsksMore (plan_of D.Datagrams.calls R.draws_port sending.now)
+        (ask_state D.calls dial.old draws.old sockets.old.items) (ask_state D.calls dial.new draws.new sockets.new.items)
+        (failure result) }
     ensures more { OnOk result (length sockets.old.items ≤ length sockets.new.items) }
     ensures some { OnOk result (0 < length sockets.new.items) }
     ensures ports { DrawsPorts R.draws_port draws.old draws.new }
 {
     let tries = sending.retries.tries(elapsed);
     while (sockets.len() as u64) < tries {
-        match open_socket(
+        open_socket(
             sending.binding,
             dial,
             draws,
             sending.server,
             sending.bytes,
             sockets,
-        ) {
-            Ok(()) => (),
-            Err(error) => return Err(error),
-        }
+        )?;
     }
     Ok(())
 }
@@ -104,15 +100,12 @@ fn take_turn<D: Dialer, R: Draws>(
     requires turn { progress.old.turn < length sockets.old.items }
     requires room { length buf.old ≤ buffer_size sending.now.request.now }
     requires range { sending.now.timeout < 2 ^ 64 }
-    ensures ends { (before : DialerView) → (from : R)
-        → IsWaiting D.Datagrams.counts D.Datagrams.given R.draws_port (asked_by sending.now) before
-        (dialer_view D.counts D.given_datagrams dial.old) from draws.old sockets.old.items progress.old.elapsed progress.old.ignored
-        → TurnEnds
-        (λ elapsed ignored. IsWaiting D.Datagrams.counts D.Datagrams.given R.draws_port (asked_by sending.now) before
-        (dialer_view D.counts D.given_datagrams dial.new) from draws.new sockets.new.items elapsed ignored)
-        (λ reply. IsStopped D.Datagrams.counts D.Datagrams.given R.draws_port (asked_by sending.now) before
-        (dialer_view D.counts D.given_datagrams dial.new) from draws.new sockets.new.items reply)
-        progress.new.elapsed progress.new.ignored result }
+    ensures ends { TakesTurn D.Datagrams.counts D.Datagrams.given R.draws_port (asked_by sending.now)
+        (dialer_view D.counts D.given_datagrams dial.old) (dialer_view D.counts D.given_datagrams dial.new) draws.old draws.new
+        sockets.old.items sockets.new.items progress.old progress.new result }
+    ensures asked { AsksMore (plan_of D.Datagrams.calls R.draws_port sending.now)
+        (ask_state D.calls dial.old draws.old sockets.old.items) (ask_state D.calls dial.new draws.new sockets.new.items)
+        (answer result) }
     ensures turn { IfNone result (progress.new.turn < length sockets.new.items) }
     ensures less { IfNone result ((sending.now.timeout - progress.new.elapsed) + (65536 - progress.new.ignored)
         < (sending.now.timeout - progress.old.elapsed) + (65536 - progress.old.ignored)) }
@@ -146,14 +139,13 @@ pub(crate) fn wait<D: Dialer, R: Draws>(
 ) -> Result<DnsResponse, NetError>
     requires none { sockets.old.items ≡ [] }
     requires room { length buf.old ≤ buffer_size sending.now.request.now }
-    ensures { IsStopped D.Datagrams.counts D.Datagrams.given R.draws_port (asked_by sending.now)
+    ensures stopped { IsStopped D.Datagrams.counts D.Datagrams.given R.draws_port (asked_by sending.now)
         (dialer_view D.counts D.given_datagrams dial.old) (dialer_view D.counts D.given_datagrams dial.new) draws.old draws.new
         sockets.new.items (reply_of result) }
+    ensures asked { AsksOn (plan_of D.Datagrams.calls R.draws_port sending.now) (D.calls dial.old) draws.old
+        (ask_state D.calls dial.new draws.new sockets.new.items) (Some (reply_of result)) }
 {
-    match open_more(sending, dial, draws, 0, sockets) {
-        Ok(()) => (),
-        Err(error) => return Err(error),
-    }
+    open_more(sending, dial, draws, 0, sockets)?;
     let mut progress = Progress {
         elapsed: 0,
         ignored: 0,

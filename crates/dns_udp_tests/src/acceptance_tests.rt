@@ -1,6 +1,6 @@
 use crate::parts::{ASKED, check};
-use dns_datagrams::{Accepted, accept_datagram};
 use dns_message::{DecodeError, DecodeKind, Message};
+use dns_udp::{Accepted, accept_datagram};
 use std::alloc::Global;
 use std::net::{IpAddr, Ipv4Addr, Ipv6Addr, SocketAddr};
 use std::process::Abort;

@@ -6,7 +6,7 @@ use crate::watching::Watching;
 use dns_handle::IoKind;
 use dns_link::Dialer;
 use dns_multiplexer::ListDraws;
-use dns_sockets::{UdpSocket, UdpStream};
+use dns_udp::{UdpSocket, UdpStream};
 use std::alloc::Global;
 use std::collections::BTreeSet;
 use std::net::{IpAddr, Ipv4Addr, SocketAddr};

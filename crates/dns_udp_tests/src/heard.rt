@@ -14,6 +14,7 @@ pub(crate) enum Heard {
     Fault(IoKind),
     Timeout,
     Undecodable,
+    CaseMismatch,
     Short,
     Other,
 }
@@ -24,6 +25,7 @@ pub(crate) fn heard_error(error: &NetError) -> Heard {
         NetError::Io(kind) => Heard::Fault(*kind),
         NetError::Timeout => Heard::Timeout,
         NetError::Proto(ProtoError::Decode(_)) => Heard::Undecodable,
+        NetError::QueryCaseMismatch => Heard::CaseMismatch,
         NetError::Message(Notice::NotAllBytesSent) => Heard::Short,
         _ => Heard::Other,
     }

@@ -1,5 +1,5 @@
 //! Tests of clocks and dialers, of datagrams and their sockets, and of requests by datagrams, by what `dns_link`,
-//! `dns_datagrams`, `dns_sockets` and `dns_udp` give.
+//! `dns_udp`, `dns_udp` and `dns_udp` give.
 //!
 //! They stand apart, since a crate with tests of its own is proved twice.
 #![tactic(auto)]

@@ -1,13 +1,15 @@
 use crate::binding_tests::drawn;
 use crate::parts::check;
-use dns_datagrams::{Retries, next_port};
 use dns_handle::IoKind;
-use dns_link::{Clock, Dialer, FixedClock, SocketDialer, SystemClock};
+use dns_link::{Clock, Datagrams, Dialer, FixedClock, SocketDatagrams, SocketDialer, SystemClock};
 use dns_multiplexer::ListDraws;
+use dns_udp::{Retries, next_port};
 use std::alloc::Global;
 use std::collections::BTreeSet;
-use std::net::{IpAddr, Ipv4Addr, SocketAddr};
+use std::net::{IpAddr, Ipv4Addr, Net, SocketAddr, UdpSocket};
 use std::process::Abort;
+use std::thread;
+use std::time::{self, Duration, Instant};
 
 /// The port that is drawn where 2000 is avoided and so many draws give it before 2001, and how many attempts there were.
 fn attempted(rt: &impl Abort, alloc: Global, avoided: u32) -> (u16, u8) {
@@ -37,8 +39,14 @@ fn an_avoided_port_is_passed(rt: HostRuntime) {
     }
 }
 
+// The example of `Retries::tries`, word for word.
+fn sends_in_a_second() -> u64 {
+    Retries::new(333, 5).tries(1000)
+}
+
 #[test]
 fn a_request_is_tried_again_after_each_interval(rt: HostRuntime) {
+    check(&rt, "four sends in a second", sends_in_a_second() == 4);
     let retries = Retries::new(200, 5);
     check(
         &rt,
@@ -64,6 +72,57 @@ fn a_fixed_clock_stands_and_that_of_the_system_goes(rt: HostRuntime) {
         "the clock of the system goes",
         SystemClock::new(&rt).now() > 1_600_000_000,
     );
+}
+
+/// By how much a clock goes on in two seconds.
+fn seconds_passed(rt: &HostRuntime) -> u64 {
+    let mut clock = SystemClock::new(rt);
+    let before = clock.now();
+    thread::sleep(rt, Duration::from_millis(2000));
+    clock.now().saturating_sub(before)
+}
+
+#[test]
+fn a_clock_is_read_each_time(rt: HostRuntime) {
+    check(&rt, "two seconds pass", seconds_passed(&rt) >= 1);
+}
+
+/// What a wait for a datagram is answered by a machine that says that nobody hears at the other side (RFC 1122, 4.1.3.1).
+fn refused<R: Net + time::Clock + Abort>(rt: &R) -> Option<IoKind> {
+    let other = UdpSocket::bind(rt, "127.0.0.1:0").expect(rt, "a socket");
+    let nobody = other.local_addr().expect(rt, "an address");
+    drop(other);
+    let socket = UdpSocket::bind(rt, "127.0.0.1:0").expect(rt, "a socket");
+    socket.connect(nobody).expect(rt, "a peer");
+    let mut datagrams = SocketDatagrams::new(socket, rt);
+    let _ = datagrams.send_to(b"x", nobody);
+    datagrams.recv_from(&mut [0u8; 8]).err()
+}
+
+#[test]
+fn a_fault_of_a_socket_is_told(rt: HostRuntime) {
+    check(
+        &rt,
+        "nobody hears",
+        refused(&rt) == Some(IoKind::ConnectionRefused),
+    );
+}
+
+/// For how long a socket waits to which nothing comes.
+fn waited<R: Net + time::Clock + Abort>(rt: &R) -> Duration {
+    let socket = UdpSocket::bind(rt, "127.0.0.1:0").expect(rt, "a socket");
+    let mut datagrams = SocketDatagrams::new(socket, rt);
+    let began = Instant::now(rt).expect(rt, "a clock");
+    let came = datagrams.recv_from(&mut [0u8; 8]);
+    check(rt, "nothing comes", matches!(came, Ok(None)));
+    began.elapsed(rt).expect(rt, "a clock")
+}
+
+#[test]
+fn a_socket_waits_for_a_tenth_of_a_second(rt: HostRuntime) {
+    let passed = waited(&rt);
+    let is_tick = passed >= Duration::from_millis(90) && passed < Duration::from_millis(900);
+    check(&rt, "a wait is a tick", is_tick);
 }
 
 /// What a connection from a local address is answered: std has none.

@@ -4,8 +4,7 @@ use crate::heard::{Heard, heard_reply};
 use crate::parts::{ANSWER, ASKED, check, draws_of, request_of, server};
 use crate::watching::{Coming, Watching};
 use dns_handle::{DnsRequest, DnsResponse, NetError};
-use dns_name::Name;
-use dns_record::{DNSClass, Query, RecordType};
+use dns_record::{DNSClass, Name, Query, RecordType};
 use dns_udp::{UdpClientStream, UdpClientStreamBuilder};
 use std::alloc::Global;
 use std::process::Abort;
@@ -48,7 +47,11 @@ struct Call {
     asked: &'static [u8],
     /// Whether letters count, where `a.` is asked for in other letters.
     case: Option<bool>,
+    /// The question in its own letters isn't kept.
+    is_bare: bool,
     coming: &'static [Coming],
+    /// In so many waits on each socket nothing comes first.
+    quiet: u32,
     is_short: bool,
     /// In milliseconds.
     timeout: u64,
@@ -64,7 +67,9 @@ const PLAIN: Call = Call {
     message: "nothing comes",
     asked: ASKED,
     case: None,
+    is_bare: false,
     coming: &[],
+    quiet: 0,
     is_short: false,
     timeout: 5000,
     tries: None,
@@ -93,6 +98,23 @@ const CALLS: &[Call] = &[
         coming: &[Coming(ANSWER, 19, 0), Coming(ANSWER, 19, 1)],
         heard: Heard::Id(1),
         sockets: 2,
+        ..PLAIN
+    },
+    Call {
+        message: "an answer is given on the first socket once the third is open",
+        coming: &[Coming(ANSWER, 19, 1)],
+        quiet: 10,
+        heard: Heard::Id(1),
+        ..PLAIN
+    },
+    Call {
+        message: "other letters end a call where no question is kept",
+        asked: UPPER,
+        case: Some(true),
+        is_bare: true,
+        coming: &[Coming(ANSWER, 19, 1)],
+        heard: Heard::CaseMismatch,
+        sockets: 1,
         ..PLAIN
     },
     Call {
@@ -239,12 +261,12 @@ fn calls() -> &'static [Call] {
 /// The request of a call. Where letters count or don't, it asks in place of a question for `a.`.
 fn request_for(rt: &impl Abort, alloc: Global, call: &Call) -> DnsRequest {
     let original = match call.case {
-        Some(_) => Some(Query {
+        Some(_) if !call.is_bare => Some(Query {
             name: Name::from_ascii(alloc, "a.").expect(rt, "a name"),
             query_type: RecordType::A,
             query_class: DNSClass::IN,
         }),
-        None => None,
+        _ => None,
     };
     let mut request = request_of(rt, alloc, call.asked, original);
     request.options.case_randomization = call.case == Some(true);
@@ -296,7 +318,7 @@ fn heard_over(
 /// Whether a call comes to what it is to come to, and its request is sent alike on as many sockets as it is to.
 fn holds(rt: &impl Abort, alloc: Global, call: &Call) -> bool {
     let request = request_for(rt, alloc, call);
-    let mut dial = Watching::new(call.asked, call.coming, call.is_short, 0);
+    let mut dial = Watching::new(call.asked, call.coming, call.is_short, 0).after(call.quiet);
     let heard = heard_over(rt, alloc, &mut dial, &request, call);
     drop(request);
     heard == call.heard && dial.alike == call.sockets && dial.others == 0

@@ -4,8 +4,8 @@ use crate::parts::{check, server};
 use dns_handle::NetError;
 use dns_link::{Datagrams, ListDatagrams};
 use dns_multiplexer::{BufDnsStreamHandle, SerialMessage};
-use dns_name::Octets;
-use dns_sockets::UdpStream;
+use dns_record::Octets;
+use dns_udp::UdpStream;
 use std::alloc::Global;
 use std::process::Abort;
 

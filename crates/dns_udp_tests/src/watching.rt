@@ -1,5 +1,4 @@
-//! A dialer in memory that keeps where sockets were bound and what was sent on each, of which no contract speaks, since a dialer
-//! of the outside doesn't tell it.
+//! A dialer in memory that keeps where sockets were bound and what was sent on each, for tests to look at.
 ghost use Rattle.std.specs.Prelude.{◌≡◌, ◌≤◌, None, IfOk, IfSome, length};
 ghost use Rattle.dns_link.specs.Moved.{DatagramValue, IsNew};
 
@@ -46,6 +45,8 @@ pub(crate) struct Coming(pub(crate) &'static [u8], pub(crate) usize, pub(crate) 
 pub(crate) struct Watched {
     asked: &'static [u8],
     coming: Coming,
+    /// In so many waits nothing comes first.
+    quiet: u32,
     /// A send takes a byte less.
     is_short: bool,
     /// Just what is to be sent was sent so often, and something else so often.
@@ -60,6 +61,10 @@ impl Watched {
         ensures bound { IfSome result (λ d. d.0 ≤ length buf.new) }
         ensures counts { self.new.counts ≡ self.old.counts }
     {
+        if self.quiet > 0 {
+            self.quiet -= 1;
+            return None;
+        }
         if self.coming.2 == 0 {
             return None;
         }
@@ -104,6 +109,8 @@ pub(crate) struct Watching {
     asked: &'static [u8],
     /// What comes to the sockets, one after another; nothing to any more.
     coming: &'static [Coming],
+    /// In so many waits on each of them nothing comes first.
+    quiet: u32,
     /// Sends take a byte less.
     is_short: bool,
     /// So many binds are refused first.
@@ -128,6 +135,7 @@ impl Watching {
         Watching {
             asked,
             coming,
+            quiet: 0,
             is_short,
             refusals,
             binds: 0,
@@ -136,6 +144,12 @@ impl Watching {
             others: 0,
             counts: Counts::new(),
         }
+    }
+
+    /// The same dialer, where nothing comes in so many first waits on each socket.
+    pub(crate) fn after(mut self, quiet: u32) -> Watching {
+        self.quiet = quiet;
+        self
     }
 
     /// What comes to the next socket.
@@ -164,6 +178,7 @@ impl Watching {
         Ok(Watched {
             asked: self.asked,
             coming,
+            quiet: self.quiet,
             is_short: self.is_short,
             alike: 0,
             others: 0,

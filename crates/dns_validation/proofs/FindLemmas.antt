@@ -38,7 +38,7 @@ module _ (t : Terms) (cached : List EntryValue) (k : SeekingValue) (outer : List
   stand_serving : (o : Option EntryValue) → Open t cached outer below n before
       → OnTop t cached (Sought t cached closed k) k.so_far
       (asks_of_sets k.so_far.entries) outer below closed n m first after
-      → all ≡ before ++ first ∷ after → AreMade closed made → serving t.judge k.placed given ≡ o
+      → all ≡ before ++ first ∷ after → AreMade closed made → serving t.judge k.so_far.query k.placed given ≡ o
       → Fits t cached k made o
       → Stands t cached (found_by_entry t k o (at_rest closed outer m made store)) all
   stand_serving None beneath h is each by fits =
@@ -64,7 +64,7 @@ module _ (t : Terms) (cached : List EntryValue) (k : SeekingValue) (outer : List
       (served_asks k.so_far.entries entry refl)
       (λ x. served_next t cached closed k c entry x
       (at_served (context_at t cached closed k.so_far) k.placed made e each
-      (serves t.judge k.placed given e by) fits.0 fits.1)
+      (serves t.judge k.so_far.query k.placed given e by) fits.0 fits.1)
       (origin_served made e)))
       is each
 
@@ -74,7 +74,7 @@ module _ (t : Terms) (cached : List EntryValue) where
       (sends : List Sent) (made : List MadeValue) (store : List EntryValue) (ended : Option Reply) (k : SeekingValue)
       (given : Option (EntryValue × Acceptance))
       → Stand t cached pending seeking steps closed n sends made ended → seeking ≡ Some k
-      → Fits t cached k made (serving t.judge k.placed given)
+      → Fits t cached k made (serving t.judge k.so_far.query k.placed given)
       → Stands t cached (found t given (record {
         closed = closed;
         steps = steps;
@@ -91,8 +91,8 @@ module _ (t : Terms) (cached : List EntryValue) where
       (Seeks x outer below closed n m before after all first made beneath h all_is each) is fits =
       let same : k ≡ x = cc in
       stand_serving t cached x outer below closed n m before after all first made store given
-      (serving t.judge x.placed given) beneath h all_is each refl
-      (subst (λ y. Fits t cached y made (serving t.judge y.placed given)) same fits)
+      (serving t.judge x.so_far.query x.placed given) beneath h all_is each refl
+      (subst (λ y. Fits t cached y made (serving t.judge y.so_far.query y.placed given)) same fits)
   stand_sought _ _ _ _ _ _ _ store _ k given (Moves f outer closed n sends made beneath each) is fits = cc
   stand_sought _ _ _ _ _ _ _ store _ k given (Done closed n sends made reply comes) is fits = cc
 

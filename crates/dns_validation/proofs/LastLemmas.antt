@@ -23,8 +23,8 @@ use Rattle.dns_rules.specs.Serving.{has_place, judged_as, links_of, proves_set}
 use Rattle.dns_rules.proofs.StayLemmas.{later_step_context}
 use Rattle.dns_cache.specs.Expiry.{expires_at}
 use Rattle.dns_handle.specs.Errors.{Reply}
-use Rattle.dns_proof.specs.Kinds.{because}
-use Rattle.dns_proof.specs.Proofs.{ttl_by, proved_whole, excused}
+use Rattle.dns_cache.specs.Kinds.{because}
+use Rattle.dns_cache.specs.Proofs.{ttl_by, proved_whole, excused}
 use Rattle.dns_flow.specs.Causes.{found_of, is_net}
 use Rattle.dns_flow.specs.CauseRows.{ask_failed}
 use Rattle.dns_flow.specs.Leads.{entry_of}
@@ -66,7 +66,7 @@ kept_found now judged cause = kept_by (option_map (ttl_by now judged.set) (decid
 -- ---- one set
 
 -- a set of which something was found leaves an entry, and no other does
-data OneLeft (t : Terms) (q : Question) (trail : List AskedValue) (p : PlacedSet) (e : JudgedSetValue)
+pub data OneLeft (t : Terms) (q : Question) (trail : List AskedValue) (p : PlacedSet) (e : JudgedSetValue)
     (left : Option EntryValue) : Type 0 where
   Leaves : (entry : EntryValue) → is_found trail e ≡ true → left ≡ Some entry → IsOfSet t q p e entry
       → OneLeft t q trail p e left
@@ -125,7 +125,7 @@ left_if : (t : Terms) (q : Question) (trail : List AskedValue) (p : PlacedSet) (
 left_if t q trail p e entry kept true is same of = Leaves entry is (ap (λ b. if b then Some entry else None) same) of
 left_if t q trail p e entry kept false is same of = LeavesNone is (ap (λ b. if b then Some entry else None) same)
 
-one_left : (t : Terms) (q : Question) (g : StepContext) (told : Told) (p : PlacedSet) (e : JudgedSetValue)
+pub one_left : (t : Terms) (q : Question) (g : StepContext) (told : Told) (p : PlacedSet) (e : JudgedSetValue)
     (c : ChainedSet)
     (cause : Option ProofErrorKindValue) → c.judged ≡ with_entry (p, e) → stands t.judge c ≡ true
     → HasCause g told p e cause

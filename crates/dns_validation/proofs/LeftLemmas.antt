@@ -227,7 +227,7 @@ entry_keeps t k (Some e) s = next_keeps t _ _ s
 found_keeps : (t : Terms) (given : Option (EntryValue × Acceptance)) (o : Option SeekingValue) (s : StateValue)
     → (found_in t given o s).kept ≡ s.kept
 found_keeps t given None s = refl
-found_keeps t given (Some k) s = entry_keeps t k (serving t.judge k.placed given) (record s { seeking = None })
+found_keeps t given (Some k) s = entry_keeps t k (serving t.judge k.so_far.query k.placed given) (record s { seeking = None })
 
 -- ---- a run
 

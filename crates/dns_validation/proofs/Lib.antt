@@ -20,3 +20,6 @@ pub mod MadePlaceLemmas
 pub mod Work
 pub mod Settling
 pub mod Innermost
+pub mod AcceptedLemmas
+pub mod ReachedLemmas
+pub mod LeftSets

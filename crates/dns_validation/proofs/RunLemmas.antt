@@ -80,7 +80,7 @@ run_more t cached more _ _ (Heard sends all s u ask reply run waits kept grown i
     Heard sends all s u ask reply (run_more t cached more sends s run) waits kept grown is
 run_more t cached more _ _ (Sought sends s u k given run waits among is) =
     Sought sends s u k given (run_more t cached more sends s run) waits
-    (some_more t cached more k s.made (serving t.judge k.placed given) among) is
+    (some_more t cached more k s.made (serving t.judge k.so_far.query k.placed given) among) is
 run_more t cached more _ _ (Given sends s u run is) = Given sends s u (run_more t cached more sends s run) is
 
 -- ---- a run comes to its end

@@ -1,10 +1,11 @@
 -- A set that is served: its entry holds, and it stands.
 use Rattle.std.proofs.Common.{◌≡◌, ◌==◌, ◌&&◌, Bool, true, false, not, List, [], Option, None, Some, if◌then◌else◌, refl, sym, subst, inl, inr}
-use Rattle.std.proofs.lemmas.Bool.{and_from}
+use Rattle.std.proofs.lemmas.Bool.{and_from, and_parts}
 use Rattle.dns_model.specs.declared.trail.MarkOrigin.{MarkOrigin}
 use Rattle.dns_model.specs.declared.trail.MarkOrigin.TheVariants.{Cache}
 use Rattle.dns_model.specs.Chains.{Judge, LinkValue}
 use Rattle.dns_model.specs.Names.{name_eq}
+use Rattle.dns_model.specs.Records.{Question}
 use Rattle.dns_model.specs.SoundAnswers.{PlacedSet, is_secure, section_eq}
 use Rattle.dns_model.proofs.SetLemmas.{name_refl, number_refl, section_refl}
 use Rattle.dns_rules.specs.CacheEntries.{EntryValue, mark_of, sig_of}
@@ -34,19 +35,38 @@ given_holds Kept j placed e h = h
 given_holds Unknown j placed e h = h
 given_holds Other j placed e h = not_secure (is_secure (mark_of e.found)) _ h
 
-serves_by : (j : Judge) (placed : PlacedSet) (given : EntryValue × Acceptance) (b : Bool) (e : EntryValue)
-    → holds_given given.1 j placed given.0 ≡ b
-    → (if b then Some given.0 else None) ≡ Some e → still_holds j placed e ≡ true
-serves_by j placed given true e test is =
-    let same : given.0 ≡ e =
-    cc in subst (λ x. still_holds j placed x ≡ true) same (given_holds given.1 j placed given.0 test)
-serves_by j placed given false e test is = cc
+serves_by : (j : Judge) (q : Question) (placed : PlacedSet) (given : EntryValue × Acceptance) (b : Bool) (e : EntryValue)
+    → (key_eq (key_of q placed.set) given.0.key && holds_given given.1 j placed given.0) ≡ b
+    → (if b then Some given.0 else None) ≡ Some e → may_serve j q placed e ≡ true
+serves_by j q placed given true e test is =
+    let same : given.0 ≡ e = cc in
+    let parts = and_parts (key_eq (key_of q placed.set) given.0.key) (holds_given given.1 j placed given.0) test in
+    subst (λ x. may_serve j q placed x ≡ true) same
+    (and_from (key_eq (key_of q placed.set) given.0.key) (still_holds j placed given.0) parts.0
+    (given_holds given.1 j placed given.0 parts.1))
+serves_by j q placed given false e test is = cc
 
-pub serves : (j : Judge) (placed : PlacedSet) (given : Option (EntryValue × Acceptance)) (e : EntryValue)
-    → serving j placed given ≡ Some e
+-- it was kept of the same set, and holds of it
+pub may_serve_it : (j : Judge) (q : Question) (placed : PlacedSet) (given : Option (EntryValue × Acceptance))
+    (e : EntryValue)
+    → serving j q placed given ≡ Some e
+    → may_serve j q placed e ≡ true
+may_serve_it j q placed None e is = cc
+may_serve_it j q placed (Some given) e is =
+    serves_by j q placed given (key_eq (key_of q placed.set) given.0.key && holds_given given.1 j placed given.0) e refl is
+
+pub serves : (j : Judge) (q : Question) (placed : PlacedSet) (given : Option (EntryValue × Acceptance)) (e : EntryValue)
+    → serving j q placed given ≡ Some e
     → still_holds j placed e ≡ true
-serves j placed None e is = cc
-serves j placed (Some given) e is = serves_by j placed given (holds_given given.1 j placed given.0) e refl is
+serves j q placed given e is =
+    (and_parts (key_eq (key_of q placed.set) e.key) (still_holds j placed e) (may_serve_it j q placed given e is)).1
+
+pub serves_key : (j : Judge) (q : Question) (placed : PlacedSet) (given : Option (EntryValue × Acceptance))
+    (e : EntryValue)
+    → serving j q placed given ≡ Some e
+    → key_eq (key_of q placed.set) e.key ≡ true
+serves_key j q placed given e is =
+    (and_parts (key_eq (key_of q placed.set) e.key) (still_holds j placed e) (may_serve_it j q placed given e is)).0
 
 -- ---- its entry
 

@@ -182,10 +182,11 @@ abbrev pub holds_given : Acceptance → Judge → PlacedSet → EntryValue → B
 holds_given Other j placed e = not (is_secure (mark_of e.found))
 holds_given _ j placed e = still_holds j placed e
 
--- the entry that serves
-abbrev pub serving : Judge → PlacedSet → Option (EntryValue × Acceptance) → Option EntryValue
-serving j placed None = None
-serving j placed (Some given) = if holds_given given.1 j placed given.0 then Some given.0 else None
+-- the entry that serves a set in the answer to a question: it was kept of the same set in such an answer, and holds of it
+abbrev pub serving : Judge → Question → PlacedSet → Option (EntryValue × Acceptance) → Option EntryValue
+serving j q placed None = None
+serving j q placed (Some given) =
+    if key_eq (key_of q placed.set) given.0.key && holds_given given.1 j placed given.0 then Some given.0 else None
 
 -- the step that gave out its key to be kept, where it found the same; else it was kept before
 abbrev pub origin_by : MadeValue → EntryValue → MarkOrigin
@@ -216,7 +217,7 @@ found_by_entry t seeking (Some e) state =
 abbrev pub found_in : Terms → Option (EntryValue × Acceptance) → Option SeekingValue → StateValue → StateValue
 found_in t given None state = state
 found_in t given (Some seeking) state =
-    found_by_entry t seeking (serving t.judge seeking.placed given) (record state { seeking = None })
+    found_by_entry t seeking (serving t.judge seeking.so_far.query seeking.placed given) (record state { seeking = None })
 
 -- what was kept of the set that waits for it, if anything was
 abbrev pub found : Terms → Option (EntryValue × Acceptance) → StateValue → StateValue

@@ -52,7 +52,7 @@ moves s = is_none s.pending && (is_none s.seeking && not (none_open s.steps))
 -- what was kept and serves the set that waits is among these entries, unless this validation gave it out
 abbrev pub IsAmong : Terms → List EntryValue → StateValue → SeekingValue → Option (EntryValue × Acceptance) → Type 0
 IsAmong t cached s seeking given =
-    IfSome (serving t.judge seeking.placed given) (λ e.
+    IfSome (serving t.judge seeking.so_far.query seeking.placed given) (λ e.
     (key_eq (key_of seeking.so_far.query seeking.placed.set) e.key ≡ true) × (origin_of s.made e ≡ Cache → IsIn e cached))
 
 -- from its begin on, by turns, replies, and entries that were kept, those among these that were kept before it; a reply is never want of memory

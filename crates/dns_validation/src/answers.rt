@@ -14,12 +14,10 @@ use crate::receiving::ReceivedMessage;
 use crate::steps::{StepEnd, ended};
 use dns_evidence::{Asked, ChainedSet, Ending, JudgedSet, Reply, Told, Trail};
 use dns_handle::{DnsError, DnsResponse, NetError};
-use dns_message::Message;
+use dns_marking::finished;
 use dns_model::{AskRef, Denial, Proof};
-use dns_name::NoMemory;
 use dns_outcome::Outcome;
-use dns_record::{Query, Record, clone_records};
-use dns_sets::finished;
+use dns_record::{NoMemory, Query, Record, clone_records};
 use std::alloc::Global;
 
 /// The reply to the first ask, whose sets are judged, with the steps and the asks that this took.
@@ -74,14 +72,8 @@ fn denied_answer(
     ensures { IfOk result (λ a. reply_of a
         ≡ denied_by now reply.query (found_by reply (outcome_value (Outcome.Denied proof))) proof) }
 {
-    let Ok(query) = reply.query.try_clone() else {
-        drop(reply);
-        return Err(NoMemory);
-    };
-    let Ok(response) = response_of(alloc, now, reply, Ending::Denied(proof), Denial::None) else {
-        drop(query);
-        return Err(NoMemory);
-    };
+    let query = reply.query.try_clone()?;
+    let response = response_of(alloc, now, reply, Ending::Denied(proof), Denial::None)?;
     let denied = denied(alloc, query, response, proof)?;
     Ok(Err(denied))
 }
@@ -97,10 +89,7 @@ fn response_of(
     ensures { IfOk result (λ r. r ≡ finished_value now reply.sets.items reply.received.message denial
         (steps_with_top reply.query (found_by reply (outcome_value Outcome.NeedsZone)) (ending_value ending))) }
 {
-    let Ok(told) = told_of(&reply.received.message, reply.received.empty) else {
-        drop(reply);
-        return Err(NoMemory);
-    };
+    let told = told_of(&reply.received)?;
     let JudgedReply {
         query,
         received,
@@ -114,12 +103,8 @@ fn response_of(
         ending,
     };
     let top = ended(query, 0, end, entries, excuse);
-    let Ok(trail) = trail_of(steps, top) else {
-        drop(received);
-        drop(sets);
-        return Err(NoMemory);
-    };
-    finished(alloc, now, sets, received.message, denial, trail)
+    let trail = trail_of(steps, top)?;
+    finished(alloc, now, sets, received.into_message(), denial, trail)
 }
 
 // The error that an answer is denied, with the answer inside.
@@ -162,12 +147,13 @@ fn trail_of(steps: Vec<Asked>, top: Asked) -> Result<Trail, NoMemory>
 }
 
 // What a message tells, in memory of its own, since the answer holds the message.
-fn told_of(message: &Message, empty: bool) -> Result<Told, NoMemory>
-    ensures { IfOk result (λ t. t ≡ (told_by message.now, empty)) }
+fn told_of(received: &ReceivedMessage) -> Result<Told, NoMemory>
+    ensures { IfOk result (λ t. t ≡ (told_by received.now.message, received.now.empty)) }
 {
+    let message = &received.message;
     Ok(Told {
         code: message.response_code,
-        empty,
+        empty: received.empty,
         answers: clone_records(&message.answers)?,
         authorities: clone_records(&message.authorities)?,
         additionals: clone_records(&message.additionals)?,

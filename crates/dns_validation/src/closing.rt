@@ -13,13 +13,13 @@ use crate::answers::{JudgedReply, answer_of};
 use crate::context::Context;
 use crate::keeping::keep;
 use crate::open_step::StepSoFar;
-use crate::state::{State, add_step, none_open};
-use crate::steps::{StepEnd, ended, ending_of, records_of};
+use crate::state::{State, add_step, end_with, none_open};
+use crate::steps::{StepEnd, ended, ending_of};
 use dns_evidence::{ChainedSet, Verifier};
 use dns_flow::Got;
 use dns_model::AskRef;
-use dns_name::NoMemory;
 use dns_outcome::Outcome;
+use dns_record::NoMemory;
 use std::mem;
 
 /// A step ends by what its judged sets come to: the last open one makes the answer, and another answers the step beneath it.
@@ -33,11 +33,7 @@ pub(crate) fn end_step<V: Verifier>(
     ensures { OnOk result (state.new ≡ step_ended (terms_of V.answers context.now) so_far excuse.items
         (outcome_value outcome) state.old) }
 {
-    if let Err(NoMemory) = keep(context, state, &so_far) {
-        drop(so_far);
-        drop(excuse);
-        return Err(NoMemory);
-    }
+    keep(context, state, &so_far)?;
     if none_open(state) {
         end_last(context, state, so_far, excuse, outcome)
     } else {
@@ -67,7 +63,7 @@ fn end_nested<V: Verifier>(
         causes: _,
     } = so_far;
     let end = StepEnd {
-        reply: records_of(received),
+        reply: received.into_reply(),
         ending: ending_of(outcome),
     };
     let step = ended(query, depth, end, entries, excuse);
@@ -80,8 +76,7 @@ fn given(outcome: Outcome, sets: Vec<ChainedSet>) -> Option<Vec<ChainedSet>>
 {
     match outcome {
         Outcome::Given(_) => Some(sets),
-        Outcome::NeedsZone => None,
-        Outcome::Denied(_) => None,
+        Outcome::NeedsZone | Outcome::Denied(_) => None,
     }
 }
 
@@ -115,6 +110,6 @@ fn end_last<V: Verifier>(
         excuse,
     };
     let answer = answer_of(context.alloc, context.judge.moment, reply, outcome)?;
-    drop(mem::replace(&mut state.ended, Some(answer)));
+    end_with(state, answer);
     Ok(())
 }

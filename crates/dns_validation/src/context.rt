@@ -1,3 +1,5 @@
+//! What stays the same over all asks of a validation.
+
 ghost use Rattle.std.specs.Prelude.{◌≡◌};
 ghost use Rattle.dns_rules.specs.Asking.{depth_limit};
 

@@ -5,7 +5,7 @@ ghost use Rattle.dns_model.specs.SoundAnswers.{told_by};
 ghost use Rattle.dns_model.specs.Trails.{Records, Seen};
 ghost use Rattle.dns_rules.specs.Derivation.{probe_of};
 ghost use Rattle.dns_rules.specs.Outcome.{foreign_record as foreign_in};
-ghost use Rattle.dns_handle.specs.Replies.{error_of, reply_of};
+ghost use Rattle.dns_handle.specs.Replies.{reply_of};
 ghost use Rattle.dns_evidence.specs.Trail.{heard_value, ending_value};
 ghost use Rattle.dns_flow.specs.Phases.{Answer, Probe};
 ghost use Rattle.dns_trust.specs.Judge.{judge_of};
@@ -19,16 +19,14 @@ use crate::answers::foreign_error;
 use crate::context::Context;
 use crate::open_step::open_step;
 use crate::receiving::{Received, ReceivedMessage, receive};
-use crate::state::{State, add_step};
-use crate::steps::{StepEnd, by_fault, ended, foreign_of, only_seen, records_of};
+use crate::state::{State, add_step, end_with};
+use crate::steps::{StepEnd, by_fault, ended, foreign_of, only_seen};
 use dns_evidence::{Ending, Verifier};
 use dns_flow::{Ask, Got, probe_of as probe_in};
 use dns_handle::{DnsResponse, NetError};
-use dns_name::NoMemory;
 use dns_outcome::foreign_record;
-use dns_record::Query;
+use dns_record::{NoMemory, Query};
 use dns_trust::NsProbe;
-use std::mem;
 
 /// Hears the reply to the ask that waits for it. One that waits for none lets it go.
 pub(crate) fn hear<V: Verifier>(
@@ -40,16 +38,9 @@ pub(crate) fn hear<V: Verifier>(
     ensures kept { OnOk result (is_out_of_memory (reply_of reply) ≡ false) }
 {
     let received = receive(context.alloc, reply)?;
-    match take_ask(state) {
-        Ok(Some(ask)) => hear_for(context, state, ask, received),
-        Ok(None) => {
-            drop(received);
-            Ok(())
-        }
-        Err(NoMemory) => {
-            drop(received);
-            Err(NoMemory)
-        }
+    match take_ask(state)? {
+        Some(ask) => hear_for(context, state, ask, received),
+        None => Ok(()),
     }
 }
 
@@ -61,11 +52,7 @@ fn take_ask(state: &mut State) -> Result<Option<Ask>, NoMemory>
     let Some(ask) = state.pending.take() else {
         return Ok(None);
     };
-    let Ok(sends) = one_more(state.sends) else {
-        drop(ask);
-        return Err(NoMemory);
-    };
-    state.sends = sends;
+    state.sends = one_more(state.sends)?;
     Ok(Some(ask))
 }
 
@@ -73,20 +60,14 @@ fn take_ask(state: &mut State) -> Result<Option<Ask>, NoMemory>
 fn one_more(sends: usize) -> Result<usize, NoMemory>
     ensures { IfOk result (λ n. n ≡ sends + 1) }
 {
-    match sends.checked_add(1) {
-        Some(more) => Ok(more),
-        None => Err(NoMemory),
-    }
+    sends.checked_add(1).ok_or(NoMemory)
 }
 
 // One level deeper. There are at most 255.
 fn deeper(depth: u16) -> Result<u16, NoMemory>
     ensures { IfOk result (λ n. n ≡ depth + 1) }
 {
-    match depth.checked_add(1) {
-        Some(more) => Ok(more),
-        None => Err(NoMemory),
-    }
+    depth.checked_add(1).ok_or(NoMemory)
 }
 
 // Hears what was received for an ask.
@@ -103,11 +84,7 @@ fn hear_for<V: Verifier>(
     let asker = depth_of(state);
     match (asker, judged) {
         (None, true) => hear_first(context, state, query, received),
-        (None, false) => {
-            drop(query);
-            drop(received);
-            Ok(())
-        }
+        (None, false) => Ok(()),
         (Some(depth), true) => hear_below(context, state, query, depth, received),
         (Some(depth), false) => hear_plain(context, state, query, depth, received),
     }
@@ -124,11 +101,7 @@ fn hear_below<V: Verifier>(
     ensures { OnOk result (state.new ≡ heard_judged (terms_of V.answers context.now) state.old query (depth + 1)
         (as_received received)) }
 {
-    let Ok(depth) = deeper(depth) else {
-        drop(query);
-        drop(received);
-        return Err(NoMemory);
-    };
+    let depth = deeper(depth)?;
     hear_judged(context, state, query, depth, received)
 }
 
@@ -136,10 +109,8 @@ fn hear_below<V: Verifier>(
 fn depth_of(state: &State) -> Option<u16>
     ensures { result ≡ depth_below state.now.steps }
 {
-    match state.steps.last() {
-        None => None,
-        Some(step) => Some(step.so_far.depth),
-    }
+    let step = state.steps.last()?;
+    Some(step.so_far.depth)
 }
 
 // Hears the reply to the first ask.
@@ -153,8 +124,7 @@ fn hear_first<V: Verifier>(
 {
     match received {
         Received::Failed(error) => {
-            drop(query);
-            end_with(state, error);
+            end_with(state, Err(error));
             Ok(())
         }
         Received::Message(received) => hear_own(context, state, query, received),
@@ -174,18 +144,9 @@ fn hear_own<V: Verifier>(
     let Some(record) = foreign_record(&query, &received.message) else {
         return open_step(context, state, query, 0, received);
     };
-    let failed = foreign_error(record);
-    drop(query);
-    drop(received);
-    end_with(state, failed?);
+    let error = foreign_error(record)?;
+    end_with(state, Err(error));
     Ok(())
-}
-
-// The first ask ends it with an error.
-fn end_with(state: &mut State, error: NetError)
-    ensures { state.new ≡ record state.old { ended = Some (Err (error_of error)) } }
-{
-    drop(mem::replace(&mut state.ended, Some(Err(error))));
 }
 
 // Hears the reply to a judged ask of a step.
@@ -200,10 +161,7 @@ fn hear_judged<V: Verifier>(
         (as_received received)) }
 {
     match received {
-        Received::Failed(error) => {
-            drop(error);
-            end_bare(context, state, query, depth, by_fault())
-        }
+        Received::Failed(_) => end_bare(context, state, query, depth, by_fault()),
         Received::Message(received) => hear_nested(context, state, query, depth, received),
     }
 }
@@ -219,14 +177,9 @@ fn hear_nested<V: Verifier>(
     ensures { OnOk result (state.new ≡ heard_nested (terms_of V.answers context.now) state.old query depth
         received.message received.empty (foreign_in query (told_by received.message))) }
 {
-    let Ok(foreign) = foreign_of(&query, &received.message) else {
-        drop(query);
-        drop(received);
-        return Err(NoMemory);
-    };
-    match foreign {
+    match foreign_of(&query, &received.message)? {
         Some(ending) => {
-            let reply = records_of(received);
+            let reply = received.into_reply();
             end_bare(context, state, query, depth, StepEnd { reply, ending })
         }
         None => open_step(context, state, query, depth, received),
@@ -261,8 +214,7 @@ fn hear_plain<V: Verifier>(
         (as_received received)) }
 {
     match received {
-        Received::Failed(error) => {
-            drop(error);
+        Received::Failed(_) => {
             let step = only_seen(context.alloc, query, depth, by_fault());
             add_step(context, state, step, Got::Probe(NsProbe::Failed))
         }
@@ -284,7 +236,7 @@ fn see<V: Verifier>(
 {
     let probe = probe_in(&query.name, &received.message, received.empty);
     let end = StepEnd {
-        reply: records_of(received),
+        reply: received.into_reply(),
         ending: Ending::Seen,
     };
     let step = only_seen(context.alloc, query, depth, end);

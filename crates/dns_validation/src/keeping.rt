@@ -4,82 +4,80 @@ ghost use Rattle.std.specs.Prelude.{◌≡◌, ◌∷◌, None, Some, IfOk, OnOk
 ghost use Rattle.std.specs.Option.{option_map};
 ghost use Rattle.dns_model.specs.SoundAnswers.{is_secure as is_secure_mark};
 ghost use Rattle.dns_rules.specs.CacheKeys.{key_of as key_in};
-ghost use Rattle.dns_rules.specs.Serving.{links_of as links_in};
+ghost use Rattle.dns_rules.specs.Serving.{links_of as links_in, still_holds as holds_of};
 ghost use Rattle.dns_cache.specs.Caches.{HasAccepted};
 ghost use Rattle.dns_cache.specs.declared.acceptance.Acceptance.TheVariants.{Kept};
 ghost use Rattle.dns_evidence.specs.Link.{link_value};
-ghost use Rattle.dns_proof.specs.Kinds.{kind_value};
+ghost use Rattle.dns_cache.specs.Kinds.{kind_value};
 ghost use Rattle.dns_trust.specs.Judge.{judge_of};
 ghost use Rattle.dns_flow.specs.Causes.{found_of as found_in, is_net as is_net_in};
 ghost use Rattle.dns_validation.specs.Machine.{chain_of as chain_in, entry_if, entry_if_kept, first_kept, found as found_by, given_out, giving, holds_given as holds_in, is_kept as is_kept_in, keeping, leaving, made_by as made_in, origin_of as origin_in, served_entry, served_set as served_set_of, serving as serving_of, went_on, with_set};
+ghost use Rattle.dns_validation.specs.AcceptedChains.{AreAccepted};
 ghost use Rattle.dns_validation.specs.Terms.{terms_of};
 ghost use Rattle.dns_validation.specs.Validations.{AcceptedWhereKept};
 
+use crate::accepted::AcceptedChains;
 use crate::context::Context;
 use crate::made::made_by;
 use crate::open_step::{Seeking, StepSoFar, go_on_with, set_item};
 use crate::state::{State, put};
 use crate::steps::{entry_for, next_number};
-use dns_cache::{Acceptance, CacheKey, Entry};
+use dns_cache::{Acceptance, CacheKey, Entry, ProofError, ProofErrorKind, RrsetProof};
+use dns_chain_check::{mark_of, sig_of, still_holds, still_trusted};
 use dns_evidence::{Chain, ChainedSet, Link, MarkedSet, PlacedSet, Verifier, clone_links};
 use dns_flow::found_of;
 use dns_model::{MarkOrigin, Proof};
-use dns_name::NoMemory;
-use dns_proof::{ProofError, ProofErrorKind, RrsetProof};
-use dns_record::Query;
-use dns_serving::{mark_of, sig_of, still_holds, still_trusted};
+use dns_record::{NoMemory, Query};
 use std::alloc::Global;
 
 /// Takes what was kept of the set that waits, if anything was, with whose acceptance its chain has.
 pub(crate) fn find<V: Verifier>(
     context: &Context<'_, V>,
     state: &mut State,
+    accepted: &mut AcceptedChains,
     given: Option<(Entry, Acceptance)>,
 ) -> Result<(), NoMemory>
-    requires accepted { AcceptedWhereKept (terms_of V.answers context.now).judge.answers given }
-    ensures { OnOk result (state.new ≡ found_by (terms_of V.answers context.now) given state.old) }
+    requires given { AcceptedWhereKept (terms_of V.answers context.now).judge.answers given }
+    requires accepted { AreAccepted (terms_of V.answers context.now).judge.answers accepted.old.chains }
+    ensures found { OnOk result (state.new ≡ found_by (terms_of V.answers context.now) given state.old) }
+    ensures accepted { AreAccepted (terms_of V.answers context.now).judge.answers accepted.new.chains }
 {
     let Some(seeking) = state.seeking.take() else {
-        drop(given);
         return Ok(());
     };
     let Seeking { so_far, placed } = seeking;
-    match serving(context, &placed, given) {
-        Ok(Some(entry)) => serve(context, state, so_far, placed, entry),
-        Ok(None) => {
+    match serving(context, accepted, &so_far, &placed, given)? {
+        Some(entry) => serve(context, state, so_far, placed, entry),
+        None => {
             let step = set_item(context, so_far, placed)?;
             put(state, step)
-        }
-        Err(NoMemory) => {
-            drop(so_far);
-            drop(placed);
-            Err(NoMemory)
         }
     }
 }
 
-// The entry, where it serves the set.
+// The entry, where it serves the set: it was kept of the same set in an answer to the same question, and holds of it.
 fn serving<V: Verifier>(
     context: &Context<'_, V>,
+    accepted: &mut AcceptedChains,
+    so_far: &StepSoFar,
     placed: &PlacedSet,
     given: Option<(Entry, Acceptance)>,
 ) -> Result<Option<Entry>, NoMemory>
-    requires accepted { AcceptedWhereKept (terms_of V.answers context.now).judge.answers given }
-    ensures { IfOk result (λ o. o ≡ serving_of (judge_of V.answers context.now.judge) placed.now given) }
+    requires given { AcceptedWhereKept (terms_of V.answers context.now).judge.answers given }
+    requires accepted { AreAccepted (terms_of V.answers context.now).judge.answers accepted.old.chains }
+    ensures serving { IfOk result (λ o. o ≡ serving_of (judge_of V.answers context.now.judge) so_far.now.query placed.now given) }
+    ensures accepted { AreAccepted (terms_of V.answers context.now).judge.answers accepted.new.chains }
 {
     let Some((entry, acceptance)) = given else {
         return Ok(None);
     };
-    match holds_given(context, placed, &entry, acceptance) {
-        Ok(true) => Ok(Some(entry)),
-        Ok(false) => {
-            drop(entry);
-            Ok(None)
-        }
-        Err(NoMemory) => {
-            drop(entry);
-            Err(NoMemory)
-        }
+    if !entry.key.is_of(&so_far.query, &placed.set) {
+        return Ok(None);
+    }
+    if holds_given(context, accepted, placed, &entry, acceptance)? {
+        Ok(Some(entry))
+    } else {
+        Ok(None)
     }
 }
 
@@ -87,27 +85,50 @@ fn serving<V: Verifier>(
 // tested, and another verifier's acceptance counts for nothing.
 fn holds_given<V: Verifier>(
     context: &Context<'_, V>,
+    accepted: &mut AcceptedChains,
     placed: &PlacedSet,
     entry: &Entry,
     acceptance: Acceptance,
 ) -> Result<bool, NoMemory>
-    requires accepted { acceptance ≡ Kept → HasAccepted (terms_of V.answers context.now).judge.answers entry.now }
-    ensures { IfOk result (λ b. b ≡ holds_in acceptance (judge_of V.answers context.now.judge) placed.now entry.now) }
+    requires given { acceptance ≡ Kept → HasAccepted (terms_of V.answers context.now).judge.answers entry.now }
+    requires accepted { AreAccepted (terms_of V.answers context.now).judge.answers accepted.old.chains }
+    ensures holds { IfOk result (λ b. b ≡ holds_in acceptance (judge_of V.answers context.now.judge) placed.now entry.now) }
+    ensures accepted { AreAccepted (terms_of V.answers context.now).judge.answers accepted.new.chains }
 {
     match acceptance {
         Acceptance::Kept => Ok(still_trusted(&context.judge, placed, entry)),
-        Acceptance::Unknown => still_holds(context.alloc, &context.judge, placed, entry),
+        Acceptance::Unknown => holds_by_itself(context, accepted, placed, entry),
         Acceptance::Other => Ok(!is_secure(mark_of(&entry.result))),
     }
 }
 
+// Whether what was found before holds of the set, where nobody's acceptance is known of. A chain that this validation has seen accepted
+// isn't put to the verifier again.
+fn holds_by_itself<V: Verifier>(
+    context: &Context<'_, V>,
+    accepted: &mut AcceptedChains,
+    placed: &PlacedSet,
+    entry: &Entry,
+) -> Result<bool, NoMemory>
+    requires accepted { AreAccepted (terms_of V.answers context.now).judge.answers accepted.old.chains }
+    ensures holds { IfOk result (λ b. b ≡ holds_of (judge_of V.answers context.now.judge) placed.now entry.now) }
+    ensures accepted { AreAccepted (terms_of V.answers context.now).judge.answers accepted.new.chains }
+{
+    if accepted.has(entry) {
+        return Ok(still_trusted(&context.judge, placed, entry));
+    }
+    let holds = still_holds(context.alloc, &context.judge, placed, entry)?;
+    if holds {
+        accepted.add(entry);
+    }
+    Ok(holds)
+}
+
+// The mark is Secure.
 fn is_secure(mark: Proof) -> bool
     ensures { result ≡ is_secure_mark mark }
 {
-    match mark {
-        Proof::Secure => true,
-        _ => false,
-    }
+    mark == Proof::Secure
 }
 
 // The set is served.
@@ -124,11 +145,7 @@ fn serve<V: Verifier>(
 {
     let origin = state.made.origin_of(&entry);
     let set = served_set(context.alloc, placed, entry);
-    let Ok(served) = entry_for(&set.judged, origin, Vec::new(context.alloc)) else {
-        drop(so_far);
-        drop(set);
-        return Err(NoMemory);
-    };
+    let served = entry_for(&set.judged, origin, Vec::new(context.alloc))?;
     go_on_with(context, state, so_far, set, served, None)
 }
 
@@ -147,7 +164,6 @@ fn served_set(alloc: Global, placed: PlacedSet, entry: Entry) -> ChainedSet
     let chain = if is_secure(mark) {
         links_of(alloc, entry)
     } else {
-        drop(entry);
         Vec::new(alloc)
     };
     ChainedSet { judged, chain }
@@ -157,25 +173,10 @@ fn served_set(alloc: Global, placed: PlacedSet, entry: Entry) -> ChainedSet
 fn links_of(alloc: Global, entry: Entry) -> Vec<Link>
     ensures { map link_value result.items ≡ links_in entry.chain }
 {
-    let Entry {
-        key,
-        expires: _,
-        result,
-        chain,
-    } = entry;
-    drop(key);
-    drop(result);
-    match chain {
-        Some(chain) => links_in_chain(chain),
+    match entry.into_chain() {
+        Some(chain) => chain.links,
         None => Vec::new(alloc),
     }
-}
-
-fn links_in_chain(chain: Chain) -> Vec<Link>
-    ensures { map link_value result.items ≡ chain.links }
-{
-    let Chain { section: _, links } = chain;
-    links
 }
 
 /// A step ends, the next by its number, and leaves what the rules found of its sets to be kept.
@@ -255,13 +256,9 @@ fn entry_of<V: Verifier>(
 {
     let found = found_of(context.judge.moment, &set.judged, cause);
     if !is_kept(&found) {
-        drop(found);
         return Ok(None);
     }
-    let Ok((key, chain)) = key_and_chain(query, set) else {
-        drop(found);
-        return Err(NoMemory);
-    };
+    let (key, chain) = key_and_chain(query, set)?;
     let ranges = &context.ranges;
     let expires = ranges.expires(context.judge.moment, &set.judged.set, &found, &chain);
     Ok(Some(Entry::new(key, expires, found, chain)))
@@ -273,10 +270,7 @@ fn key_and_chain(query: &Query, set: &ChainedSet) -> Result<(CacheKey, Option<Ch
     ensures chain { IfOk result (λ r. r.1 ≡ chain_in set.now) }
 {
     let key = CacheKey::of(query, &set.judged.set)?;
-    let Ok(chain) = chain_of(set) else {
-        drop(key);
-        return Err(NoMemory);
-    };
+    let chain = chain_of(set)?;
     Ok((key, chain))
 }
 
@@ -294,10 +288,7 @@ fn is_kept(found: &Result<RrsetProof, ProofError>) -> bool
 fn is_net(kind: &ProofErrorKind) -> bool
     ensures { result ≡ is_net_in (kind_value kind.now) }
 {
-    match kind {
-        ProofErrorKind::Net { .. } => true,
-        _ => false,
-    }
+    matches!(kind, ProofErrorKind::Net { .. })
 }
 
 // The chain of a Secure set.
@@ -318,20 +309,9 @@ fn chain_of(set: &ChainedSet) -> Result<Option<Chain>, NoMemory>
 fn give_out(state: &mut State, number: u32, entry: Entry) -> Result<(), NoMemory>
     ensures { OnOk result (state.new ≡ giving number (Some entry) state.old) }
 {
-    if let Err(NoMemory) = add_made(state, number, &entry) {
-        drop(entry);
-        return Err(NoMemory);
-    }
-    state.kept.push_back(entry)?;
-    Ok(())
-}
-
-// An entry is known as made by the step with a number.
-fn add_made(state: &mut State, number: u32, entry: &Entry) -> Result<(), NoMemory>
-    ensures { OnOk result (state.new ≡ record state.old { made = made_in number entry.now ∷ state.old.made }) }
-{
-    let made = made_by(number, entry)?;
+    let made = made_by(number, &entry)?;
     state.made.push(made)?;
+    state.kept.push_back(entry)?;
     Ok(())
 }
 

@@ -2,11 +2,13 @@
 //! handle and does no input or output (RFC 4035, 4.3 and 5). The layer above may drive a `Validation` by its clauses.
 #![tactic(auto)]
 
+mod accepted;
 mod answers;
 mod closing;
 mod context;
 mod hearing;
 mod keeping;
+mod links;
 mod made;
 mod open_step;
 mod receiving;

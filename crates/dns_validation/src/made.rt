@@ -7,9 +7,9 @@ ghost use Rattle.dns_validation.specs.Machine.{made_by as made_of, origin_by as 
 ghost use Rattle.dns_validation.specs.MadePlaces.{SamePlaces, origin_at as origin_at_place};
 
 use dns_cache::{CacheKey, Entry};
+use dns_chain_check::{mark_of, sig_of};
 use dns_model::{MarkOrigin, Proof};
-use dns_name::NoMemory;
-use dns_serving::{mark_of, sig_of};
+use dns_record::NoMemory;
 use std::alloc::Global;
 use std::collections::BTreeMap;
 use std::marker::Model;
@@ -69,10 +69,7 @@ impl MadeList {
     pub(crate) fn push(&mut self, made: Made) -> Result<(), NoMemory>
         ensures { OnOk result (self.new ≡ made ∷ self.old) }
     {
-        let Ok(key) = made.key.try_clone() else {
-            drop(made);
-            return Err(NoMemory);
-        };
+        let key = made.key.try_clone()?;
         let place = self.all.len();
         self.all.push(made)?;
         match note_place(&mut self.places, key, place) {

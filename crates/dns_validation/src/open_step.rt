@@ -1,13 +1,13 @@
 //! A step that is open: its sets are judged one after another, and then its ending is found.
 
-ghost use Rattle.std.specs.Prelude.{◌≡◌, ◌∷◌, ◌++◌, [], IfOk, OnOk, drop};
+ghost use Rattle.std.specs.Prelude.{◌≡◌, IfOk, OnOk, drop};
 ghost use Rattle.dns_model.specs.SoundAnswers.{told_by};
 ghost use Rattle.dns_flow.specs.Phases.{after as after_of};
 ghost use Rattle.dns_flow.specs.Values.{got_value, phase_value};
 ghost use Rattle.dns_trust.specs.Judge.{judge_of};
 ghost use Rattle.dns_validation.specs.Terms.{terms_of};
 ghost use Rattle.std.specs.Option.{option_map};
-ghost use Rattle.dns_proof.specs.Kinds.{kind_value};
+ghost use Rattle.dns_cache.specs.Kinds.{kind_value};
 ghost use Rattle.dns_flow.specs.Causes.{cause_after as cause_by};
 ghost use Rattle.dns_flow.specs.Leads.{entry_of};
 ghost use Rattle.dns_validation.specs.Machine.{first_left, ending_item as ending_item_of, set_item as set_item_of, opened, went_on, with_set, answered as answered_by};
@@ -16,15 +16,13 @@ use crate::context::{Context, limits_of};
 use crate::receiving::ReceivedMessage;
 use crate::state::{State, put};
 use crate::steps::entry_for;
+use dns_cache::ProofErrorKind;
 use dns_evidence::{ChainedSet, JudgedSet, PlacedSet, Verifier};
-use dns_flow::{Got, Phase, after, cause_after, start_cause, start_ending, start_set};
-use dns_grouping::judged_part;
+use dns_flow::{Got, Phase, cause_after, start_cause, start_ending, start_set};
 use dns_model::{AskRef, MarkOrigin};
-use dns_name::NoMemory;
-use dns_proof::ProofErrorKind;
-use dns_record::Query;
+use dns_outcome::judged_part;
+use dns_record::{NoMemory, Query};
 use std::marker::Model;
-use std::mem;
 
 /// What a step came to so far.
 #[derive(Drop)]
@@ -43,7 +41,7 @@ pub(crate) struct StepSoFar {
 impl Model for StepSoFar {
     ghost use Rattle.std.specs.Prelude.{map, reverse};
     ghost use Rattle.std.specs.Option.{option_map};
-    ghost use Rattle.dns_proof.specs.Kinds.{kind_value};
+    ghost use Rattle.dns_cache.specs.Kinds.{kind_value};
     ghost use Rattle.dns_validation.specs.Machine.{SoFar};
 
     ghost Value = { SoFar };
@@ -90,7 +88,7 @@ impl Model for Seeking {
 impl Model for OpenStep {
     ghost use Rattle.std.specs.Option.{option_map};
     ghost use Rattle.dns_flow.specs.Values.{phase_value};
-    ghost use Rattle.dns_proof.specs.Kinds.{kind_value};
+    ghost use Rattle.dns_cache.specs.Kinds.{kind_value};
     ghost use Rattle.dns_validation.specs.Machine.{OpenValue};
 
     ghost Value = { OpenValue };
@@ -110,11 +108,7 @@ pub(crate) fn open_step<V: Verifier>(
         received.empty state.old) }
 {
     let alloc = context.alloc;
-    let Ok(mut left) = judged_part(alloc, depth, &received.message) else {
-        drop(query);
-        drop(received);
-        return Err(NoMemory);
-    };
+    let mut left = judged_part(alloc, depth, &received.message)?;
     left.reverse();
     let so_far = StepSoFar {
         query,
@@ -140,8 +134,7 @@ pub(crate) fn go_on<V: Verifier>(
     let mut so_far = so_far;
     match next_set(&mut so_far) {
         Some(placed) => {
-            let seeking = Seeking { so_far, placed };
-            drop(mem::replace(&mut state.seeking, Some(seeking)));
+            state.seeking = Some(Seeking { so_far, placed });
             Ok(())
         }
         None => {
@@ -166,16 +159,13 @@ fn ending_item<V: Verifier>(
 ) -> Result<OpenStep, NoMemory>
     ensures { IfOk result (λ s. s ≡ ending_item_of (terms_of V.answers context.now) so_far.value) }
 {
-    let Ok(phase) = start_ending(
+    let phase = start_ending(
         context.alloc,
         &limits_of(context),
         &so_far.query,
         &so_far.received.message,
         &so_far.sets,
-    ) else {
-        drop(so_far);
-        return Err(NoMemory);
-    };
+    )?;
     Ok(OpenStep {
         so_far,
         asked: Vec::new(context.alloc),
@@ -192,22 +182,14 @@ pub(crate) fn set_item<V: Verifier>(
 ) -> Result<OpenStep, NoMemory>
     ensures { IfOk result (λ s. s ≡ set_item_of (terms_of V.answers context.now) so_far.value placed) }
 {
-    let Ok(cause) = start_cause(&placed.set) else {
-        drop(so_far);
-        drop(placed);
-        return Err(NoMemory);
-    };
-    let Ok(phase) = start_set(
+    let cause = start_cause(&placed.set)?;
+    let phase = start_set(
         context.alloc,
         &context.judge,
         &so_far.query,
         &so_far.received.message,
         placed,
-    ) else {
-        drop(so_far);
-        drop(cause);
-        return Err(NoMemory);
-    };
+    )?;
     Ok(OpenStep {
         so_far,
         asked: Vec::new(context.alloc),
@@ -228,12 +210,7 @@ pub(crate) fn set_ended<V: Verifier>(
     ensures { OnOk result (state.new ≡ went_on (terms_of V.answers context.now)
         (with_set so_far.value set (entry_of set.judged asked.items) (option_map kind_value cause)) state.old) }
 {
-    let Ok(entry) = entry_for(&set.judged, MarkOrigin::Table, asked) else {
-        drop(so_far);
-        drop(cause);
-        drop(set);
-        return Err(NoMemory);
-    };
+    let entry = entry_for(&set.judged, MarkOrigin::Table, asked)?;
     go_on_with(context, state, so_far, set, entry, cause)
 }
 
@@ -250,10 +227,7 @@ pub(crate) fn go_on_with<V: Verifier>(
         (with_set so_far.value set entry (option_map kind_value cause)) state.old) }
 {
     let mut so_far = so_far;
-    if let Err(NoMemory) = add_set(&mut so_far, set, entry, cause) {
-        drop(so_far);
-        return Err(NoMemory);
-    }
+    add_set(&mut so_far, set, entry, cause)?;
     go_on(context, state, so_far)
 }
 
@@ -266,23 +240,9 @@ fn add_set(
 ) -> Result<(), NoMemory>
     ensures { OnOk result (so_far.new ≡ with_set so_far.old set entry (option_map kind_value cause)) }
 {
-    if let Err(NoMemory) = add_last(&mut so_far.sets, set) {
-        drop(entry);
-        drop(cause);
-        return Err(NoMemory);
-    }
-    if let Err(NoMemory) = add_last(&mut so_far.entries, entry) {
-        drop(cause);
-        return Err(NoMemory);
-    }
-    add_last(&mut so_far.causes, cause)
-}
-
-/// One more at the end of a list.
-pub(crate) fn add_last<T: Drop>(list: &mut Vec<T>, last: T) -> Result<(), NoMemory>
-    ensures { OnOk result (list.new.items ≡ list.old.items ++ last ∷ []) }
-{
-    list.push(last)?;
+    so_far.sets.push(set)?;
+    so_far.entries.push(entry)?;
+    so_far.causes.push(cause)?;
     Ok(())
 }
 
@@ -296,22 +256,14 @@ pub(crate) fn answered<V: Verifier>(
     ensures { IfOk result (λ s. s ≡ answered_by (judge_of V.answers context.now.judge) ask (got_value got) step) }
 {
     let mut step = step;
-    if let Err(NoMemory) = add_last(&mut step.asked, ask) {
-        drop(step);
-        drop(got);
-        return Err(NoMemory);
-    }
+    step.asked.push(ask)?;
     let OpenStep {
         so_far,
         asked,
         phase,
         cause,
     } = step;
-    let Ok((phase, cause)) = after_ask(context, &so_far, phase, cause, got) else {
-        drop(so_far);
-        drop(asked);
-        return Err(NoMemory);
-    };
+    let (phase, cause) = after_ask(context, &so_far, phase, cause, got)?;
     Ok(OpenStep {
         so_far,
         asked,
@@ -333,15 +285,8 @@ fn after_ask<V: Verifier>(
     ensures phase { IfOk result (λ p. phase_value p.0 ≡ after_of (judge_of V.answers context.now.judge)
         so_far.now.query (told_by so_far.now.message) (phase_value phase) (got_value got)) }
 {
-    let Ok(cause) = next_cause(context, &phase, &got, cause) else {
-        drop(phase);
-        drop(got);
-        return Err(NoMemory);
-    };
-    let Ok(phase) = after_answer(context, so_far, phase, got) else {
-        drop(cause);
-        return Err(NoMemory);
-    };
+    let cause = next_cause(context, &phase, &got, cause)?;
+    let phase = after_answer(context, so_far, phase, got)?;
     Ok((phase, cause))
 }
 
@@ -355,13 +300,11 @@ fn next_cause<V: Verifier>(
     ensures { IfOk result (λ o. option_map kind_value o ≡ option_map (cause_by (judge_of V.answers context.now.judge)
         (phase_value phase.now) (got_value got.now)) (option_map kind_value cause)) }
 {
-    match cause {
-        Some(cause) => {
-            let next = cause_after(context.alloc, &context.judge, phase, got, cause)?;
-            Ok(Some(next))
-        }
-        None => Ok(None),
-    }
+    let Some(cause) = cause else {
+        return Ok(None);
+    };
+    let next = cause_after(context.alloc, &context.judge, phase, got, cause)?;
+    Ok(Some(next))
 }
 
 // The phase to which an answer leads.
@@ -374,12 +317,11 @@ fn after_answer<V: Verifier>(
     ensures { IfOk result (λ p. phase_value p ≡ after_of (judge_of V.answers context.now.judge)
         so_far.now.query (told_by so_far.now.message) (phase_value phase) (got_value got)) }
 {
-    after(
+    phase.after(
         context.alloc,
         &context.judge,
         &so_far.query,
         &so_far.received.message,
-        phase,
         got,
     )
 }

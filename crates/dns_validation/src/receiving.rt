@@ -3,24 +3,60 @@
 ghost use Rattle.std.specs.Prelude.{◌≡◌, false, Err, IfOk};
 ghost use Rattle.std.specs.List.{list_any};
 ghost use Rattle.dns_model.specs.Sections.{same_record};
+ghost use Rattle.dns_model.specs.SoundAnswers.{told_by};
+ghost use Rattle.dns_model.specs.Trails.{Records};
+ghost use Rattle.dns_evidence.specs.Trail.{heard_value};
 ghost use Rattle.dns_rules.specs.Marking.{cleared_message};
 ghost use Rattle.dns_handle.specs.Replies.{reply_of};
 ghost use Rattle.dns_validation.specs.Received.{no_records_message, with_soa as with_soa_of, received_value, is_out_of_memory};
 ghost use Rattle.dns_validation.specs.ReceivedParts.{as_received};
 
-use dns_grouping::clear_marks;
+use dns_evidence::{Reply, Told};
 use dns_handle::{DnsError, DnsResponse, NetError, NoRecords};
 use dns_message::Message;
-use dns_name::NoMemory;
-use dns_record::{OpCode, Record};
+use dns_outcome::clear_marks;
+use dns_record::{NoMemory, OpCode, Record};
 use std::alloc::Global;
 
 /// The message of a reply, without the marks that came with it.
-#[derive(Drop)]
 pub(crate) struct ReceivedMessage {
     pub(crate) message: Message,
     /// The reply said that there are no records.
     pub(crate) empty: bool,
+}
+
+// By hand, so that a function that lets one go calls this.
+impl Drop for ReceivedMessage {
+    fn drop(self) {
+        let ReceivedMessage {
+            message: _,
+            empty: _,
+        } = self;
+    }
+}
+
+impl ReceivedMessage {
+    /// The message alone.
+    pub(crate) fn into_message(self) -> Message
+        ensures { result ≡ self.message }
+    {
+        let ReceivedMessage { message, empty: _ } = self;
+        message
+    }
+
+    /// Its records, and whether the reply said that there are none, as a step keeps them.
+    pub(crate) fn into_reply(self) -> Reply
+        ensures { heard_value result ≡ Records (told_by self.message) self.empty }
+    {
+        let ReceivedMessage { message, empty } = self;
+        Reply::Told(Told {
+            code: message.response_code,
+            empty,
+            answers: message.answers,
+            authorities: message.authorities,
+            additionals: message.additionals,
+        })
+    }
 }
 
 /// What a reply is taken as.
@@ -103,10 +139,7 @@ fn message_without_records(alloc: Global, missing: NoRecords) -> Result<Message,
         response_code,
         authorities,
     } = missing;
-    let Ok(authorities) = with_soa(authorities, soa) else {
-        drop(query);
-        return Err(NoMemory);
-    };
+    let authorities = with_soa(authorities, soa)?;
     let queries = vec![in alloc; query]?;
     Ok(Message {
         id: 0,
@@ -134,9 +167,7 @@ fn with_soa(authorities: Vec<Record>, soa: Option<Record>) -> Result<Vec<Record>
     let Some(soa) = soa else {
         return Ok(authorities);
     };
-    let known = has_record(&authorities, &soa);
-    if known {
-        drop(soa);
+    if has_record(&authorities, &soa) {
         return Ok(authorities);
     }
     let mut authorities = authorities;
@@ -144,6 +175,7 @@ fn with_soa(authorities: Vec<Record>, soa: Option<Record>) -> Result<Vec<Record>
     Ok(authorities)
 }
 
+// The record is among these, whatever its ttl and mark.
 fn has_record(records: &[Record], one: &Record) -> bool
     ensures { result ≡ list_any (same_record one.now) records.now }
 {

@@ -6,8 +6,7 @@ ghost use Rattle.dns_validation.specs.Requests.{asking_options, asking_request, 
 
 use dns_handle::{DnsRequest, DnsRequestOptions};
 use dns_message::Edns;
-use dns_name::{NoMemory, Octets};
-use dns_record::Query;
+use dns_record::{NoMemory, Octets, Query};
 use std::alloc::Global;
 
 /// The request of an ask whose reply is judged (RFC 4035, 4.1; RFC 6840, 5.7) or only seen. The only error is want of memory.

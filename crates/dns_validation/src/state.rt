@@ -4,6 +4,7 @@ ghost use Rattle.std.specs.Prelude.{◌≡◌, ◌∷◌, false, Some, OnOk, rev
 ghost use Rattle.dns_flow.specs.Phases.{turn as turn_of};
 ghost use Rattle.dns_flow.specs.Values.{got_value};
 ghost use Rattle.dns_rules.specs.Asking.{depth_limit};
+ghost use Rattle.dns_handle.specs.Replies.{reply_of};
 ghost use Rattle.dns_trust.specs.Judge.{judge_of};
 ghost use Rattle.dns_validation.specs.Terms.{terms_of};
 ghost use Rattle.dns_validation.specs.Machine.{none_open as none_open_in, give as given, with_step, nothing_got, on_top, refusal as refusal_of, asked_by, turned as turned_by, tick};
@@ -12,18 +13,17 @@ ghost use Rattle.dns_validation.specs.Runs.{moves as moves_on, Turns};
 use crate::closing::end_step;
 use crate::context::{Context, limit_of};
 use crate::made::MadeList;
-use crate::open_step::{OpenStep, Seeking, add_last, answered, set_ended};
+use crate::open_step::{OpenStep, Seeking, answered, set_ended};
 use crate::steps::next_number;
 use dns_cache::Entry;
 use dns_evidence::{Asked, MOST_SENDS, Verifier};
-use dns_flow::{Ask, Got, Need, turn};
+use dns_flow::{Ask, Got, Need};
 use dns_handle::{DnsResponse, NetError};
 use dns_model::AskRef;
-use dns_name::NoMemory;
+use dns_record::NoMemory;
 use dns_trust::NsProbe;
 use std::collections::VecDeque;
 use std::marker::Model;
-use std::mem;
 
 /// How far a validation has come.
 #[derive(Drop)]
@@ -89,15 +89,8 @@ pub(crate) fn add_step<V: Verifier>(
 ) -> Result<(), NoMemory>
     ensures { OnOk result (state.new ≡ with_step (judge_of V.answers context.now.judge) step (got_value got) state.old) }
 {
-    let Ok(number) = next_number(&state.closed) else {
-        drop(step);
-        drop(got);
-        return Err(NoMemory);
-    };
-    if let Err(NoMemory) = add_last(&mut state.closed, step) {
-        drop(got);
-        return Err(NoMemory);
-    }
+    let number = next_number(&state.closed)?;
+    state.closed.push(step)?;
     give(context, &mut state.steps, AskRef::Step(number), got)
 }
 
@@ -112,11 +105,11 @@ fn give<V: Verifier>(
         ≡ given (judge_of V.answers context.now.judge) ask (got_value got) (reverse steps.old.items)) }
 {
     let Some(step) = steps.pop() else {
-        drop(got);
         return Ok(());
     };
     let answered = answered(context, step, ask, got)?;
-    add_last(steps, answered)
+    steps.push(answered)?;
+    Ok(())
 }
 
 // Why an ask is refused, if it is.
@@ -163,9 +156,7 @@ fn make_ask<V: Verifier>(
     match refused {
         None => wait(state, step, ask),
         Some(refused) => {
-            let got = nothing(ask.judged);
-            drop(ask);
-            let answered = answered(context, step, refused, got)?;
+            let answered = answered(context, step, refused, nothing(ask.judged))?;
             put(state, answered)
         }
     }
@@ -175,11 +166,8 @@ fn make_ask<V: Verifier>(
 fn wait(state: &mut State, step: OpenStep, ask: Ask) -> Result<(), NoMemory>
     ensures { OnOk result (state.new ≡ record state.old { steps = step ∷ state.old.steps; pending = Some ask }) }
 {
-    if let Err(NoMemory) = add_last(&mut state.steps, step) {
-        drop(ask);
-        return Err(NoMemory);
-    }
-    drop(mem::replace(&mut state.pending, Some(ask)));
+    state.steps.push(step)?;
+    state.pending = Some(ask);
     Ok(())
 }
 
@@ -187,7 +175,15 @@ fn wait(state: &mut State, step: OpenStep, ask: Ask) -> Result<(), NoMemory>
 pub(crate) fn put(state: &mut State, step: OpenStep) -> Result<(), NoMemory>
     ensures { OnOk result (state.new ≡ on_top step state.old) }
 {
-    add_last(&mut state.steps, step)
+    state.steps.push(step)?;
+    Ok(())
+}
+
+/// It ends with this answer.
+pub(crate) fn end_with(state: &mut State, answer: Result<DnsResponse, NetError>)
+    ensures { state.new ≡ record state.old { ended = Some (reply_of answer) } }
+{
+    state.ended = Some(answer);
 }
 
 // One turn of an open step, which isn't among the others.
@@ -204,16 +200,9 @@ fn turn_step<V: Verifier>(
         phase,
         cause,
     } = step;
-    let Ok(need) = turn(context.alloc, phase) else {
-        drop(so_far);
-        drop(asked);
-        drop(cause);
-        return Err(NoMemory);
-    };
-    match need {
+    match phase.turn(context.alloc)? {
         Need::SetEnds(set) => set_ended(context, state, so_far, asked, cause, set),
         Need::StepEnds(outcome) => {
-            drop(cause);
             let so_far = Box::into_inner(so_far);
             end_step(context, state, so_far, asked, outcome)
         }

@@ -11,13 +11,11 @@ ghost use Rattle.dns_outcome.specs.Outcome.{outcome_value};
 ghost use Rattle.dns_flow.specs.Leads.{entry_of};
 ghost use Rattle.dns_validation.specs.Steps.{judged_step, plain_step, foreign_ending};
 
-use crate::receiving::ReceivedMessage;
-use dns_evidence::{Asked, Ending, JudgedSet, MarkedSet, Reply, Told};
+use dns_evidence::{Asked, Ending, JudgedSet, MarkedSet, Reply};
 use dns_message::Message;
 use dns_model::{AskRef, MarkOrigin};
-use dns_name::NoMemory;
 use dns_outcome::{Outcome, foreign_record};
-use dns_record::{Query, Record};
+use dns_record::{NoMemory, Query, Record};
 use std::alloc::Global;
 
 /// How a step ends: what it heard, and its ending.
@@ -75,20 +73,6 @@ pub(crate) fn only_seen(alloc: Global, query: Query, depth: u16, end: StepEnd) -
         ending,
         excuse: Vec::new(alloc),
     }
-}
-
-/// The records of a message, and whether the reply said that there are none, as a step keeps them.
-pub(crate) fn records_of(received: ReceivedMessage) -> Reply
-    ensures { heard_value result ≡ Records (told_by received.message) received.empty }
-{
-    let ReceivedMessage { message, empty } = received;
-    Reply::Told(Told {
-        code: message.response_code,
-        empty,
-        answers: message.answers,
-        authorities: message.authorities,
-        additionals: message.additionals,
-    })
 }
 
 /// The entry of a set with its mark's origin and these asks.
@@ -149,8 +133,5 @@ fn foreign_by(foreign: &Record) -> Result<Ending, NoMemory>
 pub(crate) fn next_number(steps: &[Asked]) -> Result<u32, NoMemory>
     ensures { IfOk result (λ n. n ≡ length steps.now) }
 {
-    match u32::try_from(steps.len()) {
-        Ok(number) => Ok(number),
-        Err(_) => Err(NoMemory),
-    }
+    u32::try_from(steps.len()).map_err(|_| NoMemory)
 }

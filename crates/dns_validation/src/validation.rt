@@ -1,3 +1,5 @@
+//! A validation: what it wants, what it is told, what it gives out to be kept, and its answer.
+
 ghost use Rattle.std.specs.Prelude.{◌≡◌, ◌⊎◌, false, [], List, None, IfOk, OnOk, IfSome, IsSome};
 ghost use Rattle.dns_handle.specs.Replies.{reply_of};
 ghost use Rattle.dns_rules.specs.CacheEntries.{EntryValue};
@@ -8,9 +10,11 @@ ghost use Rattle.dns_validation.specs.Requests.{asking_request, checked_request}
 ghost use Rattle.dns_validation.specs.Comes.{Comes};
 ghost use Rattle.dns_validation.specs.Runs.{Sent, Run, IsOut, HasHeard, HasTaken, GoesOn, TakesOn, moves as moves_on, request_at};
 ghost use Rattle.std.specs.Option.{option_map};
+ghost use Rattle.dns_validation.specs.AcceptedChains.{AreAccepted};
 ghost use Rattle.dns_validation.specs.Terms.{terms_of};
 ghost use Rattle.dns_validation.specs.Validations.{AcceptedWhereKept, asking_at, wanted_in as wanted_of};
 
+use crate::accepted::AcceptedChains;
 use crate::context::Context;
 use crate::hearing::hear;
 use crate::keeping::{find, next_kept};
@@ -21,19 +25,32 @@ use dns_cache::{Acceptance, CacheKey, Entry, TtlRanges};
 use dns_evidence::{IterationLimits, Verifier};
 use dns_flow::Ask;
 use dns_handle::{DnsRequest, DnsRequestOptions, DnsResponse, NetError};
-use dns_name::NoMemory;
-use dns_record::Query;
+use dns_record::{NoMemory, Query};
 use dns_trust::Judge;
 use std::alloc::Global;
 use std::collections::VecDeque;
-use std::mem;
+use std::marker::Model;
 
 /// The validation of a query (RFC 4035, 5): it says what it asks, is told the reply to that, and goes on, until it has its answer.
 /// It holds no handle.
 #[derive(Drop)]
-pub struct Validation<'a, V> {
+pub struct Validation<'a, V: Verifier> {
     context: Context<'a, V>,
     state: State,
+    accepted: AcceptedChains,
+}
+
+// A run has come to where it stands, or memory ran out; and the verifier accepts the chains that it remembers.
+impl<'a, V: Verifier> Model for Validation<'a, V> {
+    ghost use Rattle.dns_validation.specs.ValidationValues.{ValidationValue};
+
+    ghost Value = { ValidationValue V };
+
+    ghost use Rattle.dns_validation.specs.Reached.{IsSound};
+
+    ghost view = { λ v. record { context = v.context; state = v.state } };
+
+    ghost invariant = { λ v. IsSound V.answers v.context v.state v.accepted.chains };
 }
 
 /// What a validation wants.
@@ -75,10 +92,7 @@ impl<'a, V: Verifier> Validation<'a, V> {
         ensures begins { IfOk result (λ v. state_of v ≡ begin_of query) }
         ensures run { IfOk result (λ v. (cached : List EntryValue) → Run (terms_in V.answers v) cached [] (state_of v)) }
     {
-        let Ok(request) = request_for(alloc, &query, &options, true) else {
-            drop(query);
-            return Err(NoMemory);
-        };
+        let request = request_for(alloc, &query, &options, true)?;
         begin(alloc, judge, query, request, options, iterations, ranges)
     }
 
@@ -134,9 +148,11 @@ impl<'a, V: Verifier> Validation<'a, V> {
         take(&self.context, &mut self.state, reply);
     }
 
-    /// Takes what was kept of the set that it asked for, if anything was, with whose acceptance its chain has, and goes on. The entry has the
-    /// key that was asked for. `Kept` is true, as it is of what `AcceptedBy::get_for` gives for the validation's verifier: of such a chain
-    /// only anchors and times are tested. Want of memory ends it. Where no set waits, it lets the entry go.
+    /// Takes what was kept of the set that it asked for, if anything was, with whose acceptance its chain has, and goes on. An entry of
+    /// another key than was asked for serves nothing. `Kept` is true, as it is of what `AcceptedBy::get_for` gives for the validation's
+    /// verifier: of such a chain only anchors and times are tested, as of that of a key set which this validation has judged or tested
+    /// itself. The chains that it remembers for this are those of asked key sets, at most one for each send. Where memory runs out, it
+    /// ends. Where no set waits, the entry is freed.
     pub fn found(&mut self, given: Option<(Entry, Acceptance)>)
         requires accepted { AcceptedWhereKept (terms_in V.answers self.old).judge.answers given }
         ensures terms { terms_in V.answers self.new ≡ terms_in V.answers self.old }
@@ -146,7 +162,7 @@ impl<'a, V: Verifier> Validation<'a, V> {
         ensures run { IsOut (state_of self.new)
             ⊎ TakesOn (terms_in V.answers self.old) (state_of self.old) given (state_of self.new) }
     {
-        take_entry(&self.context, &mut self.state, given);
+        take_entry(&self.context, &mut self.state, &mut self.accepted, given);
     }
 
     /// The next of what it gives out to be kept, in the order in which its steps ended; None where nothing is left.
@@ -157,7 +173,9 @@ impl<'a, V: Verifier> Validation<'a, V> {
         ensures left { IfSome result (λ e. (cached : List EntryValue) (sends : List Sent)
             → Run (terms_in V.answers self.old) cached sends (state_of self.old) → IsLeft (terms_in V.answers self.old) sends e) }
     {
-        next_kept(&mut self.state)
+        let entry = next_kept(&mut self.state)?;
+        self.accepted.add(&entry);
+        Some(entry)
     }
 
     /// The answer of a validation that has come to its end, as a lookup gives it: by a trail of exactly the sends of its run. None
@@ -170,8 +188,7 @@ impl<'a, V: Verifier> Validation<'a, V> {
         ensures ends { (cached : List EntryValue) (sends : List Sent) → Run (terms_in V.answers self.entry) cached sends (state_of self.entry)
             → (state_of self.entry).pending ≡ None → (state_of self.entry).seeking ≡ None → moves_on (state_of self.entry) ≡ false → IsSome result }
     {
-        let Validation { context, state } = self;
-        drop(context);
+        let Validation { state, .. } = self;
         answer_in(state)
     }
 }
@@ -199,11 +216,7 @@ fn begin<'a, V: Verifier>(
     ensures begins { IfOk result (λ v. v.state ≡ begin_of query) }
     ensures run { IfOk result (λ v. (cached : List EntryValue) → Run (terms_of V.answers v.context) cached [] v.state) }
 {
-    let Ok(asked) = query.try_clone() else {
-        drop(query);
-        drop(request);
-        return Err(NoMemory);
-    };
+    let asked = query.try_clone()?;
     let state = first_state(alloc, asked);
     let context = Context {
         alloc,
@@ -214,7 +227,11 @@ fn begin<'a, V: Verifier>(
         iterations,
         ranges,
     };
-    Ok(Validation { context, state })
+    Ok(Validation {
+        context,
+        state,
+        accepted: AcceptedChains::new(alloc),
+    })
 }
 
 // It asks for its query.
@@ -249,10 +266,7 @@ fn next_wanted<V: Verifier>(
             let key = CacheKey::of(&seeking.so_far.query, &seeking.placed.set)?;
             Ok(Some(Wanted::Entry(key)))
         }
-        None => match next_ask(context, state)? {
-            Some(asking) => Ok(Some(Wanted::Reply(asking))),
-            None => Ok(None),
-        },
+        None => Ok(next_ask(context, state)?.map(Wanted::Reply)),
     }
 }
 
@@ -260,20 +274,21 @@ fn next_wanted<V: Verifier>(
 fn take_entry<V: Verifier>(
     context: &Context<'_, V>,
     state: &mut State,
+    accepted: &mut AcceptedChains,
     given: Option<(Entry, Acceptance)>,
 )
-    requires accepted { AcceptedWhereKept (terms_of V.answers context.now).judge.answers given }
+    requires given { AcceptedWhereKept (terms_of V.answers context.now).judge.answers given }
+    requires accepted { AreAccepted (terms_of V.answers context.now).judge.answers accepted.old.chains }
     ensures idle { state.old.seeking ≡ None → state.new ≡ state.old }
     ensures taken { IsSome state.old.seeking → IsOut state.new
         ⊎ HasTaken (terms_of V.answers context.now) state.old given state.new }
+    ensures accepted { AreAccepted (terms_of V.answers context.now).judge.answers accepted.new.chains }
 {
     if state.seeking.is_none() {
-        drop(given);
         return;
     }
-    match find_on(context, state, given) {
-        Ok(()) => {}
-        Err(_) => run_out(context, state),
+    if find_on(context, state, accepted, given).is_err() {
+        run_out(context, state);
     }
 }
 
@@ -281,12 +296,15 @@ fn take_entry<V: Verifier>(
 fn find_on<V: Verifier>(
     context: &Context<'_, V>,
     state: &mut State,
+    accepted: &mut AcceptedChains,
     given: Option<(Entry, Acceptance)>,
 ) -> Result<(), NoMemory>
-    requires accepted { AcceptedWhereKept (terms_of V.answers context.now).judge.answers given }
-    ensures { OnOk result (HasTaken (terms_of V.answers context.now) state.old given state.new) }
+    requires given { AcceptedWhereKept (terms_of V.answers context.now).judge.answers given }
+    requires accepted { AreAccepted (terms_of V.answers context.now).judge.answers accepted.old.chains }
+    ensures taken { OnOk result (HasTaken (terms_of V.answers context.now) state.old given state.new) }
+    ensures accepted { AreAccepted (terms_of V.answers context.now).judge.answers accepted.new.chains }
 {
-    find(context, state, given)?;
+    find(context, state, accepted, given)?;
     settle(context, state)
 }
 
@@ -328,12 +346,10 @@ fn take<V: Verifier>(
         ⊎ HasHeard (terms_of V.answers context.now) state.old (reply_of reply) state.new }
 {
     if state.pending.is_none() {
-        drop(reply);
         return;
     }
-    match go_on(context, state, reply) {
-        Ok(()) => {}
-        Err(_) => run_out(context, state),
+    if go_on(context, state, reply).is_err() {
+        run_out(context, state);
     }
 }
 
@@ -354,7 +370,7 @@ fn run_out<V>(context: &Context<'_, V>, state: &mut State)
     ensures { IsOut state.new }
 {
     let alloc = context.alloc;
-    let out = State {
+    *state = State {
         closed: Vec::new(alloc),
         steps: Vec::new(alloc),
         seeking: None,
@@ -364,25 +380,11 @@ fn run_out<V>(context: &Context<'_, V>, state: &mut State)
         kept: VecDeque::new(alloc),
         ended: Some(Err(NetError::NoMemory)),
     };
-    drop(mem::replace(state, out));
 }
 
 // The answer with which a validation has come to its end.
 fn answer_in(state: State) -> Option<Result<DnsResponse, NetError>>
     ensures { option_map reply_of result ≡ state.ended }
 {
-    let State {
-        closed: _,
-        steps: _,
-        seeking,
-        pending,
-        sends: _,
-        made,
-        kept: _,
-        ended,
-    } = state;
-    drop(seeking);
-    drop(pending);
-    drop(made);
-    ended
+    state.ended
 }

@@ -1,7 +1,7 @@
 use Rattle.std.proofs.Common.{sym, subst}
 use Rattle.dns_handle.specs.Replies.{reply_of}
 use Rattle.dns_handle.specs.declared.protocol.Protocol.TheVariants.{Udp}
-use Rattle.dns_sockets.specs.Met.{dialer_view}
+use Rattle.dns_udp.specs.Met.{dialer_view}
 use Rattle.dns_udp.specs.Exchanges.{IsExchangeOf}
 use Rattle.dns_asking.specs.Causes.{AnswerCause}
 use Rattle.dns_asking.proofs.DatagramLemmas.{datagrams_caused}
@@ -24,7 +24,7 @@ returns-clause-caused g c =
     let reply = reply_of c.look_up-reply.result.reply in
     subst (λ d. AnswerCause Udp (dialer_view counts given c.args.dial) (dialer_view counts given d) reply)
     (sym c.into_dialer.ensures)
-    (datagrams_caused counts given g.R.Draws.draws_id g.R.Draws.draws_port _ g.V.Verifier c.args.inquiry
+    (datagrams_caused counts given g.D.Dialer.calls g.R.Draws.draws_id g.R.Draws.draws_port _ g.V.Verifier c.args.inquiry
     (λ old new request now heard sent. sent)
     c.args.server c.args.dial c.args.draws c.exchange-exchange.result c.look_up-reply.result.handle reply c.requires
     (subst (λ b. IsExchangeOf b c.args.dial c.args.draws c.exchange-exchange.result) c.builder.ensures

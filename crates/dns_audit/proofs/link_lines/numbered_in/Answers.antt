@@ -7,22 +7,22 @@ pub loop-left-smaller : goal.loop-left-smaller
 loop-left-smaller c =
     rw c.in-Some.is
     (numbered_shorter c.in-Some.text.now c.next_word.result.0.now (option_copied c.next_word.result.1)
-    (words_left (option_copied c.in-Ok-Some.after)) c.in-Ok-Some.link c.in-Ok-Some.key c.next_word.ensures.words
-    (rw c.in-Ok-Some.field-0-is at c.in-Ok-Some.ensures))
+    (words_left (option_copied c.in-Some-2.after)) c.in-Some-2.link c.in-Some-2.key c.next_word.ensures.words
+    (rw c.in-Some-2.is at c.in_ok-link.ensures))
 
 pub loop-left-preserved : goal.loop-left-preserved
 loop-left-preserved c =
-    rw (c.in_ok-push-in-Ok-Some.ensures.items, c.in_ok-push-in-Ok-Some-2.ensures.items)
+    rw (c.in_ok-push-in-Some-2.ensures.items, c.in_ok-push-in-Some-2-2.ensures.items)
     (next_numbered c.loop-left.links.items c.loop-left.keys.items c.in-Some.text.now c.next_word.result.0.now
-    (option_copied c.next_word.result.1) (words_left (option_copied c.in-Ok-Some.after)) _ c.in-Ok-Some.link
-    c.in-Ok-Some.key (rw c.in-Some.is at c.loop-left.invariant) c.next_word.ensures.words
-    (rw c.in-Ok-Some.field-0-is at c.in-Ok-Some.ensures))
+    (option_copied c.next_word.result.1) (words_left (option_copied c.in-Some-2.after)) _ c.in-Some-2.link
+    c.in-Some-2.key (rw c.in-Some.is at c.loop-left.invariant) c.next_word.ensures.words
+    (rw c.in-Some-2.is at c.in_ok-link.ensures))
 
-pub returns-in-Ok-None : goal.returns-in-Ok-None
-returns-in-Ok-None c =
+pub returns-in-None : goal.returns-in-None
+returns-in-None c =
     no_numbered c.loop-left.links.items c.loop-left.keys.items c.in-Some.text.now c.next_word.result.0.now
     (option_copied c.next_word.result.1) _ (rw c.in-Some.is at c.loop-left.invariant) c.next_word.ensures.words
-    (rw c.in-Ok-None.field-0-is at c.in-Ok-None.ensures)
+    (rw c.in-None.is at c.in_ok-link.ensures)
 
 pub returns : goal.returns
 returns c = all_numbered _ _ _ (rw c.in_default.is at c.loop-left.invariant)

@@ -5,4 +5,5 @@ use Rattle.dns_cache.proofs.expiry.left_by_links.Given as goal
 
 -- what is left goes on with the links that are left
 abbrev pub invariant-loop-link : goal.invariant-loop-link
-invariant-loop-link l = left_by_links l.now l.left (map link_value (drop l.link-index l.links)) ≡ left_by_links l.now l.seconds (map link_value l.links)
+invariant-loop-link l = left_by_links l.now l.left (map link_value (drop l.link-index l.links))
+    ≡ left_by_links l.now l.seconds (map link_value l.links)

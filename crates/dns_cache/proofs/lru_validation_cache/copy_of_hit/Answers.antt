@@ -8,7 +8,8 @@ use Rattle.dns_cache.proofs.lru_validation_cache.copy_of_hit.Goals as goal
 
 pub returns-in-Some : goal.returns-in-Some
 returns-in-Some g c =
-    let there : lookup (key_eq c.args.key.now) c.args.kept.now.entries ≡ Some c.in-Some.found.now = sym c.peek.ensures ∙ ap option_copied c.in-Some.is in
+    let there : lookup (key_eq c.args.key.now) c.args.kept.now.entries ≡ Some c.in-Some.found.now = sym c.peek.ensures
+    ∙ ap option_copied c.in-Some.is in
     IfOk-weaker c.copy_of_live.result _ _
     (λ found is. is ∙ live_is c.args.key.now c.args.now c.args.kept.now.entries c.in-Some.found.now c.requires there) c.copy_of_live.ensures
 

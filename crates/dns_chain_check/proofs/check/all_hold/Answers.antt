@@ -16,9 +16,10 @@ loop-number-preserved g c = (
       c.in_ok-holds_after.field-0 c.loop-number-test.true c.index-links-number.is c.in_ok-holds_after.ensures c.if-not-branch.false
       c.loop-number.invariant.0,
   c.in_ok-push.ensures.items
-      ∙ ap (λ next. c.loop-number.indexed.items ++ next ∷ []) c.in_ok-next.ensures
+      ∙ ap (λ next. c.loop-number.indexed.items ++ next ∷ []) c.in_ok-of.ensures
       ∙ ap (λ passed. passed ++ link_value c.index-links-number.result ∷ []) c.loop-number.invariant.1
-      ∙ sym (taken_more link_value c.args.links.now c.loop-number.number c.index-links-number.result c.loop-number-test.true c.index-links-number.is),
+      ∙ sym (taken_more link_value c.args.links.now c.loop-number.number c.index-links-number.result c.loop-number-test.true
+      c.index-links-number.is),
 )
 
 pub returns : goal.returns

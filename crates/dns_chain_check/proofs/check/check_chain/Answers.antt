@@ -13,11 +13,15 @@ returns-clause-prefixes g c =
 pub returns-clause-more : goal.returns-clause-more
 returns-clause-more g c =
     let answers = g.V.Verifier.answers c.args.verifier.now in
-    let told : IfOk c.is_justified.result (λ b. b ≡ justified (judge answers c.args.anchors.now c.args.now) c.args.chain.now.links) = search rules in
-    IfOk-weaker c.is_justified.result _ _ (λ b is h. holds_for_more answers c.args.anchors.now c.args.now c.args.chain.now.links (sym is ∙ h)) told
+    let told : IfOk c.is_justified.result (λ b. b ≡ justified (judge answers c.args.anchors.now c.args.now) c.args.chain.now.links) =
+    search rules in
+    IfOk-weaker c.is_justified.result _ _
+    (λ b is h. holds_for_more answers c.args.anchors.now c.args.now c.args.chain.now.links (sym is ∙ h)) told
 
 pub returns-clause-alone : goal.returns-clause-alone
 returns-clause-alone g c =
     let answers = g.V.Verifier.answers c.args.verifier.now in
-    let told : IfOk c.is_justified.result (λ b. b ≡ justified (judge answers c.args.anchors.now c.args.now) c.args.chain.now.links) = search rules in
-    IfOk-weaker c.is_justified.result _ _ (λ b is h. holds_alone answers c.args.anchors.now c.args.now c.args.chain.now.links (sym is ∙ h)) told
+    let told : IfOk c.is_justified.result (λ b. b ≡ justified (judge answers c.args.anchors.now c.args.now) c.args.chain.now.links) =
+    search rules in
+    IfOk-weaker c.is_justified.result _ _ (λ b is h. holds_alone answers c.args.anchors.now c.args.now c.args.chain.now.links
+    (sym is ∙ h)) told

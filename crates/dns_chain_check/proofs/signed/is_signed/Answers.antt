@@ -14,11 +14,13 @@ pub returns-then-not-branch : goal.returns-then-not-branch
 returns-then-not-branch g c =
     not_good (link_judge g.V.Verifier.answers c.args.judge.now) c.args.earlier.now c.args.set.now.name.now c.args.set.now.dns_class.0
     c.args.set.now.record_type.0 c.args.set.now.rdatas.now c.args.by.now.key_link c.args.by.now.key.now _ c.in-Some.read
-    (ap rrsig_in (sym c.as_slice.ensures.bytes) ∙ sym c.read.ensures ∙ c.in-Some.is) (sym c.fits.ensures ∙ c.if-not-fits.false) (sym c.in_ok-is_good.ensures ∙ c.if-not-branch.true)
+    (ap rrsig_in (sym c.as_slice.ensures.bytes) ∙ sym c.read.ensures ∙ c.in-Some.is) (sym c.fits.ensures
+    ∙ c.if-not-fits.false) (sym c.in_ok-is_good.ensures ∙ c.if-not-branch.true)
 
 pub returns : goal.returns
 returns g c =
     c.key_comes.ensures
     ∙ by_key (link_judge g.V.Verifier.answers c.args.judge.now) c.args.earlier.now c.args.set.now.name.now c.args.set.now.dns_class.0
     c.args.set.now.record_type.0 c.args.set.now.rdatas.now c.args.by.now.key_link c.args.by.now.key.now _ c.in-Some.read
-    (ap rrsig_in (sym c.as_slice.ensures.bytes) ∙ sym c.read.ensures ∙ c.in-Some.is) (sym c.fits.ensures ∙ c.if-not-fits.false) (sym c.in_ok-is_good.ensures ∙ c.if-not-branch.false)
+    (ap rrsig_in (sym c.as_slice.ensures.bytes) ∙ sym c.read.ensures ∙ c.in-Some.is) (sym c.fits.ensures
+    ∙ c.if-not-fits.false) (sym c.in_ok-is_good.ensures ∙ c.if-not-branch.false)

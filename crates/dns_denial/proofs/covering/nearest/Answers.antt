@@ -13,7 +13,8 @@ loop-place-preserved c =
     let nsecs = c.args.nsecs.now in
     let best : Option (ℕ × OwnedNsec) = option_map (λ p. (p.0, p.1.now)) c.loop-place.best in
     subst (IsBestOf (spans name) owned_before nsecs (c.loop-place.place + 1)) (sym c.nearer-best.ensures)
-    (best_more (spans name) owned_before owners_ranked nsecs c.loop-place.place c.index-nsecs-place.result best c.loop-place-test.true c.index-nsecs-place.is c.loop-place.invariant)
+    (best_more (spans name) owned_before owners_ranked nsecs c.loop-place.place c.index-nsecs-place.result best
+    c.loop-place-test.true c.index-nsecs-place.is c.loop-place.invariant)
 
 abbrev found_at : (c : After-loop-place)
     → IsFound (is_top (spans c.args.name.now) owned_before c.args.nsecs.now) c.args.nsecs.now

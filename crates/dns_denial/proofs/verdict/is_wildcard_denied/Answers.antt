@@ -8,18 +8,19 @@ use Rattle.dns_rules.specs.Covering.{covering}
 use Rattle.dns_rules.specs.NsecVerdict.{code_nx_domain, wildcard_denies}
 use Rattle.dns_denial.proofs.verdict.is_wildcard_denied.Goals as goal
 
-pub returns-in-Some : goal.returns-in-Some
-returns-in-Some c =
+pub returns-in-Some-clause-denied : goal.returns-in-Some-clause-denied
+returns-in-Some-clause-denied g c =
     let star_name : Labels = star c.args.encloser.now in
     let read : name_in c.as_slice.result.now ≡ Some (star_name, []) = ap
     name_in (c.as_slice.ensures.value ∙ c.wildcard_below-bytes.ensures)
     ∙ star_read c.args.encloser.now c.requires in
     let same : c.in-Some.wildcard ≡ star_name = first_of_some (c.in-Some.ensures ∙ read) in
-    c.denies_wildcard.ensures
-    ∙ ap (λ (n : Labels). if c.args.code.0 == code_nx_domain then is_some (covering n c.args.nsecs.now) else wildcard_denies c.args.record_type.0 n c.args.nsecs.now) same
+    c.denies_wildcard.ensures.denied
+    ∙ ap (λ (n : Labels). if c.args.code.0 == code_nx_domain then is_some (covering n (g.R.NsecRecords.records c.args.records.now))
+    else wildcard_denies c.args.record_type.0 n (g.R.NsecRecords.records c.args.records.now)) same
 
-pub returns-in-None : goal.returns-in-None
-returns-in-None c =
+pub returns-in-None-clause-denied : goal.returns-in-None-clause-denied
+returns-in-None-clause-denied g c =
     let star_name : Labels = star c.args.encloser.now in
     let read : name_in c.as_slice.result.now ≡ Some (star_name, []) = ap
     name_in (c.as_slice.ensures.value ∙ c.wildcard_below-bytes.ensures)

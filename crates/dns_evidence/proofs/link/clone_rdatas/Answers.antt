@@ -5,7 +5,7 @@ use Rattle.dns_evidence.proofs.link.clone_rdatas.Goals as goal
 pub loop-rdata-preserved : goal.loop-rdata-preserved
 loop-rdata-preserved c =
     copied _ _ _ _ _ c.rdata-item.result _ c.deref-rdata-items.ensures.value c.loop-rdata-test.true c.rdata-item.is c.loop-rdata.invariant
-    c.in_ok-next.ensures c.in_ok-push.ensures.items
+    c.in_ok-try_clone.ensures c.in_ok-push.ensures.items
 
 pub returns : goal.returns
 returns c = c.loop-rdata.invariant ∙ copied_all _ _ _ c.deref-rdata-items.ensures.value c.loop-rdata-test.false

@@ -3,7 +3,7 @@ use Rattle.std.specs.Option.{option_map}
 use Rattle.dns_rules.specs.ChainedSets.{bare}
 use Rattle.dns_rules.specs.Delegations.{zone_verdict}
 use Rattle.dns_rules.specs.ProofErrors.{RrsigsNotPresent}
-use Rattle.dns_proof.specs.Kinds.{kind_value}
+use Rattle.dns_cache.specs.Kinds.{kind_value}
 use Rattle.dns_trust.specs.Verdicts.{listed}
 use Rattle.dns_trust.specs.ZoneRows.{row_of}
 use Rattle.dns_flow.specs.Causes.{is_signed_row, unsigned_row_cause}
@@ -18,4 +18,6 @@ returns-else-is_signed g c =
     let is : row ≡ row_of (zone_verdict verifier c.args.class.0 c.args.zone.now answer) = search rules in
     let other : is_signed_row row ≡ false = search rules in
     let by : IfOk c.row_cause.result (λ k. kind_value k ≡ unsigned_row_cause c.args.class.0 c.args.zone.now row) = search rules in
-    subst (λ w. IfOk c.row_cause.result (λ k. kind_value k ≡ w)) (cause_unsigned (RrsigsNotPresent c.args.set.now.owner c.args.set.now.rtype) verifier c.args.class.0 c.args.zone.now answer row is other) by
+    subst (λ w. IfOk c.row_cause.result (λ k. kind_value k ≡ w))
+    (cause_unsigned (RrsigsNotPresent c.args.set.now.owner c.args.set.now.rtype) verifier c.args.class.0 c.args.zone.now
+    answer row is other) by

@@ -6,11 +6,12 @@ use Rattle.dns_flow.proofs.signatures.try_from.Goals as goal
 
 pub signatures-smaller : goal.signatures-smaller
 signatures-smaller c =
-    fewer (first_signatures c.args.placed.set) _ _ _ _ c.in_default.ensures (sym c.skips_next.ensures ∙ c.signatures-test.true)
+    fewer (first_signatures c.args.placed.set) _ _ _ _ c.in_ok-push.ensures.items (sym c.skips_next.ensures ∙ c.signatures-test.true)
 
 pub signatures-preserved : goal.signatures-preserved
 signatures-preserved c =
-    skip_on c.args.query.now c.args.placed _ _ c.in_default.ensures (sym c.skips_next.ensures ∙ c.signatures-test.true) ∙ c.signatures.invariant
+    skip_on c.args.query.now c.args.placed _ _ c.in_ok-push.ensures.items (sym c.skips_next.ensures ∙ c.signatures-test.true)
+    ∙ c.signatures.invariant
 
 pub returns-then-has_next : goal.returns-then-has_next
 returns-then-has_next c =

@@ -1,4 +1,5 @@
-use Rattle.std.proofs.Common.{◌≡◌, ◌||◌, false, rules, sym, ap, ◌∙◌}
+use Rattle.std.proofs.Common.{◌≡◌, ◌||◌, false, rules, sym, ap, ◌∙◌, subst}
+use Rattle.std.specs.Prelude.{IfOk}
 use Rattle.std.specs.List.{list_any}
 use Rattle.dns_handle.specs.AnswerIndex.{Indexes, takes_answers, answered_by, has_at}
 use Rattle.dns_handle.proofs.AnswerLemmas.{contains_any, contains_found}
@@ -13,5 +14,9 @@ returns c =
     let message = c.args.message.now in
     let are : Indexes index message = search rules in
     let none : takes_answers message ≡ false = search rules in
-    let read : c.in_ok-answered.answered ≡ list_any (answered_by (has_at index)) message.queries = search rules in
-    read ∙ sym (contains_found index message are ∙ ap (λ b. b || list_any (answered_by (has_at index)) message.queries) none)
+    let queries : c.deref.result.now ≡ message.queries = search rules in
+    let whole =
+    ap (λ qs. list_any (answered_by (has_at index)) qs) queries
+    ∙ ap (λ b. b || list_any (answered_by (has_at index)) message.queries) (sym none)
+    ∙ sym (contains_found index message are) in
+    subst (λ answered. IfOk c.answers_some.result (λ b. b ≡ answered)) whole c.answers_some.ensures

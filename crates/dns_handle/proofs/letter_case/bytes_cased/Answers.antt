@@ -17,9 +17,11 @@ loop-byte-preserved c =
     let grown : c.push.new.self.items ≡ label_cased c.args.bits.now [] (take (i + 1) bytes) = cc (more, c.in_ok-push.ensures.items) in
     elim c.if-is_ascii_alphabetic.branch [
       | then-is_ascii_alphabetic w ↦
-          let one = count_by_more_yes is_letter bytes i 0 within (sym c.is_ascii_alphabetic.ensures.value ∙ w.if-is_ascii_alphabetic.true) in
+          let one = count_by_more_yes is_letter bytes i 0 within (sym c.is_ascii_alphabetic.ensures.value
+          ∙ w.if-is_ascii_alphabetic.true) in
           record { cased = grown; counted = cc; bounded = omega arith }
       | else-is_ascii_alphabetic w ↦
-          let none = count_by_more_no is_letter bytes i 0 within (sym c.is_ascii_alphabetic.ensures.value ∙ w.if-is_ascii_alphabetic.false) in
+          let none = count_by_more_no is_letter bytes i 0 within (sym c.is_ascii_alphabetic.ensures.value
+          ∙ w.if-is_ascii_alphabetic.false) in
           record { cased = grown; counted = cc; bounded = omega arith }
     ]

@@ -1,11 +1,9 @@
-use Rattle.std.proofs.Common.{ℕ, Some, ap, subst, sym, ◌∙◌}
+use Rattle.std.proofs.Common.{Some, ap, ◌∙◌}
 use Rattle.std.proofs.lemmas.Result.{err_from_is_err_and}
-use Rattle.std.specs.Option.{option_map}
-use Rattle.dns_name.specs.declared.no_memory.NoMemory.{NoMemory}
 use Rattle.dns_validation.specs.Machine.{Terms}
-use Rattle.dns_validation.specs.Validations.{AcceptedWhereKept, state_of}
+use Rattle.dns_validation.specs.Validations.{state_of}
 use Rattle.dns_lookup.specs.Driving.{cache_state}
-use Rattle.dns_lookup.proofs.ServingLoop.{serving_kept, kept_empty, failed_keeping, failed_getting, wished, serves_none, serves_reply, got_at, hits_any, serving_told, serving_fewer}
+use Rattle.dns_lookup.proofs.ServingLoop.{serving_kept, kept_empty, failed_keeping, failed_handing, wished, serves_none, serves_reply, serving_handed, handed_fewer}
 use Rattle.dns_lookup.proofs.WorkLemmas.{fewer_kept}
 use Rattle.dns_lookup.proofs.lookup.serve.Goals as goal
 
@@ -36,30 +34,28 @@ returns-in-Some-Reply-clause-serves g c =
     (c.in-Some-Reply.is ∙ ap (λ x. Some x) c.in-Some-Reply.field-0-is) c.next.ensures.asks c.next.ensures.same
     c.next.ensures.out)
 
-pub returns-in_err-given-in-Some-Entry-clause-serves : goal.returns-in_err-given-in-Some-Entry-clause-serves
-returns-in_err-given-in-Some-Entry-clause-serves g c =
-    let p = err_from_is_err_and c.from_residual-in_err-given-in-Some-Entry.result
-    c.from_residual-in_err-given-in-Some-Entry.ensures.1 in
-    rw p.1 (failed_getting _ _ _ _ _ _ _ _ c.in-Some-Entry.key c.args.now _
+pub returns-in_err-hand_on-in-Some-Entry-clause-serves : goal.returns-in_err-hand_on-in-Some-Entry-clause-serves
+returns-in_err-hand_on-in-Some-Entry-clause-serves g c =
+    let p = err_from_is_err_and c.from_residual-in_err-hand_on-in-Some-Entry.result
+    c.from_residual-in_err-hand_on-in-Some-Entry.ensures.1 in
+    rw p.1 (failed_handing _ _ _ _ _ _ _ _ _ c.in-Some-Entry.key c.args.now _
     (serving_kept _ _ _ _ _ _ _ _
     (cache_state g.C.ValidationCache c.keep.new.cache) c.sets.invariant c.keep.ensures.terms
     c.in_ok-keep.ensures.state
     c.in_ok-keep.ensures.left c.keep.ensures.hits)
-    c.in_err-given-in-Some-Entry.ensures.after)
+    c.in_err-hand_on-in-Some-Entry.ensures.handed)
 
-pub found-requires : goal.found-requires
-found-requires g c =
+pub hand_on-requires : goal.hand_on-requires
+hand_on-requires g c =
     let terms = c.next.ensures.terms ∙ c.keep.ensures.terms ∙ c.sets.invariant.terms in
     record {
-      accepted = subst (λ answers. AcceptedWhereKept answers c.in_ok-given-in-Some-Entry.field-0)
-          (sym (ap (λ (t : Terms). t.judge.answers) terms ∙ c.requires.verifier))
-          c.in_ok-given-in-Some-Entry.ensures.accepted;
+      verifier = ap (λ (t : Terms). t.judge.answers) terms ∙ c.requires.verifier;
     }
 
 pub sets-smaller : goal.sets-smaller
 sets-smaller g c =
     fewer_kept _ _ _ c.in_ok-keep.ensures.state
-    (serving_fewer _ _ _ _ _ _ _ _ _ c.in-Some-Entry.key c.in_ok-given-in-Some-Entry.field-0
+    (handed_fewer _ _ _ _ _ _ _ _ _ _ _ c.in-Some-Entry.key c.args.now
     (serving_kept _ _ _ _ _ _ _ _
     (cache_state g.C.ValidationCache c.keep.new.cache) c.sets.invariant c.keep.ensures.terms
     c.in_ok-keep.ensures.state
@@ -67,13 +63,11 @@ sets-smaller g c =
     (wished _ _ _ _ _
     (c.in-Some-Entry.is ∙ ap (λ x. Some x) c.in-Some-Entry.field-0-is) c.next.ensures.asks c.next.ensures.same
     c.next.ensures.out)
-    c.found.ensures.taken)
+    c.in_ok-hand_on-in-Some-Entry.ensures.handed)
 
 pub sets-preserved : goal.sets-preserved
 sets-preserved g c =
-    let given = c.in_ok-given-in-Some-Entry.field-0 in
-    let counted = hits_any NoMemory ℕ (g.C.ValidationCache.hits c.keep.new.cache) (option_map (λ p. p.0) given) in
-    serving_told _ _ _ _ _ _ _ _ _ _ _ c.in-Some-Entry.key given
+    serving_handed _ _ _ _ _ _ _ _ _ _ _ _ c.in-Some-Entry.key c.args.now c.requires.moment
     (serving_kept _ _ _ _ _ _ _ _
     (cache_state g.C.ValidationCache c.keep.new.cache) c.sets.invariant c.keep.ensures.terms
     c.in_ok-keep.ensures.state
@@ -82,13 +76,5 @@ sets-preserved g c =
     (wished _ _ _ _ _
     (c.in-Some-Entry.is ∙ ap (λ x. Some x) c.in-Some-Entry.field-0-is) c.next.ensures.asks c.next.ensures.same
     c.next.ensures.out)
-    c.next.ensures.terms c.found.ensures.terms
-    (got_at _ _ c.args.now _ _ _ c.requires.moment (record {
-      hits = c.in_ok-given-in-Some-Entry.ensures.given;
-      told = c.in_ok-given-in-Some-Entry.ensures.found;
-      left = c.in_ok-given-in-Some-Entry.ensures.after;
-      count = c.in_ok-given-in-Some-Entry.ensures.hits ∙ counted;
-      known = c.in_ok-given-in-Some-Entry.ensures.told;
-      listed = c.in_ok-given-in-Some-Entry.ensures.listed_before;
-    }))
-    c.found.ensures.taken
+    c.next.ensures.terms c.hand_on.ensures.terms
+    c.in_ok-hand_on-in-Some-Entry.ensures.handed

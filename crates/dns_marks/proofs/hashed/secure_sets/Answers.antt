@@ -10,6 +10,7 @@ pub returns : goal.returns
 returns c =
     let all =
     YieldsList-end
-    (YieldsList-from_vec c.in_ok-set-items.set-items.items (cc) (cc)) c.loop-set.yielded c.loop-set.set-iterator c.loop-set.yielded_by c.next.result c.next.new.self c.in-None.is c.next.ensures.steps in
+    (YieldsList-from_vec c.in_ok-set-items.set-items.items (cc) (cc)) c.loop-set.yielded c.loop-set.set-iterator
+    c.loop-set.yielded_by c.next.result c.next.new.self c.in-None.is c.next.ensures.steps in
     let e : c.loop-set.yielded ≡ c.in_ok-set-items.set-items.items = sym (map-id c.loop-set.yielded) ∙ all.0 in
     c.loop-set.invariant ∙ ap (map (marked_set Authority)) (e ∙ c.in_ok-set-items.ensures)

@@ -5,7 +5,8 @@ use Rattle.dns_marks.proofs.set_mark.first_failed.Goals as goal
 
 pub returns-in-Some : goal.returns-in-Some
 returns-in-Some c =
-    sym (failed_here c.args.answers.now c.loop-answer.answer-index c.answer-item.result c.in-Some.query.now c.loop-answer-test.true c.answer-item.is
+    sym (failed_here c.args.answers.now c.loop-answer.answer-index c.answer-item.result c.in-Some.query.now
+    c.loop-answer-test.true c.answer-item.is
     (sym c.failed_ask.ensures ∙ ap option_copied c.in-Some.is))
     ∙ c.loop-answer.invariant
 

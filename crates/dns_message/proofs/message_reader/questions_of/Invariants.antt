@@ -6,7 +6,8 @@ use Rattle.dns_message.proofs.message_reader.questions_of.Given as goal
 
 abbrev pub invariant-questions : goal.invariant-questions
 invariant-questions l = record {
-  so_far : with_questions l.queries.items (questions_at (l.count - l.counter) l.message.bytes.now l.pos) ≡ questions_at l.count l.message.bytes.now l.at;
+  so_far : with_questions l.queries.items (questions_at (l.count - l.counter) l.message.bytes.now l.pos)
+      ≡ questions_at l.count l.message.bytes.now l.at;
   fits : l.pos ≤ length l.message.bytes.now;
   known : AreKnown l.message.bytes.now l.names;
 }

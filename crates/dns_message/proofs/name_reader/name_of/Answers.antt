@@ -5,7 +5,8 @@ use Rattle.dns_message.proofs.name_reader.name_of.Goals as goal
 pub returns-in_err-next-clause-reads : goal.returns-in_err-next-clause-reads
 returns-in_err-next-clause-reads c =
     let p = err_from_is_err_and c.from_residual.result c.from_residual.ensures.1 in
-    rw (p.1, p.2) (name_fails c.in_err-next.field-0.0.kind c.in_err-next.field-0.0.offset c.args.message.now.bytes.now c.args.at c.in_err-next.ensures.fault)
+    rw (p.1, p.2) (name_fails c.in_err-next.field-0.0.kind c.in_err-next.field-0.0.offset c.args.message.now.bytes.now
+    c.args.at c.in_err-next.ensures.fault)
 
 pub from_octets-name-requires : goal.from_octets-name-requires
 from_octets-name-requires c =

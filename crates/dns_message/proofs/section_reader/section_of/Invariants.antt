@@ -7,7 +7,8 @@ use Rattle.dns_message.proofs.section_reader.section_of.Given as goal
 
 abbrev pub invariant-records : goal.invariant-records
 invariant-records l = record {
-  so_far : with_front l.records.items l.opt (section_at (l.count - l.counter) l.allowed l.message.bytes.now l.pos) ≡ section_at l.count l.allow_opt l.message.bytes.now l.at;
+  so_far : with_front l.records.items l.opt (section_at (l.count - l.counter) l.allowed l.message.bytes.now l.pos)
+      ≡ section_at l.count l.allow_opt l.message.bytes.now l.at;
   once : IfSome l.opt (λ x. l.allowed ≡ false);
   fits : l.pos ≤ length l.message.bytes.now;
   known : AreKnown l.message.bytes.now l.names;

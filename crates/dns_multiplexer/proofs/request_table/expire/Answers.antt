@@ -9,5 +9,6 @@ pub returns : goal.returns
 returns c = λ id.
     retained c.args.holders.now c.retain.new.self (λ holder. nat_lt c.args.now (holder.moment + c.args.timeout))
     c.retain.ensures.was_ordered
-    (filter_same_pairs _ (λ e. nat_lt c.args.now (e.1.moment + c.args.timeout)) _ (λ k v b w f' t. search rules) _ _ c.retain.ensures.filtered) id
+    (filter_same_pairs _ (λ e. nat_lt c.args.now (e.1.moment + c.args.timeout)) _ (λ k v b w f' t. search rules) _ _
+    c.retain.ensures.filtered) id
     ∙ filtered_still c.args.timeout c.args.now (tree.get nat_cmp c.args.holders.now id)

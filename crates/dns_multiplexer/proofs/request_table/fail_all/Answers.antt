@@ -7,7 +7,7 @@ use Rattle.dns_multiplexer.proofs.request_table.fail_all.Goals as goal
 
 pub holders-preserved : goal.holders-preserved
 holders-preserved c =
-    failing_more c.args.fault (tree.get nat_cmp c.args.holders.now) (tree.get nat_cmp c.args.queues.now)
+    failing_more c.args.fault c.args.event (tree.get nat_cmp c.args.holders.now) (tree.get nat_cmp c.args.queues.now)
     (tree.get nat_cmp c.holders.holders) (tree.get nat_cmp c.pop_first.new.self)
     (tree.get nat_cmp c.holders.queues) (tree.get nat_cmp c.push_item.new.queues) c.in-Some.field-0-0
     c.in-Some.holder c.holders.invariant c.in-Some.ensures.value
@@ -17,5 +17,6 @@ holders-preserved c =
 pub returns : goal.returns
 returns c =
     rw c.in_default.ensures.unchanged
-    (failed_all c.args.fault (tree.get nat_cmp c.args.holders.now) (tree.get nat_cmp c.args.queues.now) (tree.get nat_cmp c.holders.holders) (tree.get nat_cmp c.holders.queues)
+    (failed_all c.args.fault c.args.event (tree.get nat_cmp c.args.holders.now) (tree.get nat_cmp c.args.queues.now)
+    (tree.get nat_cmp c.holders.holders) (tree.get nat_cmp c.holders.queues)
     c.holders.invariant (nothing_in c.holders.holders (λ more. false≢true (c.in_default.ensures.variant.1 more))))

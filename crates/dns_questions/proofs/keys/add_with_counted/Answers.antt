@@ -4,7 +4,7 @@ use Rattle.std.specs.Option.{option_to_list}
 use Rattle.std.proofs.lemmas.List.{at_drop_more, at_drop_all}
 use Rattle.dns_trust.specs.Delegating.{shown}
 use Rattle.dns_trust.proofs.Shown.{shown_at, shown_end, shown_within}
-use Rattle.dns_questions.specs.Asking.{judge_by}
+use Rattle.dns_questions.specs.Gathering.{judge_by}
 use Rattle.dns_questions.specs.Questions.{question_of}
 use Rattle.dns_questions.proofs.OnceLemmas.{step_kept, all_kept, found_part}
 use Rattle.dns_questions.proofs.keys.add_with_counted.Goals as goal

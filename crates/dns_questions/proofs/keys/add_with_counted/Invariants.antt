@@ -2,7 +2,7 @@ use Rattle.std.proofs.Common.{◌≡◌, drop}
 use Rattle.dns_questions.specs.Questions.{with_keys}
 use Rattle.dns_trust.specs.Delegating.{shown}
 use Rattle.dns_trust.specs.SetSignatures.{IsBuilt}
-use Rattle.dns_questions.specs.Asking.{judge_by, then_once}
+use Rattle.dns_questions.specs.Gathering.{judge_by, then_once}
 use Rattle.dns_questions.proofs.keys.add_with_counted.Given as goal
 
 -- the questions so far, and those with the keys that are left, are those with all keys

@@ -2,7 +2,7 @@ use Rattle.std.proofs.Common.{rules, ◌≡◌, length, [], ◌∷◌, ap, ◌�
 use Rattle.std.proofs.lemmas.List.{nil_from_length}
 use Rattle.std.specs.List.{filter_map}
 use Rattle.std.specs.Option.{option_to_list}
-use Rattle.dns_questions.specs.Asking.{judge_by}
+use Rattle.dns_questions.specs.Gathering.{judge_by}
 use Rattle.dns_questions.specs.Questions.{question_of}
 use Rattle.dns_questions.proofs.OnceLemmas.{step_kept, all_kept, found_part}
 use Rattle.dns_questions.proofs.keys.add_with_keys.Goals as goal

@@ -1,7 +1,7 @@
 use Rattle.std.proofs.Common.{◌≡◌, length}
 use Rattle.dns_questions.specs.Questions.{with_keys}
 use Rattle.dns_trust.specs.SetSignatures.{IsBuilt}
-use Rattle.dns_questions.specs.Asking.{judge_by, then_once}
+use Rattle.dns_questions.specs.Gathering.{judge_by, then_once}
 use Rattle.dns_questions.proofs.keys.add_with_keys.Given as goal
 
 abbrev pub invariant-keys : goal.invariant-keys

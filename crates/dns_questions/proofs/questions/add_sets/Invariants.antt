@@ -1,6 +1,6 @@
 use Rattle.std.proofs.Common.{◌≡◌, length}
 use Rattle.dns_questions.specs.Questions.{of_sets}
-use Rattle.dns_questions.specs.Asking.{judge_by, steps_of, then_once}
+use Rattle.dns_questions.specs.Gathering.{judge_by, steps_of, then_once}
 use Rattle.dns_questions.proofs.questions.add_sets.Given as goal
 
 abbrev pub invariant-sets : goal.invariant-sets

@@ -1,7 +1,7 @@
 use Rattle.std.proofs.Common.{rules, ◌≡◌, length, [], ◌∷◌, ap}
 use Rattle.std.proofs.lemmas.List.{nil_from_length}
 use Rattle.std.specs.List.{flat_map}
-use Rattle.dns_questions.specs.Asking.{judge_by, steps_of}
+use Rattle.dns_questions.specs.Gathering.{judge_by, steps_of}
 use Rattle.dns_questions.specs.Questions.{of_step}
 use Rattle.dns_questions.proofs.OnceLemmas.{step_kept, all_kept}
 use Rattle.dns_questions.proofs.questions.add_steps.Goals as goal

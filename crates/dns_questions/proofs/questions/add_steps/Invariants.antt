@@ -1,7 +1,7 @@
 use Rattle.std.proofs.Common.{◌≡◌, length}
 use Rattle.dns_questions.specs.Questions.{of_step}
 use Rattle.std.specs.List.{flat_map}
-use Rattle.dns_questions.specs.Asking.{judge_by, steps_of, then_once}
+use Rattle.dns_questions.specs.Gathering.{judge_by, steps_of, then_once}
 use Rattle.dns_questions.proofs.questions.add_steps.Given as goal
 
 abbrev pub invariant-steps : goal.invariant-steps

@@ -2,7 +2,7 @@ use Rattle.std.proofs.Common.{◌≡◌, [], ap, ◌∙◌}
 use Rattle.std.specs.List.{flat_map}
 use Rattle.dns_evidence.specs.Listing.{answers_of}
 use Rattle.dns_model.specs.Chains.{judge}
-use Rattle.dns_questions.specs.Asking.{then_once}
+use Rattle.dns_questions.specs.Gathering.{then_once}
 use Rattle.dns_questions.specs.Questions.{of_step, each_once}
 use Rattle.dns_questions.proofs.OnceLemmas.{once_all}
 use Rattle.dns_questions.proofs.questions.trail_questions.Goals as goal

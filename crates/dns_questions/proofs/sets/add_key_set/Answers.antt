@@ -3,7 +3,7 @@ use Rattle.std.proofs.lemmas.List.{nil_from_length}
 use Rattle.std.specs.List.{flat_map}
 use Rattle.dns_model.specs.Keys.{AcceptedSignatureValue}
 use Rattle.dns_model.specs.Records.{Rr}
-use Rattle.dns_questions.specs.Asking.{judge_by}
+use Rattle.dns_questions.specs.Gathering.{judge_by}
 use Rattle.dns_questions.specs.Questions.{with_keys}
 use Rattle.dns_questions.proofs.OnceLemmas.{step_kept, all_kept}
 use Rattle.dns_questions.proofs.sets.add_key_set.Goals as goal

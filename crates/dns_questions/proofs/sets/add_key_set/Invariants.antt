@@ -1,7 +1,7 @@
 use Rattle.std.proofs.Common.{◌≡◌, length}
 use Rattle.dns_questions.specs.Questions.{with_keys, of_key_set}
 use Rattle.std.specs.List.{flat_map}
-use Rattle.dns_questions.specs.Asking.{judge_by, then_once}
+use Rattle.dns_questions.specs.Gathering.{judge_by, then_once}
 use Rattle.dns_questions.proofs.sets.add_key_set.Given as goal
 
 abbrev pub invariant-signatures : goal.invariant-signatures

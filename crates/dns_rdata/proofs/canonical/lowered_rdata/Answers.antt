@@ -5,7 +5,8 @@ use Rattle.dns_rdata.proofs.canonical.lowered_rdata.Goals as goal
 
 pub returns-in_default : goal.returns-in_default
 returns-in_default c =
-    sym (sym c.loop-field.invariant ∙ ap (behind c.loop-field.lowered.items) (parts_none _ _ _ _ c.loop-field-test.true (sym c.in_default.ensures)))
+    sym (sym c.loop-field.invariant
+    ∙ ap (behind c.loop-field.lowered.items) (parts_none _ _ _ _ c.loop-field-test.true (sym c.in_default.ensures)))
 
 pub loop-field-preserved : goal.loop-field-preserved
 loop-field-preserved c =
@@ -15,7 +16,8 @@ loop-field-preserved c =
 pub returns-then-is_empty : goal.returns-then-is_empty
 returns-then-is_empty c =
     let none : length c.loop-field.rest.now ≡ 0 = grind (arith, nat_tests) in
-    sym (sym c.loop-field.invariant ∙ (ap (behind c.loop-field.lowered.items) (parts_all _ _ _ c.loop-field-test.false none) ∙ behind_end _))
+    sym (sym c.loop-field.invariant ∙ (ap (behind c.loop-field.lowered.items) (parts_all _ _ _ c.loop-field-test.false none)
+    ∙ behind_end _))
 
 pub returns-else-is_empty : goal.returns-else-is_empty
 returns-else-is_empty c =

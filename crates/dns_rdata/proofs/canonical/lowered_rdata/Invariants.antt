@@ -7,4 +7,5 @@ use Rattle.dns_rdata.proofs.canonical.lowered_rdata.Given as goal
 
 -- what was lowered, and the fields that are left of the rest
 abbrev pub invariant-loop-field : goal.invariant-loop-field
-invariant-loop-field l = behind l.lowered.items (parts_in (drop l.field-index (map field_value l.fields)) l.rest) ≡ lowered_form l.fn.record_type.0 l.rdata
+invariant-loop-field l = behind l.lowered.items (parts_in (drop l.field-index (map field_value l.fields)) l.rest)
+    ≡ lowered_form l.fn.record_type.0 l.rdata

@@ -8,5 +8,6 @@ loop-index-init c = c.new-rising.ensures.empty ∙ sym (rising_start (canonical_
 
 pub loop-index-preserved : goal.loop-index-preserved
 loop-index-preserved c =
-    rising_put (canonical_form c.args.record_type.0) c.args.rdatas.now c.loop-index.index c.index-rdatas-index.result _ _ _ (omega arith) (omega arith)
+    rising_put (canonical_form c.args.record_type.0) c.args.rdatas.now c.loop-index.index c.index-rdatas-index.result _ _ _
+    (omega arith) (omega arith)
     c.index-rdatas-index.is c.in_ok-rdata.ensures c.loop-index.invariant c.in_ok-insert.ensures.keys

@@ -9,7 +9,8 @@ use Rattle.dns_rdata.proofs.signed.rising_records.Goals as goal
 pub loop-index-init : goal.loop-index-init
 loop-index-init c =
     let form = λ (r : Rr). canonical_form c.args.record_type.0 r.rdata in
-    c.new-rising.ensures.empty ∙ sym (ap rising_once (map-map (canonical_form c.args.record_type.0) (λ (r : Rr). r.rdata) _) ∙ rising_start form c.args.records.now)
+    c.new-rising.ensures.empty ∙ sym (ap rising_once (map-map (canonical_form c.args.record_type.0) (λ (r : Rr). r.rdata) _)
+    ∙ rising_start form c.args.records.now)
 
 pub loop-index-preserved : goal.loop-index-preserved
 loop-index-preserved c =

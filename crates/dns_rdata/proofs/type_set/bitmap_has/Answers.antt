@@ -18,14 +18,17 @@ loop-rest-preserved-then-found c =
     let h : 0 < length c.loop-rest.rest.now = grind (arith, nat_tests) in
     let f = found_more c.loop-rest.found c.args.record_type c.loop-rest.rest.now _ _ h (sym c.in-Some.ensures.window) in
     let g : c.loop-rest.found ≡ (c.loop-rest.found || window_has c.args.record_type c.in-Some.window) = rw c.if-found.true refl in
-    ap (λ found. found_or_has found c.args.record_type (windows_in c.in-Some.after.now c.in-Some.after.now)) g ∙ (sym f ∙ c.loop-rest.invariant)
+    ap (λ found. found_or_has found c.args.record_type (windows_in c.in-Some.after.now c.in-Some.after.now)) g
+    ∙ (sym f ∙ c.loop-rest.invariant)
 
 pub loop-rest-preserved : goal.loop-rest-preserved
 loop-rest-preserved c =
     let h : 0 < length c.loop-rest.rest.now = grind (arith, nat_tests) in
     let f = found_more c.loop-rest.found c.args.record_type c.loop-rest.rest.now _ _ h (sym c.in-Some.ensures.window) in
-    let g : c.has-found.result ≡ (c.loop-rest.found || window_has c.args.record_type c.in-Some.window) = rw c.if-found.false c.has-found.ensures in
-    ap (λ found. found_or_has found c.args.record_type (windows_in c.in-Some.after.now c.in-Some.after.now)) g ∙ (sym f ∙ c.loop-rest.invariant)
+    let g : c.has-found.result ≡ (c.loop-rest.found || window_has c.args.record_type c.in-Some.window) =
+    rw c.if-found.false c.has-found.ensures in
+    ap (λ found. found_or_has found c.args.record_type (windows_in c.in-Some.after.now c.in-Some.after.now)) g
+    ∙ (sym f ∙ c.loop-rest.invariant)
 
 pub returns : goal.returns
 returns c =

@@ -14,12 +14,14 @@ returns-in_default c =
 pub returns-then-not-follows : goal.returns-then-not-follows
 returns-then-not-follows c =
     let h : 0 < length c.loop-rest.rest.now = grind (arith, nat_tests) in
-    sym (sym c.loop-rest.invariant ∙ rises_stop c.loop-rest.last c.loop-rest.rest.now _ _ c.number-number.result h (sym c.in-Some.ensures.window) c.number-number.ensures (sym c.if-not-follows.ensures))
+    sym (sym c.loop-rest.invariant ∙ rises_stop c.loop-rest.last c.loop-rest.rest.now _ _ c.number-number.result h
+    (sym c.in-Some.ensures.window) c.number-number.ensures (sym c.if-not-follows.ensures))
 
 pub loop-rest-preserved : goal.loop-rest-preserved
 loop-rest-preserved c =
     let h : 0 < length c.loop-rest.rest.now = grind (arith, nat_tests) in
-    sym (rises_on c.loop-rest.last c.loop-rest.rest.now _ _ c.number-number.result h (sym c.in-Some.ensures.window) c.number-number.ensures (sym c.if-not-follows.ensures)) ∙ c.loop-rest.invariant
+    sym (rises_on c.loop-rest.last c.loop-rest.rest.now _ _ c.number-number.result h (sym c.in-Some.ensures.window)
+    c.number-number.ensures (sym c.if-not-follows.ensures)) ∙ c.loop-rest.invariant
 
 pub returns : goal.returns
 returns c =

@@ -5,12 +5,14 @@ use Rattle.dns_record.proofs.words.number_of.Goals as goal
 
 pub returns-then-eq : goal.returns-then-eq
 returns-then-eq c =
-    sym (number_here _ c.args.rows.now c.loop-row.row-index _ c.args.word.now (omega arith) (ap (λ w. bytes_eq w c.args.word.now) (sym c.as_bytes.ensures.value) ∙ sym c.eq.ensures ∙ c.if-eq.true))
+    sym (number_here _ c.args.rows.now c.loop-row.row-index _ c.args.word.now (omega arith)
+    (ap (λ w. bytes_eq w c.args.word.now) (sym c.as_bytes.ensures.value) ∙ sym c.eq.ensures ∙ c.if-eq.true))
     ∙ c.loop-row.invariant
 
 pub loop-row-preserved : goal.loop-row-preserved
 loop-row-preserved c =
-    sym (number_next _ c.args.rows.now c.loop-row.row-index _ c.args.word.now (omega arith) (ap (λ w. bytes_eq w c.args.word.now) (sym c.as_bytes.ensures.value) ∙ sym c.eq.ensures ∙ c.if-eq.false))
+    sym (number_next _ c.args.rows.now c.loop-row.row-index _ c.args.word.now (omega arith)
+    (ap (λ w. bytes_eq w c.args.word.now) (sym c.as_bytes.ensures.value) ∙ sym c.eq.ensures ∙ c.if-eq.false))
     ∙ c.loop-row.invariant
 
 pub returns : goal.returns

@@ -7,7 +7,8 @@ pub returns-in_err-push_back-clause-err : goal.returns-in_err-push_back-clause-e
 returns-in_err-push_back-clause-err c =
     after_error c.from_residual.result (
     unchanged c.args.places.now (c.get_mut.follows.lender c.push_back.new.self) c.args.key c.push_back.new.self
-    (c.in_err-push_back.ensures.items ∙ ap queue_items c.in-Some.ensures.value) ((c.get_mut.follows.holds c.push_back.new.self).3 (search rules))
+    (c.in_err-push_back.ensures.items ∙ ap queue_items c.in-Some.ensures.value)
+    ((c.get_mut.follows.holds c.push_back.new.self).3 (search rules))
     )
 
 pub returns-in-Some-clause-ok : goal.returns-in-Some-clause-ok

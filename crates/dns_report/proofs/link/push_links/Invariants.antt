@@ -7,7 +7,8 @@ use Rattle.dns_report.proofs.link.push_links.Given as goal
 
 abbrev pub invariant-links : goal.invariant-links
 invariant-links l =
-    (l.into.items ++ flat_map link_line (map shown_link (map link_value l.left)) ≡ l.initial.into.items ++ flat_map link_line (map shown_link (map link_value l.links)))
+    (l.into.items ++ flat_map link_line (map shown_link (map link_value l.left)) ≡ l.initial.into.items
+    ++ flat_map link_line (map shown_link (map link_value l.links)))
     × (list_all fitting_link (map shown_link (map link_value l.links)) ≡ list_all fitting_link (map shown_link (map link_value l.left)))
 
 abbrev pub decreases-links : goal.decreases-links

@@ -23,4 +23,5 @@ returns-clause-chains c =
     ∙ ap (λ t. t ++ report_end)
     (c.in_ok-push_body.ensures.ok ∙ ap (λ t. t ++ view_body (view_of c.args.parts c.args.answer.now)) c.new-text.ensures.items) in
     λ other j k fits same theirs mine. view_tells_chains j k c.args.parts other c.args.answer.now theirs mine
-    (text_tells_view (view_of c.args.parts other) (view_of c.args.parts c.args.answer.now) fits c.in_ok-push_body.ensures.fits (same ∙ written))
+    (text_tells_view (view_of c.args.parts other) (view_of c.args.parts c.args.answer.now) fits c.in_ok-push_body.ensures.fits
+    (same ∙ written))

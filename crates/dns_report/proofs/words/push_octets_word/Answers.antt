@@ -1,5 +1,5 @@
 use Rattle.std.proofs.Math.Facts.{Fits-lt-pow}
-use Rattle.dns_name.proofs.ReadSteps.{is_bytes-from_reads}
+use Rattle.dns_record.proofs.ReadSteps.{is_bytes-from_reads}
 use Rattle.dns_report.proofs.words.push_octets_word.Goals as goal
 
 pub returns-in_err-push-clause-fits : goal.returns-in_err-push-clause-fits

@@ -8,6 +8,6 @@ sends-init g c = (no_try _ _ _, refl)
 pub sends-preserved : goal.sends-preserved
 sends-preserved g c = (
   try_more _ _ _ _ _ _ _ _ _ _ c.sends.invariant.0 c.send_copy-reply.ensures.sent
-      c.in-None.ensures.due c.in-None.ensures.left c.in-None.ensures.busy,
+      c.in_default.ensures.due c.in_default.ensures.left c.in_default.ensures.busy,
   c.send_copy-reply.ensures.told ∙ c.sends.invariant.1,
 )

@@ -6,11 +6,11 @@ use Rattle.dns_run.proofs.CauseLemmas.{report_given, fault_tested}
 use Rattle.dns_run.proofs.outcome.reply_ending.Goals as goal
 
 pub returns-in_ok-text-in-Err : goal.returns-in_ok-text-in-Err
-returns-in_ok-text-in-Err c = λ s given.
-    fault_tested s c.in-Err.error c.is_no_memory.result _ c.is_no_memory.ensures c.if-is_no_memory.false
-    (subst (λ r. UnlessNoMemory r (AnswersSession s (reply_of r))) c.in-Err.is given) c.in_ok-text-in-Err.ensures
+returns-in_ok-text-in-Err c = λ how s given.
+    fault_tested how s c.in-Err.error c.is_no_memory.result _ c.is_no_memory.ensures c.if-is_no_memory.false
+    (subst (λ r. UnlessNoMemory r (AnswersSession how s (reply_of r))) c.in-Err.is given) c.in_ok-text-in-Err.ensures
 
 pub returns-in_ok-text-in-Ok : goal.returns-in_ok-text-in-Ok
-returns-in_ok-text-in-Ok c = λ s given.
-    report_given _ s c.in-Ok.answer _ (subst (λ r. UnlessNoMemory r (AnswersSession s (reply_of r))) c.in-Ok.is given)
+returns-in_ok-text-in-Ok c = λ how s given.
+    report_given how _ s c.in-Ok.answer _ (subst (λ r. UnlessNoMemory r (AnswersSession how s (reply_of r))) c.in-Ok.is given)
     c.in_ok-text-in-Ok.ensures.text c.in_ok-text-in-Ok.ensures.fits c.in_ok-text-in-Ok.ensures.tells

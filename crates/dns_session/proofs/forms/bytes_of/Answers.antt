@@ -10,7 +10,8 @@ returns-in-None c =
 pub loop-left-preserved : goal.loop-left-preserved
 loop-left-preserved c =
     rw c.in_ok-push-in-Some-u8_in.ensures.items
-    (next_byte c.loop-left.all.items c.in-Some.text.now c.next_word.result.0.now (option_copied c.next_word.result.1) _ _ (rw c.in-Some.is at c.loop-left.invariant) c.next_word.ensures.words c.in-Some-u8_in.ensures)
+    (next_byte c.loop-left.all.items c.in-Some.text.now c.next_word.result.0.now (option_copied c.next_word.result.1) _ _
+    (rw c.in-Some.is at c.loop-left.invariant) c.next_word.ensures.words c.in-Some-u8_in.ensures)
 
 pub returns : goal.returns
 returns c = all_bytes _ _ (rw c.in_default.is at c.loop-left.invariant)

@@ -1,6 +1,5 @@
 use Rattle.std.proofs.Common.{ap, ◌∙◌, rules}
-use Rattle.dns_evidence.specs.Listing.{answers_of}
-use Rattle.dns_session_lookup.specs.Soundness.{listing}
+use Rattle.dns_session_lookup.specs.Verifying.{answers_by, verifier_answers}
 use Rattle.dns_session_lookup.proofs.answering.session_lookup.Goals as goal
 
 pub returns : goal.returns
@@ -9,8 +8,8 @@ returns c =
       upstream = search rules;
       anchors = search rules;
       verifier =
-          ap answers_of c.in_ok-validator.ensures.verifier ∙ c.in_ok-verifier.ensures
-          ∙ ap (λ algorithms. answers_of (listing algorithms c.session.inside.accepts.items)) c.deref.ensures.value;
+          ap verifier_answers c.in_ok-validator.ensures.verifier ∙ c.in_ok-verifier.ensures
+          ∙ ap (λ algorithms. answers_by c.args.how algorithms c.session.inside.accepts.items) c.deref.ensures.value;
       iterations = search rules;
       cache = search rules;
       ranges = search rules;

@@ -5,7 +5,8 @@ use Rattle.dns_text.proofs.digits.decode_pairs.Goals as goal
 pub pairs-preserved : goal.pairs-preserved
 pairs-preserved c =
     rw (c.max-worst.ensures, c.max.ensures)
-    (pairs_step c.args.digits.now c.pairs.into c.pairs.at c.pairs.worst c.digit_value-high.result c.digit_value-low.result (omega arith) (omega arith)
+    (pairs_step c.args.digits.now c.pairs.into c.pairs.at c.pairs.worst c.digit_value-high.result c.digit_value-low.result
+    (omega arith) (omega arith)
     c.digit_value-high.ensures.value c.digit_value-low.ensures.value c.pairs.invariant)
 
 pub returns : goal.returns

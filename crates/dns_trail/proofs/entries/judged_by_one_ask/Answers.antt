@@ -14,7 +14,8 @@ returns g c =
     let asked : c.args.entry.now.asked ≡ c.in-Some.ask.now ∷ c.in-Some.left.now = search rules in
     let long : length c.in-Some.left.now ≡ 0 = search rules in
     let none = no_more c.in-Some.left.now long in
-    let asks : is_ask gr.limits.depth gr.earlier (gr.depth + 1) (ds_question c.args.placed.set.class c.args.placed.set.owner) c.in-Some.ask.now ≡ true = search rules in
+    let asks : is_ask gr.limits.depth gr.earlier (gr.depth + 1) (ds_question c.args.placed.set.class c.args.placed.set.owner)
+    c.in-Some.ask.now ≡ true = search rules in
     c.as_in_entry.ensures
     ∙ ds_given gr c.args.placed c.in_ok-set.set c.args.entry.now
     (listed c.answer_of-answer.result.now) c.in-Some.ask.now c.in-Some.left.now c.requires.needed

@@ -22,20 +22,20 @@ returns-in-Table g c =
     ok_map c.judged_by_rules.result
     (λ o h. h ∙ entry_given gr c.args.placed c.args.entry.now Table own origin) c.judged_by_rules.ensures
 
-pub returns-in-Ok : goal.returns-in-Ok
-returns-in-Ok g c =
+pub returns-in_ok-repeated-in-Repeat : goal.returns-in_ok-repeated-in-Repeat
+returns-in_ok-repeated-in-Repeat g c =
     let gr = step_context_by g.V.Verifier.answers c.args.context.now in
     let own : is_entry_of c.args.placed c.args.entry.now ≡ true = search rules in
     let origin : c.args.entry.now.origin ≡ Repeat c.in-Repeat.number = search rules in
     c.marked_if.ensures
-    ∙ ap (λ b. some_if b (with_entry (c.args.placed, c.args.entry.now))) c.in-Ok.ensures
+    ∙ ap (λ b. some_if b (with_entry (c.args.placed, c.args.entry.now))) c.in_ok-repeated-in-Repeat.ensures
     ∙ entry_given gr c.args.placed c.args.entry.now (Repeat c.in-Repeat.number) own origin
 
-pub returns-in-Ok-is_served : goal.returns-in-Ok-is_served
-returns-in-Ok-is_served g c =
+pub returns-in_ok-served-in-Cache : goal.returns-in_ok-served-in-Cache
+returns-in_ok-served-in-Cache g c =
     let gr = step_context_by g.V.Verifier.answers c.args.context.now in
     let own : is_entry_of c.args.placed c.args.entry.now ≡ true = search rules in
     let origin : c.args.entry.now.origin ≡ Cache = search rules in
     c.marked_if-in-Cache.ensures
-    ∙ ap (λ b. some_if b (with_entry (c.args.placed, c.args.entry.now))) c.in-Ok-is_served.ensures
+    ∙ ap (λ b. some_if b (with_entry (c.args.placed, c.args.entry.now))) c.in_ok-served-in-Cache.ensures
     ∙ entry_given gr c.args.placed c.args.entry.now Cache own origin

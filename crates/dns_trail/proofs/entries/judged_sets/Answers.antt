@@ -15,7 +15,8 @@ returns-in_default-split_first g c =
     let sets = bare c.sets.sets.items in
     let less = c.in-Some.ensures.items in
     let long : length c.sets.entries.now ≡ 0 = search rules in
-    left_alone gr p0 c.sets.placed.items c.pop.new.self.items c.in-Some.next e0 c.sets.entries.now sets c.sets.invariant less (no_more c.sets.entries.now long)
+    left_alone gr p0 c.sets.placed.items c.pop.new.self.items c.in-Some.next e0 c.sets.entries.now sets c.sets.invariant
+    less (no_more c.sets.entries.now long)
 
 pub returns-in_default-2 : goal.returns-in_default-2
 returns-in_default-2 g c =
@@ -26,7 +27,8 @@ returns-in_default-2 g c =
     let less = c.in-Some.ensures.items in
     let first : c.sets.entries.now ≡ c.in-Some-split_first.entry.now ∷ c.in-Some-split_first.others.now =
     search rules in
-    left_refused gr p0 c.sets.placed.items c.pop.new.self.items c.in-Some.next e0 c.sets.entries.now c.in-Some-split_first.others.now c.in-Some-split_first.entry.now sets
+    left_refused gr p0 c.sets.placed.items c.pop.new.self.items c.in-Some.next e0 c.sets.entries.now
+    c.in-Some-split_first.others.now c.in-Some-split_first.entry.now sets
     c.sets.invariant less first (sym (ap judged_if c.in_default-2.is) ∙ c.in_ok-set.ensures)
 
 pub sets-preserved : goal.sets-preserved
@@ -40,7 +42,8 @@ sets-preserved g c =
     search rules in
     let P : List MarkedSet → Type 0 = λ xs. AreLeft gr p0 c.pop.new.self.items e0 c.in-Some-split_first.others.now xs in
     subst P (sym (ap bare c.in_ok-push.ensures.items ∙ bare_set_more c.sets.sets.items c.in-Some-2.set))
-    (left_next gr p0 c.sets.placed.items c.pop.new.self.items c.in-Some.next e0 c.sets.entries.now c.in-Some-split_first.others.now c.in-Some-split_first.entry.now sets
+    (left_next gr p0 c.sets.placed.items c.pop.new.self.items c.in-Some.next e0 c.sets.entries.now
+    c.in-Some-split_first.others.now c.in-Some-split_first.entry.now sets
     c.in-Some-2.set.judged c.sets.invariant less first (sym (ap judged_if c.in-Some-2.is) ∙ c.in_ok-set.ensures))
 
 pub returns-then-is_empty : goal.returns-then-is_empty

@@ -10,7 +10,8 @@ each-init c = keeps_none _ _
 
 pub each-preserved : goal.each-preserved
 each-preserved c =
-    keyed_more c.each.places c.add_place.new.places c.args.entries.now c.each.place c.index-entries-place.result c.in_ok-key.key c.each-test.true
+    keyed_more c.each.places c.add_place.new.places c.args.entries.now c.each.place c.index-entries-place.result
+    c.in_ok-key.key c.each-test.true
     c.index-entries-place.is c.in_ok-key.ensures c.each.invariant c.in_ok-add_place.ensures
 
 pub returns : goal.returns

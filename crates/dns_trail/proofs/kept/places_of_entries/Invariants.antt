@@ -5,6 +5,3 @@ use Rattle.dns_trail.proofs.kept.places_of_entries.Given as goal
 -- the entries so far have their places
 abbrev pub invariant-each : goal.invariant-each
 invariant-each l = AreKeyed l.places (take l.place l.entries)
-
-abbrev pub decreases-each : goal.decreases-each
-decreases-each l = length l.entries - l.place

@@ -11,7 +11,8 @@ each-init c = keeps_none _ _
 
 pub each-preserved : goal.each-preserved
 each-preserved c =
-    indexed_more c.each.places c.add_place.new.places c.args.sets.now c.each.place c.index-sets-place.result c.in_ok-key.key c.each-test.true
+    indexed_more c.each.places c.add_place.new.places c.args.sets.now c.each.place c.index-sets-place.result c.in_ok-key.key
+    c.each-test.true
     c.index-sets-place.is c.in_ok-key.ensures c.each.invariant c.in_ok-add_place.ensures
 
 pub returns : goal.returns

@@ -6,6 +6,3 @@ use Rattle.dns_trail.proofs.places.places_of_sets.Given as goal
 -- the sets so far have their places
 abbrev pub invariant-each : goal.invariant-each
 invariant-each l = AreIndexed l.places (bare (take l.place l.sets))
-
-abbrev pub decreases-each : goal.decreases-each
-decreases-each l = length l.sets - l.place

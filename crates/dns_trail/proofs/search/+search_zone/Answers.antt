@@ -40,7 +40,8 @@ returns-in-Found g t c =
     search rules in
     let sees = sym c.probe_by.ensures ∙ ap probe_value c.in-Found.is in
     ok_map c.ask_zone.result
-    (λ m h start. h ∙ cut_proof gr c.args.class.0 start c.args.name.now c.args.asks.now c.in-Some.ask.now c.in-Some.left.now named first plain sees)
+    (λ m h start. h ∙ cut_proof gr c.args.class.0 start c.args.name.now c.args.asks.now c.in-Some.ask.now c.in-Some.left.now
+    named first plain sees)
     c.ask_zone.ensures
 
 pub returns-in_ok-above-in-Absent : goal.returns-in_ok-above-in-Absent

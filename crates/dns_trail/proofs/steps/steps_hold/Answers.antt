@@ -13,7 +13,8 @@ returns-in_default g c =
     let j = judge_of g.V.Verifier.answers c.args.judge.now in
     let kept = live c.args.judge.now.moment c.args.cached.now in
     let own = ap (at_step j c.args.limits kept (take c.steps.number c.args.steps.now)) c.step.view_is in
-    steps_fail j c.args.limits kept c.args.steps.now c.steps.number c.steps.ended.items c.index-steps-number.result _ c.steps.invariant c.steps-test.true
+    steps_fail j c.args.limits kept c.args.steps.now c.steps.number c.steps.ended.items c.index-steps-number.result _
+    c.steps.invariant c.steps-test.true
     c.index-steps-number.is own (sym c.in_default.is ∙ c.in_ok-next.ensures)
 
 pub steps-preserved : goal.steps-preserved

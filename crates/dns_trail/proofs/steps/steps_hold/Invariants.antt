@@ -8,6 +8,3 @@ use Rattle.dns_trail.proofs.steps.steps_hold.Given as goal
 abbrev pub invariant-steps : goal.invariant-steps
 invariant-steps g l =
     AreSteps (judge_of g.V.Verifier.answers l.judge) l.limits (live l.judge.moment l.cached) l.steps l.number l.ended.items
-
-abbrev pub decreases-steps : goal.decreases-steps
-decreases-steps g l = length l.steps - l.number

@@ -20,7 +20,8 @@ returns g c =
     let r = c.args.signature.now in
     let read : rrsig_of r ≡ Some c.in-Some.read = search rules in
     let first : c.args.asks.now ≡ c.in-Some-split_first.ask.now ∷ c.in-Some-split_first.left.now = search rules in
-    let asks : is_ask gr.limits.depth gr.earlier (gr.depth + 1) (key_question set.class c.in-Some.read.signer) c.in-Some-split_first.ask.now ≡ true = search rules in
+    let asks : is_ask gr.limits.depth gr.earlier (gr.depth + 1) (key_question set.class c.in-Some.read.signer)
+    c.in-Some-split_first.ask.now ≡ true = search rules in
     let own =
     ap (λ o. is_ask_for gr (option_map (λ sig. key_question set.class sig.signer) o) c.in-Some-split_first.ask.now) read
     ∙ asks in

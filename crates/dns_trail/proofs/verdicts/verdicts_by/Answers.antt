@@ -19,7 +19,8 @@ returns-in_default-2 g c =
     let first : c.signatures.signatures.now ≡ c.in-Some.signature.now ∷ c.in-Some.others.now = search rules in
     let none : tried_by gr c.args.set.now c.in-Some.signature.now c.signatures.asks.now ≡ None =
     sym c.in_ok-tried.ensures ∙ ap (option_map tried_value) c.in_default-2.is in
-    tried_none gr c.args.set.now done c.signatures.signatures.now c.in-Some.signature.now c.in-Some.others.now c.signatures.asks.now whole c.signatures.invariant first none
+    tried_none gr c.args.set.now done c.signatures.signatures.now c.in-Some.signature.now c.in-Some.others.now
+    c.signatures.asks.now whole c.signatures.invariant first none
 
 pub returns-then-proved : goal.returns-then-proved
 returns-then-proved g c =
@@ -27,14 +28,16 @@ returns-then-proved g c =
     let done = bare_verdicts (map verdict_value c.signatures.verdicts.items) in
     let whole = verdicts_by gr c.args.set.now c.args.signatures.now c.args.asks.now in
     let first : c.signatures.signatures.now ≡ c.in-Some.signature.now ∷ c.in-Some.others.now = search rules in
-    let tried : tried_by gr c.args.set.now c.in-Some.signature.now c.signatures.asks.now ≡ Some ((verdict_value c.in-Some-2.tried.verdict).verdict, c.in-Some-2.tried.left.now) =
+    let tried : tried_by gr c.args.set.now c.in-Some.signature.now c.signatures.asks.now
+    ≡ Some ((verdict_value c.in-Some-2.tried.verdict).verdict, c.in-Some-2.tried.left.now) =
     sym c.in_ok-tried.ensures ∙ ap (option_map tried_value) c.in-Some-2.is in
     let left = c.in-Some-2.tried.left.now in
     seen_further (λ v. v.items) (λ (vs : _). bare_verdicts (map verdict_value vs)) c.if_last.result
     (is_empty left) c.push.new.self.items c.if_last.ensures
     ∙ ap (λ vs. some_if (is_empty left) (bare_verdicts (map verdict_value vs))) c.in_ok-push.ensures.items
     ∙ ap (some_if (is_empty left)) (bare_more c.signatures.verdicts.items c.in-Some-2.tried.verdict)
-    ∙ tried_proved gr c.args.set.now done c.signatures.signatures.now c.in-Some.signature.now c.in-Some.others.now c.signatures.asks.now whole
+    ∙ tried_proved gr c.args.set.now done c.signatures.signatures.now c.in-Some.signature.now c.in-Some.others.now
+    c.signatures.asks.now whole
     (verdict_value c.in-Some-2.tried.verdict).verdict left c.signatures.invariant first tried (sym c.if-proved.ensures)
 
 pub signatures-preserved : goal.signatures-preserved
@@ -43,7 +46,8 @@ signatures-preserved g c =
     let done = bare_verdicts (map verdict_value c.signatures.verdicts.items) in
     let whole = verdicts_by gr c.args.set.now c.args.signatures.now c.args.asks.now in
     let first : c.signatures.signatures.now ≡ c.in-Some.signature.now ∷ c.in-Some.others.now = search rules in
-    let tried : tried_by gr c.args.set.now c.in-Some.signature.now c.signatures.asks.now ≡ Some ((verdict_value c.in-Some-2.tried.verdict).verdict, c.in-Some-2.tried.left.now) =
+    let tried : tried_by gr c.args.set.now c.in-Some.signature.now c.signatures.asks.now
+    ≡ Some ((verdict_value c.in-Some-2.tried.verdict).verdict, c.in-Some-2.tried.left.now) =
     sym c.in_ok-tried.ensures ∙ ap (option_map tried_value) c.in-Some-2.is in
     let left = c.in-Some-2.tried.left.now in
     let rest = verdicts_by gr c.args.set.now c.in-Some.others.now left in

@@ -7,5 +7,5 @@ use Rattle.dns_trust.proofs.chains.anchored_links.Goals as goal
 pub loop-key-preserved : goal.loop-key-preserved
 loop-key-preserved c =
     let same : c.deref-key-items.result.now ≡ c.args.set.now.records = search rules in
-    links_more link_value (anchored_link c.args.set.now) [] _ _ _ _ c.loop-key.key-index c.in_ok-link.link c.key-item.result
-    same c.loop-key-test.true c.key-item.is c.in_ok-link.ensures c.in_ok-push.ensures.items c.loop-key.invariant
+    links_more link_value (anchored_link c.args.set.now) [] _ _ _ _ c.loop-key.key-index _ c.key-item.result
+    same c.loop-key-test.true c.key-item.is c.in_ok-anchored_link.ensures c.in_ok-push.ensures.items c.loop-key.invariant

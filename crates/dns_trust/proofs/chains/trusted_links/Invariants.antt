@@ -8,4 +8,5 @@ use Rattle.dns_trust.proofs.chains.trusted_links.Given as goal
 abbrev pub invariant-loop-key : goal.invariant-loop-key
 invariant-loop-key g l =
     map link_value l.links.items
-    ≡ map link_value l.front.items ++ map (trusted_link (judge_of g.V.Verifier.answers l.judge) l.set l.ds_link l.ds.records) (take l.key-index l.set.records)
+    ≡ map link_value l.front.items ++ map (trusted_link (judge_of g.V.Verifier.answers l.judge) l.set l.ds_link l.ds.records)
+    (take l.key-index l.set.records)

@@ -9,7 +9,8 @@ returns-in_ok-push c =
     let few : length c.in-Some.there.now.items < 2 = omega arith in
     tag_updated c.args.counted.now _ c.push.new.self c.args.ds.now c.args.algorithm c.args.tag
     ((c.get_mut.follows.holds c.push.new.self).3 (search rules))
-    (tag_pushed c.args.counted.now c.in-Some.there.now c.push.new.self c.args.ds c.args.algorithm c.args.tag c.in-Some.ensures.value few c.in_ok-push.ensures.items)
+    (tag_pushed c.args.counted.now c.in-Some.there.now c.push.new.self c.args.ds c.args.algorithm c.args.tag
+    c.in-Some.ensures.value few c.in_ok-push.ensures.items)
 
 pub returns-else-len-lt-MOST_COUNTED : goal.returns-else-len-lt-MOST_COUNTED
 returns-else-len-lt-MOST_COUNTED c =
@@ -20,7 +21,9 @@ returns-else-len-lt-MOST_COUNTED c =
 
 pub returns : goal.returns
 returns c =
-    let one : c.push-2.new.self.items ≡ c.args.ds ∷ [] = c.in_ok-push-2.ensures.items ∙ ap (λ xs. xs ++ c.args.ds ∷ []) c.new-first.ensures.items in
+    let one : c.push-2.new.self.items ≡ c.args.ds ∷ [] = c.in_ok-push-2.ensures.items
+    ∙ ap (λ xs. xs ++ c.args.ds ∷ []) c.new-first.ensures.items in
     tag_updated c.args.counted.now _ c.push-2.new.self c.args.ds.now c.args.algorithm c.args.tag
-    (subst (λ m. Updates algorithm_tag_cmp m c.insert.new.self (c.args.algorithm, c.args.tag) (Some c.push-2.new.self)) c.get_mut.follows.holds-at-none c.in_ok-insert.ensures.updates)
+    (subst (λ m. Updates algorithm_tag_cmp m c.insert.new.self (c.args.algorithm, c.args.tag) (Some c.push-2.new.self))
+    c.get_mut.follows.holds-at-none c.in_ok-insert.ensures.updates)
     (tag_new c.args.counted.now c.push-2.new.self c.args.ds c.args.algorithm c.args.tag c.in_default.ensures.value one)

@@ -8,14 +8,16 @@ use Rattle.dns_trust.proofs.delegation.first_match.Goals as goal
 
 pub returns-then-is_match : goal.returns-then-is_match
 returns-then-is_match g c =
-    sym (find_here (λ (r : Rr). matches (g.V.Verifier.answers c.args.verifier.now) c.args.owner.now c.args.key.now.rdata r.rdata) (shown c.args.records.now)
+    sym (find_here (λ (r : Rr). matches (g.V.Verifier.answers c.args.verifier.now) c.args.owner.now c.args.key.now.rdata r.rdata)
+    (shown c.args.records.now)
     c.loop-ds.ds-index c.ds-item.result.now (shown_within c.args.records.now c.loop-ds.ds-index c.loop-ds-test.true)
     (shown_at c.args.records.now c.loop-ds.ds-index c.ds-item.result c.ds-item.is) (sym c.is_match.ensures ∙ c.if-is_match.true))
     ∙ c.loop-ds.invariant
 
 pub loop-ds-preserved : goal.loop-ds-preserved
 loop-ds-preserved g c =
-    find_past (λ (r : Rr). matches (g.V.Verifier.answers c.args.verifier.now) c.args.owner.now c.args.key.now.rdata r.rdata) (shown c.args.records.now)
+    find_past (λ (r : Rr). matches (g.V.Verifier.answers c.args.verifier.now) c.args.owner.now c.args.key.now.rdata r.rdata)
+    (shown c.args.records.now)
     c.loop-ds.ds-index c.ds-item.result.now (shown_within c.args.records.now c.loop-ds.ds-index c.loop-ds-test.true)
     (shown_at c.args.records.now c.loop-ds.ds-index c.ds-item.result c.ds-item.is) (sym c.is_match.ensures ∙ c.if-is_match.false)
     ∙ c.loop-ds.invariant

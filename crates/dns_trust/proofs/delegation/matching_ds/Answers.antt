@@ -10,7 +10,8 @@ pub returns-then-is_match : goal.returns-then-is_match
 returns-then-is_match g c =
     let test = λ (r : Rr). matches (g.V.Verifier.answers c.args.verifier.now) c.args.owner.now c.args.key.now.rdata r.rdata in
     let few : c.loop-ds.counted < 2 = omega arith in
-    sym (met_here test (is_ds_for c.args.owner.now c.args.key.now) c.args.records.now c.loop-ds.ds-index c.loop-ds.counted c.ds-item.result few
+    sym (met_here test (is_ds_for c.args.owner.now c.args.key.now) c.args.records.now c.loop-ds.ds-index c.loop-ds.counted
+    c.ds-item.result few
     c.loop-ds-test.true c.ds-item.is (sym c.is_ds_for.ensures ∙ c.if-is_ds_for.true) (sym c.is_match.ensures ∙ c.if-is_match.true))
     ∙ c.loop-ds.invariant.1
 
@@ -21,7 +22,8 @@ loop-ds-preserved g c =
     elim c.if-is_ds_for.branch [
       | then-is_ds_for+else-is_match w ↦ rw w.counted-is (
         omega arith,
-        met_past test (is_ds_for c.args.owner.now c.args.key.now) c.args.records.now c.loop-ds.ds-index c.loop-ds.counted c.ds-item.result few
+        met_past test (is_ds_for c.args.owner.now c.args.key.now) c.args.records.now c.loop-ds.ds-index c.loop-ds.counted
+            c.ds-item.result few
             c.loop-ds-test.true c.ds-item.is (sym c.is_ds_for.ensures ∙ w.if-is_ds_for.true) (sym w.is_match.ensures ∙ w.if-is_match.false)
             ∙ c.loop-ds.invariant.1,
       )

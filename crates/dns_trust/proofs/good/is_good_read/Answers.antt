@@ -1,25 +1,23 @@
 use Rattle.std.proofs.Common.{◌∙◌, sym}
 use Rattle.dns_trust.specs.Judge.{judge_of}
-use Rattle.dns_trust.proofs.Reading.{good_no_key, good_invalid, good_unusable, good_accepted}
+use Rattle.dns_trust.proofs.Reading.{good_no_key, good_revoked, good_as_unrevoked}
 use Rattle.dns_trust.proofs.good.is_good_read.Goals as goal
 
 pub returns-in_default-clause-good : goal.returns-in_default-clause-good
 returns-in_default-clause-good g c =
-    good_no_key (judge_of g.V.Verifier.answers c.args.judge.now) c.args.signature.now.set.now c.args.signature.now.sig.now c.args.key.now c.args.signature.now.read.now c.requires.read
+    good_no_key (judge_of g.V.Verifier.answers c.args.judge.now) c.args.signature.now.set.now c.args.signature.now.sig.now
+    c.args.key.now c.args.signature.now.read.now c.requires.read
     (sym c.of.ensures ∙ c.in_default.is)
 
-pub returns-then-not-is_valid-clause-good : goal.returns-then-not-is_valid-clause-good
-returns-then-not-is_valid-clause-good g c =
-    good_invalid (judge_of g.V.Verifier.answers c.args.judge.now) c.args.signature.now.set.now c.args.signature.now.sig.now c.args.key.now c.args.signature.now.read.now c.requires.read
-    (sym c.is_valid.ensures ∙ c.if-not-is_valid.true)
-
-pub returns-then-not-is_usable-clause-good : goal.returns-then-not-is_usable-clause-good
-returns-then-not-is_usable-clause-good g c =
-    good_unusable (judge_of g.V.Verifier.answers c.args.judge.now) c.args.signature.now.set.now c.args.signature.now.sig.now c.args.key.now c.args.signature.now.read.now c.in-Some.dnskey c.requires.read
-    (sym c.of.ensures ∙ c.in-Some.is) (sym c.is_usable.ensures ∙ c.if-not-is_usable.true)
+pub returns-then-is_revoked-clause-good : goal.returns-then-is_revoked-clause-good
+returns-then-is_revoked-clause-good g c =
+    good_revoked (judge_of g.V.Verifier.answers c.args.judge.now) c.args.signature.now.set.now c.args.signature.now.sig.now
+    c.args.key.now c.in-Some.dnskey
+    (sym c.of.ensures ∙ c.in-Some.is) (sym c.is_revoked.ensures ∙ c.if-is_revoked.true)
 
 pub returns-clause-good : goal.returns-clause-good
 returns-clause-good g c =
-    c.accepts_signature-accepted.ensures
-    ∙ good_accepted (judge_of g.V.Verifier.answers c.args.judge.now) c.args.signature.now.set.now c.args.signature.now.sig.now c.args.key.now c.args.signature.now.read.now c.in-Some.dnskey _ c.requires.read
-    (sym c.is_valid.ensures ∙ c.if-not-is_valid.false) (sym c.of.ensures ∙ c.in-Some.is) (sym c.is_usable.ensures ∙ c.if-not-is_usable.false) c.in_ok-bytes.ensures
+    rw (good_as_unrevoked (judge_of g.V.Verifier.answers c.args.judge.now) c.args.signature.now.set.now
+    c.args.signature.now.sig.now c.args.key.now c.in-Some.dnskey
+    (sym c.of.ensures ∙ c.in-Some.is) (sym c.is_revoked.ensures ∙ c.if-is_revoked.false))
+    c.is_good_by_read.ensures.good

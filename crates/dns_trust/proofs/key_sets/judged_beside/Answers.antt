@@ -10,5 +10,6 @@ pub returns : goal.returns
 returns g c =
     let j = judge_of g.V.Verifier.answers c.args.judge.now in
     let mark : marked_value c.in_ok-marked.marked ≡ marked_by_zone j c.args.placed.set (listed c.args.answer.now) =
-    subst (λ (p : PlacedSet). marked_value c.in_ok-marked.marked ≡ marked_by_zone j p.set (listed c.args.answer.now)) c.placed.view_is c.in_ok-marked.ensures in
+    subst (λ (p : PlacedSet). marked_value c.in_ok-marked.marked ≡ marked_by_zone j p.set (listed c.args.answer.now))
+    c.placed.view_is c.in_ok-marked.ensures in
     c.with_mark.ensures ∙ ap (chained_with c.args.placed) mark ∙ by_zone j c.args.placed (listed c.args.answer.now)

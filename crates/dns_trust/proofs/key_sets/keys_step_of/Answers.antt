@@ -9,5 +9,6 @@ pub returns-in-Some : goal.returns-in-Some
 returns-in-Some g c =
     let j = judge_of g.V.Verifier.answers c.args.judge.now in
     let mark : IsAnchorsMark j c.args.placed.set (Some c.in-Some.marked) =
-    subst (λ (p : PlacedSet). IsAnchorsMark j p.set (Some c.in-Some.marked)) c.placed.view_is (subst (IsAnchorsMark j c.placed.inside.set) c.in-Some.is c.in_ok-marked.ensures) in
+    subst (λ (p : PlacedSet). IsAnchorsMark j p.set (Some c.in-Some.marked)) c.placed.view_is
+    (subst (IsAnchorsMark j c.placed.inside.set) c.in-Some.is c.in_ok-marked.ensures) in
     (mark.0, c.with_mark.ensures ∙ ap (chained_with c.args.placed) mark.1 ∙ by_anchors j c.args.placed)

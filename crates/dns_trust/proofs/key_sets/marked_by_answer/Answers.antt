@@ -18,7 +18,8 @@ returns-in_default g c =
 pub returns-in-Some-ds_set_of : goal.returns-in-Some-ds_set_of
 returns-in-Some-ds_set_of g c =
     let j = judge_of g.V.Verifier.answers c.args.judge.now in
-    let one : find (λ (s : ChainedSet). is_ds_set_of c.args.set.now.class c.args.set.now.owner s.judged) c.in-Some.sets.items ≡ Some c.in-Some-ds_set_of.found.now =
+    let one : find (λ (s : ChainedSet). is_ds_set_of c.args.set.now.class c.args.set.now.owner s.judged) c.in-Some.sets.items
+    ≡ Some c.in-Some-ds_set_of.found.now =
     search rules in
     subst (λ w. IfOk c.marked_by_set.result (λ m. marked_value m ≡ w))
     (by_found j c.args.set.now c.in-Some.sets.items c.in-Some-ds_set_of.found.now one
@@ -28,7 +29,8 @@ returns-in-Some-ds_set_of g c =
 pub returns-in_ok-mark-in-None : goal.returns-in_ok-mark-in-None
 returns-in_ok-mark-in-None g c =
     let j = judge_of g.V.Verifier.answers c.args.judge.now in
-    let none : find (λ (s : ChainedSet). is_ds_set_of c.args.set.now.class c.args.set.now.owner s.judged) c.in-Some.sets.items ≡ None = search rules in
+    let none : find (λ (s : ChainedSet). is_ds_set_of c.args.set.now.class c.args.set.now.owner s.judged) c.in-Some.sets.items ≡ None =
+    search rules in
     c.refused-in-None.ensures
     ∙ ap unproved (c.in_ok-mark-in-None.ensures
     ∙ ap (λ (x : RrSet). (unsigned_mark (verdict_without_ds x.owner (bare c.deref-in-None.result.now))).mark) c.set.view_is

@@ -8,4 +8,5 @@ use Rattle.dns_trust.proofs.keys.matched_keys.Given as goal
 -- the matched keys so far are shown
 abbrev pub invariant-loop-key : goal.invariant-loop-key
 invariant-loop-key g l =
-    shown l.keys.items ≡ filter (is_matched_only (judge_of g.V.Verifier.answers l.judge) l.set l.ds.records) (take l.key-index l.set.records)
+    shown l.keys.items ≡ filter (is_matched_only (judge_of g.V.Verifier.answers l.judge) l.set l.ds.records)
+    (take l.key-index l.set.records)

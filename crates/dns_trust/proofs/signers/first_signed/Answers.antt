@@ -10,7 +10,8 @@ pub returns-in-Some : goal.returns-in-Some
 returns-in-Some g c =
     let j = judge_of g.V.Verifier.answers c.args.judge.now in
     let signer = signing_key j c.args.set.now (shown c.args.keys.now) in
-    sym (signed_here signer c.first_signatures-signatures.result.now c.loop-place.place c.index-signatures-place.result c.in-Some.key.now c.loop-place-test.true c.index-signatures-place.is
+    sym (signed_here signer c.first_signatures-signatures.result.now c.loop-place.place c.index-signatures-place.result
+    c.in-Some.key.now c.loop-place-test.true c.index-signatures-place.is
     (sym c.in_ok-key.ensures ∙ ap option_copied c.in-Some.is))
     ∙ c.loop-place.invariant
     ∙ sym (first_signed_by-from j c.args.set.now (shown c.args.keys.now) c.first_signatures-signatures.result.now)
@@ -19,7 +20,8 @@ returns-in-Some g c =
 pub loop-place-preserved : goal.loop-place-preserved
 loop-place-preserved g c =
     let signer = signing_key (judge_of g.V.Verifier.answers c.args.judge.now) c.args.set.now (shown c.args.keys.now) in
-    signed_past signer c.first_signatures-signatures.result.now c.loop-place.place c.index-signatures-place.result c.loop-place-test.true c.index-signatures-place.is
+    signed_past signer c.first_signatures-signatures.result.now c.loop-place.place c.index-signatures-place.result
+    c.loop-place-test.true c.index-signatures-place.is
     (sym c.in_ok-key.ensures ∙ ap option_copied c.in_default.is)
     ∙ c.loop-place.invariant
 

@@ -8,7 +8,8 @@ use Rattle.dns_trust.proofs.signers.signer_of_read.Goals as goal
 
 pub returns-then-branch : goal.returns-then-branch
 returns-then-branch g c =
-    sym (find_here (is_good_of (judge_of g.V.Verifier.answers c.args.judge.now) c.args.signature.now) (shown c.args.keys.now) c.loop-key.key-index
+    sym (find_here (is_good_of (judge_of g.V.Verifier.answers c.args.judge.now) c.args.signature.now) (shown c.args.keys.now)
+    c.loop-key.key-index
     c.key-item.result.now (shown_within c.args.keys.now c.loop-key.key-index c.loop-key-test.true)
     (shown_at c.args.keys.now c.loop-key.key-index c.key-item.result c.key-item.is)
     (sym c.in_ok-is_good_read.ensures.good ∙ c.if-branch.true))

@@ -17,7 +17,8 @@ returns-in_default g c =
 pub returns-in-Some-ds_set_of : goal.returns-in-Some-ds_set_of
 returns-in-Some-ds_set_of g c =
     let v = g.V.Verifier.answers c.args.verifier.now in
-    let one : find (λ (s : ChainedSet). is_ds_set_of c.args.class.0 c.args.zone.now s.judged) c.in-Some.sets.items ≡ Some c.in-Some-ds_set_of.found.now =
+    let one : find (λ (s : ChainedSet). is_ds_set_of c.args.class.0 c.args.zone.now s.judged) c.in-Some.sets.items
+    ≡ Some c.in-Some-ds_set_of.found.now =
     search rules in
     c.row_by_set.ensures ∙ found_row v c.args.class.0 c.args.zone.now c.in-Some.sets.items c.in-Some-ds_set_of.found.now one
     ∙ ap (λ o. row_of (zone_verdict v c.args.class.0 c.args.zone.now (option_map bare (listed o)))) (sym c.in-Some.is)

@@ -1,4 +1,4 @@
-use Rattle.dns_sockets.specs.Met.{dialer_view}
+use Rattle.dns_udp.specs.Met.{dialer_view}
 use Rattle.dns_udp.proofs.HoldLemmas.{holds_socket, holds_spare}
 use Rattle.dns_udp.proofs.open_sockets.keep_socket.Goals as goal
 

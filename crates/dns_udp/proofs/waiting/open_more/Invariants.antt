@@ -1,9 +1,11 @@
-use Rattle.std.proofs.Common.{◌-◌, ◌≤◌, List, length, Ok}
+use Rattle.std.proofs.Common.{◌-◌, ◌≤◌, List, length, None, Ok}
 use Rattle.dns_link.specs.Counts.{CountsValue}
 use Rattle.dns_link.specs.Moved.{DatagramValue}
-use Rattle.dns_sockets.specs.Bindings.{DrawsPorts}
-use Rattle.dns_sockets.specs.Met.{DialerView, dialer_view}
+use Rattle.dns_udp.specs.Bindings.{DrawsPorts}
+use Rattle.dns_udp.specs.Met.{DialerView, dialer_view}
 use Rattle.dns_udp.specs.OpenSockets.{Holds}
+use Rattle.dns_udp.specs.Asks.{AsksMore, ask_state}
+use Rattle.dns_udp.specs.Sendings.{plan_of}
 use Rattle.dns_udp.specs.Waiting.{Opens}
 use Rattle.dns_udp.proofs.waiting.open_more.Given as goal
 
@@ -18,6 +20,8 @@ invariant-loop-dial g l =
     (Ok tt))
     × (length l.fn.sockets.items ≤ length l.sockets.items)
     × DrawsPorts g.R.Draws.draws_port l.fn.draws l.draws
+    × AsksMore (plan_of g.D.Datagrams.Datagrams.calls g.R.Draws.draws_port l.sending)
+    (ask_state g.D.Dialer.calls l.fn.dial l.fn.draws l.fn.sockets.items) (ask_state g.D.Dialer.calls l.dial l.draws l.sockets.items) None
 
 abbrev pub decreases-loop-dial : goal.decreases-loop-dial
 decreases-loop-dial g l = l.tries - length l.sockets.items

@@ -1,6 +1,8 @@
-use Rattle.std.proofs.Common.{[], ◌∷◌, take, arith}
-use Rattle.dns_sockets.specs.Met.{dialer_view}
-use Rattle.dns_udp.specs.Sendings.{asked_by}
+use Rattle.std.proofs.Common.{[], ◌∷◌, take, refl, arith}
+use Rattle.dns_udp.specs.Met.{dialer_view}
+use Rattle.dns_udp.specs.Asks.{ask_state}
+use Rattle.dns_udp.specs.Sendings.{asked_by, plan_of}
+use Rattle.dns_udp.proofs.AskLemmas.{asks_failed, asks_heard, asks_judged}
 use Rattle.dns_udp.proofs.HoldLemmas.{holds_turn}
 use Rattle.dns_udp.proofs.SocketLemmas.{turned_none, turned_some}
 use Rattle.dns_udp.proofs.WaitLemmas.{taken_fits, turn_came, turn_failed, turn_fault, turn_opened, turn_quiet}
@@ -95,3 +97,39 @@ returns-in-Ok-Some-clause-ends g c = λ before from w.
 
 pub judge_front-requires-clause-inside : goal.judge_front-requires-clause-inside
 judge_front-requires-clause-inside g c = rw c.in-Ok-Some.field-0-is at c.in-Ok-Some.ensures.bound
+
+pub returns-in-Err-clause-asked : goal.returns-in-Err-clause-asked
+returns-in-Err-clause-asked g c = λ before from last h. c.in-Err.ensures.asked before from last h
+
+pub returns-in-Err-receive_in_turn-clause-asked : goal.returns-in-Err-receive_in_turn-clause-asked
+returns-in-Err-receive_in_turn-clause-asked g c = λ before from last h.
+    let opened = c.in-Ok.ensures.asked before from last h in
+    rw c.from.ensures
+    (asks_failed (plan_of g.D.Datagrams.Datagrams.calls g.R.Draws.draws_port c.args.sending.now) before from
+    (ask_state g.D.Dialer.calls c.open_more.new.dial c.open_more.new.draws c.open_more.new.sockets.items)
+    (ask_state g.D.Dialer.calls c.open_more.new.dial c.open_more.new.draws c.receive_in_turn.new.sockets.items) opened.0 opened.1
+    c.in-Err-receive_in_turn.kind refl refl c.receive_in_turn.ensures.len
+    (c.in-Err-receive_in_turn.ensures.asked _ opened.1.sent))
+
+pub returns-in-Ok-None-clause-asked : goal.returns-in-Ok-None-clause-asked
+returns-in-Ok-None-clause-asked g c = λ before from last h.
+    let opened = c.in-Ok.ensures.asked before from last h in (
+      opened.0,
+      asks_heard (plan_of g.D.Datagrams.Datagrams.calls g.R.Draws.draws_port c.args.sending.now) before from
+          (ask_state g.D.Dialer.calls c.open_more.new.dial c.open_more.new.draws c.open_more.new.sockets.items)
+          (ask_state g.D.Dialer.calls c.open_more.new.dial c.open_more.new.draws c.receive_in_turn.new.sockets.items) opened.0 opened.1
+          refl refl c.receive_in_turn.ensures.len (c.in-Ok-None.ensures.asked _ opened.1.sent),
+    )
+
+pub returns-in-Ok-Some-clause-asked : goal.returns-in-Ok-Some-clause-asked
+returns-in-Ok-Some-clause-asked g c = λ before from last h.
+    let opened = c.in-Ok.ensures.asked before from last h in
+    asks_judged (plan_of g.D.Datagrams.Datagrams.calls g.R.Draws.draws_port c.args.sending.now) before from
+    (ask_state g.D.Dialer.calls c.open_more.new.dial c.open_more.new.draws c.open_more.new.sockets.items)
+    (ask_state g.D.Dialer.calls c.open_more.new.dial c.open_more.new.draws c.receive_in_turn.new.sockets.items) opened.0 opened.1
+    c.args.sending.now.request.now c.args.sending.now.server
+    (take c.in-Ok-Some.came.0 c.receive_in_turn.new.buf, c.in-Ok-Some.came.1) c.judge_front.result c.judge_front.ensures
+    (asks_heard (plan_of g.D.Datagrams.Datagrams.calls g.R.Draws.draws_port c.args.sending.now) before from
+    (ask_state g.D.Dialer.calls c.open_more.new.dial c.open_more.new.draws c.open_more.new.sockets.items)
+    (ask_state g.D.Dialer.calls c.open_more.new.dial c.open_more.new.draws c.receive_in_turn.new.sockets.items) opened.0 opened.1
+    refl refl c.receive_in_turn.ensures.len (c.in-Ok-Some.ensures.asked _ opened.1.sent))

@@ -1,6 +1,7 @@
-use Rattle.std.proofs.Common.{◌+◌, ◌-◌, ◌<◌, ◌≤◌, length}
-use Rattle.dns_sockets.specs.Met.{dialer_view}
-use Rattle.dns_udp.specs.Sendings.{asked_by}
+use Rattle.std.proofs.Common.{◌+◌, ◌-◌, ◌<◌, ◌≤◌, length, None}
+use Rattle.dns_udp.specs.Met.{dialer_view}
+use Rattle.dns_udp.specs.Asks.{AsksOn, ask_state}
+use Rattle.dns_udp.specs.Sendings.{asked_by, plan_of}
 use Rattle.dns_udp.specs.Waiting.{IsWaiting}
 use Rattle.dns_udp.proofs.waiting.wait.Given as goal
 
@@ -13,6 +14,8 @@ invariant-turns g l =
     l.fn.draws l.draws l.sockets.items l.progress.elapsed l.progress.ignored
     × (l.progress.turn < length l.sockets.items)
     × (l.progress.ignored ≤ 65536)
+    × AsksOn (plan_of g.D.Datagrams.Datagrams.calls g.R.Draws.draws_port l.sending) (g.D.Dialer.calls l.fn.dial) l.fn.draws
+    (ask_state g.D.Dialer.calls l.dial l.draws l.sockets.items) None
 
 abbrev pub decreases-turns : goal.decreases-turns
 decreases-turns g l = (l.sending.timeout - l.progress.elapsed) + (65536 - l.progress.ignored)

@@ -1,6 +1,6 @@
 use Rattle.std.proofs.Common.{length, map, ap, ◌∙◌}
 use Rattle.std.specs.Option.{option_map}
-use Rattle.dns_proof.specs.Kinds.{kind_value}
+use Rattle.dns_cache.specs.Kinds.{kind_value}
 use Rattle.dns_validation.specs.Machine.{SoFar, StateValue}
 use Rattle.dns_validation.specs.Terms.{terms_of}
 use Rattle.dns_validation.proofs.KeepLemmas.{on_kept}

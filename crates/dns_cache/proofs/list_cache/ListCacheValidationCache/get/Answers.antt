@@ -7,30 +7,35 @@ use Rattle.dns_cache.proofs.list_cache.ListCacheValidationCache.get.Goals as goa
 pub invariant_of-self : goal.invariant_of-self
 invariant_of-self c =
     let at = hit_at c.args.key.now c.args.now c.self.inside.entries.items c.deref.result.now c.hit_place.result c.in-Some.place
-    c.in_ok-found-in-Some.found c.index.result.now c.deref.ensures.value c.hit_place.ensures c.in-Some.is c.in_ok-found-in-Some.ensures c.index.ensures in
+    c.in_ok-found-in-Some.found c.index.result.now c.deref.ensures.value c.hit_place.ensures c.in-Some.is
+    c.in_ok-found-in-Some.ensures c.index.ensures in
     subst IsCacheList
     (sym (got c.args.key.now c.args.now c.self.inside.entries.items c.move_to_front.new.entries.items c.self.inside.capacity c.in-Some.place
     c.in_ok-found-in-Some.found c.self.invariant.distinct at.0 at.1 c.move_to_front.ensures))
-    (is_list-got c.args.key.now c.args.now (record { entries = c.self.inside.entries.items; capacity = c.self.inside.capacity }) c.self.invariant)
+    (is_list-got c.args.key.now c.args.now (record { entries = c.self.inside.entries.items; capacity = c.self.inside.capacity })
+    c.self.invariant)
 
 pub returns-in_ok-found-in-Some-clause-given : goal.returns-in_ok-found-in-Some-clause-given
 returns-in_ok-found-in-Some-clause-given c =
     let at = hit_at c.args.key.now c.args.now c.self.inside.entries.items c.deref.result.now c.hit_place.result c.in-Some.place
-    c.in_ok-found-in-Some.found c.index.result.now c.deref.ensures.value c.hit_place.ensures c.in-Some.is c.in_ok-found-in-Some.ensures c.index.ensures in
+    c.in_ok-found-in-Some.found c.index.result.now c.deref.ensures.value c.hit_place.ensures c.in-Some.is
+    c.in_ok-found-in-Some.ensures c.index.ensures in
     find_passes (is_hit c.args.key.now c.args.now) c.self.inside.entries.items c.in_ok-found-in-Some.found
     (found_at (is_hit c.args.key.now c.args.now) c.self.inside.entries.items c.in-Some.place c.in_ok-found-in-Some.found at.0 at.1)
 
 pub returns-in_ok-found-in-Some-clause-found : goal.returns-in_ok-found-in-Some-clause-found
 returns-in_ok-found-in-Some-clause-found c =
     let at = hit_at c.args.key.now c.args.now c.self.inside.entries.items c.deref.result.now c.hit_place.result c.in-Some.place
-    c.in_ok-found-in-Some.found c.index.result.now c.deref.ensures.value c.hit_place.ensures c.in-Some.is c.in_ok-found-in-Some.ensures c.index.ensures in
+    c.in_ok-found-in-Some.found c.index.result.now c.deref.ensures.value c.hit_place.ensures c.in-Some.is
+    c.in_ok-found-in-Some.ensures c.index.ensures in
     sym (found_at (is_hit c.args.key.now c.args.now) c.self.inside.entries.items c.in-Some.place c.in_ok-found-in-Some.found at.0 at.1)
     ∙ ap (λ (v : CountedList). hit c.args.key.now c.args.now v.list) c.self.view_is
 
 pub returns-in_ok-found-in-Some-clause-after : goal.returns-in_ok-found-in-Some-clause-after
 returns-in_ok-found-in-Some-clause-after c =
     let at = hit_at c.args.key.now c.args.now c.self.inside.entries.items c.deref.result.now c.hit_place.result c.in-Some.place
-    c.in_ok-found-in-Some.found c.index.result.now c.deref.ensures.value c.hit_place.ensures c.in-Some.is c.in_ok-found-in-Some.ensures c.index.ensures in
+    c.in_ok-found-in-Some.found c.index.result.now c.deref.ensures.value c.hit_place.ensures c.in-Some.is
+    c.in_ok-found-in-Some.ensures c.index.ensures in
     ap Some
     (got c.args.key.now c.args.now c.self.inside.entries.items c.move_to_front.new.entries.items c.self.inside.capacity c.in-Some.place
     c.in_ok-found-in-Some.found c.self.invariant.distinct at.0 at.1 c.move_to_front.ensures
@@ -39,11 +44,13 @@ returns-in_ok-found-in-Some-clause-after c =
 pub returns-in_ok-found-in-Some-clause-listed : goal.returns-in_ok-found-in-Some-clause-listed
 returns-in_ok-found-in-Some-clause-listed c =
     let at = hit_at c.args.key.now c.args.now c.self.inside.entries.items c.deref.result.now c.hit_place.result c.in-Some.place
-    c.in_ok-found-in-Some.found c.index.result.now c.deref.ensures.value c.hit_place.ensures c.in-Some.is c.in_ok-found-in-Some.ensures c.index.ensures in
+    c.in_ok-found-in-Some.found c.index.result.now c.deref.ensures.value c.hit_place.ensures c.in-Some.is
+    c.in_ok-found-in-Some.ensures c.index.ensures in
     subst IsCacheList
     (sym (got c.args.key.now c.args.now c.self.inside.entries.items c.move_to_front.new.entries.items c.self.inside.capacity c.in-Some.place
     c.in_ok-found-in-Some.found c.self.invariant.distinct at.0 at.1 c.move_to_front.ensures))
-    (is_list-got c.args.key.now c.args.now (record { entries = c.self.inside.entries.items; capacity = c.self.inside.capacity }) c.self.invariant)
+    (is_list-got c.args.key.now c.args.now (record { entries = c.self.inside.entries.items; capacity = c.self.inside.capacity })
+    c.self.invariant)
 
 pub returns-in-None-clause-found : goal.returns-in-None-clause-found
 returns-in-None-clause-found c =

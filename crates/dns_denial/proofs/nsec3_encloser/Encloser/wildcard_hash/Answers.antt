@@ -7,8 +7,8 @@ use Rattle.dns_rules.specs.Nsec3Verdict.{hashed}
 use Rattle.dns_denial.specs.Enclosers.{EncloserValue}
 use Rattle.dns_denial.proofs.nsec3_encloser.Encloser.wildcard_hash.Goals as goal
 
-pub returns-in-Some : goal.returns-in-Some
-returns-in-Some c =
+pub returns-in-Some-clause-hash : goal.returns-in-Some-clause-hash
+returns-in-Some-clause-hash g c =
     let name : Labels = c.args.self.now.name in
     let inside : c.self.inside.name ≡ name = ap (λ (e : EncloserValue). e.name) c.self.view_is in
     let bytes : c.as_slice.result.now ≡ wire (star name) =
@@ -16,10 +16,10 @@ returns-in-Some c =
     let read : name_in c.as_slice.result.now ≡ Some (star name, []) = ap name_in bytes
     ∙ star_read name c.requires.is_name in
     let same : c.in-Some.wildcard ≡ star name = first_of_some (c.in-Some.ensures ∙ read) in
-    c.hash.ensures ∙ ap (hashed c.args.by.now) same
+    c.hash.ensures.hash ∙ ap (hashed c.args.by.now) same
 
-pub returns-in-None : goal.returns-in-None
-returns-in-None c =
+pub returns-in-None-clause-hash : goal.returns-in-None-clause-hash
+returns-in-None-clause-hash g c =
     let name : Labels = c.args.self.now.name in
     let inside : c.self.inside.name ≡ name = ap (λ (e : EncloserValue). e.name) c.self.view_is in
     let bytes : c.as_slice.result.now ≡ wire (star name) =

@@ -10,5 +10,6 @@ returns-then-place-len-clause-known c =
     let inside : one.place < length names.sizes.items = omega (arith, c.if-place-len.true, c.from-place.ensures, c.len.ensures) in
     let kept = put_kept c.args.bytes.now names.spelled.items name c.args.base one c.requires.there c.requires.inside c.requires.passed in
     rw (c.from-place.ensures, c.from.ensures, c.from-then-place-len.ensures)
-    (kept_put c.args.bytes.now names.spelled.items names.starts.items names.sizes.items one.place (c.args.base + one.size) (length name - one.size)
+    (kept_put c.args.bytes.now names.spelled.items names.starts.items names.sizes.items one.place (c.args.base + one.size)
+    (length name - one.size)
     c.requires.known inside kept)

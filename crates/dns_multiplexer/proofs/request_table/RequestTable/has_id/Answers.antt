@@ -7,4 +7,5 @@ use Rattle.dns_multiplexer.proofs.request_table.RequestTable.has_id.Goals as goa
 
 pub returns : goal.returns
 returns c = c.contains_key.ensures
-    ∙ sym (taken_id (tree.get nat_cmp c.self.inside.holders) (tree.get nat_cmp c.self.inside.queues) c.self.inside.count c.args.id c.self.invariant) ∙ ap (λ rs. is_taken_id rs c.args.id) c.self.view_is
+    ∙ sym (taken_id (tree.get nat_cmp c.self.inside.holders) (tree.get nat_cmp c.self.inside.queues) c.self.inside.count
+    c.args.id c.self.invariant) ∙ ap (λ t. is_taken_id t.requests c.args.id) c.self.view_is

@@ -11,7 +11,8 @@ returns-in-None c =
     let f = (tree.get nat_cmp c.self.inside.holders) in
     let number = c.args.number in
     ap (λ q. is_some (request_in f number q).life) c.in-None.ensures.value
-    ∙ sym (ap is_some (life_in_table f (tree.get nat_cmp c.self.inside.queues) c.self.inside.count number c.self.invariant)) ∙ ap (λ rs. is_some (life_of (slice_get rs number))) c.self.view_is
+    ∙ sym (ap is_some (life_in_table f (tree.get nat_cmp c.self.inside.queues) c.self.inside.count number c.self.invariant))
+    ∙ ap (λ t. is_some (life_of (slice_get t.requests number))) c.self.view_is
 
 pub returns-in-Some : goal.returns-in-Some
 returns-in-Some c =
@@ -19,4 +20,5 @@ returns-in-Some c =
     let number = c.args.number in
     c.is_held_by.ensures ∙ ap (λ i. is_some (life_under i number (f i))) c.id.ensures
     ∙ ap (λ q. is_some (request_in f number q).life) c.in-Some.ensures.value
-    ∙ sym (ap is_some (life_in_table f (tree.get nat_cmp c.self.inside.queues) c.self.inside.count number c.self.invariant)) ∙ ap (λ rs. is_some (life_of (slice_get rs number))) c.self.view_is
+    ∙ sym (ap is_some (life_in_table f (tree.get nat_cmp c.self.inside.queues) c.self.inside.count number c.self.invariant))
+    ∙ ap (λ t. is_some (life_of (slice_get t.requests number))) c.self.view_is

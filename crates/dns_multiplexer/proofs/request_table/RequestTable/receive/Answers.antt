@@ -3,7 +3,9 @@ use Rattle.std.specs.Ordering.{nat_cmp}
 use Rattle.std.specs.BTreeMap as tree
 use Rattle.dns_multiplexer.specs.Machine.{has_id, reply_at, changed_at, with_item}
 use Rattle.dns_multiplexer.specs.Tables.{takes_item, pushed}
-use Rattle.dns_multiplexer.proofs.TableLemmas.{table_changed, pushed_id, pushed_table}
+use Rattle.dns_multiplexer.specs.Brought.{with_event}
+use Rattle.dns_multiplexer.proofs.TableLemmas.{table_changed, pushed_id, pushed_table, unpushed_table}
+use Rattle.dns_multiplexer.proofs.BroughtLemmas.{pushed_brought, unpushed_brought}
 use Rattle.dns_multiplexer.proofs.TableCallLemmas.{stranger_told, arrival_told}
 use Rattle.std.specs.List.{position}
 use Rattle.dns_multiplexer.proofs.request_table.RequestTable.receive.Goals as goal
@@ -13,13 +15,13 @@ returns-in_default-clause-arrival c =
     let none : (tree.get nat_cmp c.self.inside.holders) c.args.id ≡ None = search rules in
     stranger_told (tree.get nat_cmp c.self.inside.holders) (tree.get nat_cmp c.self.inside.queues)
     c.self.inside.count c.args.id c.self.invariant none
-    ∙ ap (λ rs. reply_at rs (position (has_id c.args.id) rs)) c.self.view_is
+    ∙ ap (λ t. reply_at t.requests (position (has_id c.args.id) t.requests)) c.self.view_is
 
 pub invariant_of-self : goal.invariant_of-self
 invariant_of-self c =
     table_changed (tree.get nat_cmp c.self.inside.holders) (tree.get nat_cmp c.self.inside.queues)
     (tree.get nat_cmp c.push_item.new.queues) c.self.inside.count c.in-Some.holder.number
-    (pushed (Ok c.args.response)) (pushed_id (Ok c.args.response)) c.push_item.ensures.after c.self.invariant
+    (pushed (Ok c.args.response) c.args.event) (pushed_id (Ok c.args.response) c.args.event) c.push_item.ensures.after c.self.invariant
 
 pub returns-then-not-push_item-clause-arrival : goal.returns-then-not-push_item-clause-arrival
 returns-then-not-push_item-clause-arrival c =
@@ -27,13 +29,13 @@ returns-then-not-push_item-clause-arrival c =
     let full : takes_item ((tree.get nat_cmp c.self.inside.queues) c.in-Some.holder.number) ≡ false = search rules in
     arrival_told (tree.get nat_cmp c.self.inside.holders) (tree.get nat_cmp c.self.inside.queues)
     c.self.inside.count c.args.id c.in-Some.holder false c.self.invariant held full
-    ∙ ap (λ rs. reply_at rs (position (has_id c.args.id) rs)) c.self.view_is
+    ∙ ap (λ t. reply_at t.requests (position (has_id c.args.id) t.requests)) c.self.view_is
 
 pub invariant_of-self-2 : goal.invariant_of-self-2
 invariant_of-self-2 c =
     table_changed (tree.get nat_cmp c.self.inside.holders) (tree.get nat_cmp c.self.inside.queues)
     (tree.get nat_cmp c.push_item.new.queues) c.self.inside.count c.in-Some.holder.number
-    (pushed (Ok c.args.response)) (pushed_id (Ok c.args.response)) c.push_item.ensures.after c.self.invariant
+    (pushed (Ok c.args.response) c.args.event) (pushed_id (Ok c.args.response) c.args.event) c.push_item.ensures.after c.self.invariant
 
 pub returns-clause-arrival : goal.returns-clause-arrival
 returns-clause-arrival c =
@@ -41,12 +43,34 @@ returns-clause-arrival c =
     let room : takes_item ((tree.get nat_cmp c.self.inside.queues) c.in-Some.holder.number) ≡ true = search rules in
     arrival_told (tree.get nat_cmp c.self.inside.holders) (tree.get nat_cmp c.self.inside.queues)
     c.self.inside.count c.args.id c.in-Some.holder true c.self.invariant held room
-    ∙ ap (λ rs. reply_at rs (position (has_id c.args.id) rs)) c.self.view_is
+    ∙ ap (λ t. reply_at t.requests (position (has_id c.args.id) t.requests)) c.self.view_is
 
 pub returns-clause-after : goal.returns-clause-after
 returns-clause-after c =
     let room : takes_item ((tree.get nat_cmp c.self.inside.queues) c.in-Some.holder.number) ≡ true = search rules in
     pushed_table (tree.get nat_cmp c.self.inside.holders) (tree.get nat_cmp c.self.inside.queues)
     (tree.get nat_cmp c.push_item.new.queues) c.self.inside.count c.in-Some.holder.number
-    (Ok c.args.response) c.push_item.ensures.after room
-    ∙ ap (changed_at c.in-Some.holder.number (with_item (Ok c.args.response))) c.self.view_is
+    (Ok c.args.response) c.args.event c.push_item.ensures.after room
+    ∙ ap (λ t. changed_at c.in-Some.holder.number (with_item (Ok c.args.response)) t.requests) c.self.view_is
+
+pub returns-clause-brought : goal.returns-clause-brought
+returns-clause-brought c =
+    let room : takes_item ((tree.get nat_cmp c.self.inside.queues) c.in-Some.holder.number) ≡ true = search rules in
+    pushed_brought (tree.get nat_cmp c.self.inside.queues) (tree.get nat_cmp c.push_item.new.queues) c.self.inside.count
+    c.in-Some.holder.number (Ok c.args.response) c.args.event c.push_item.ensures.after room
+    ∙ ap (λ t. changed_at c.in-Some.holder.number (with_event c.args.event) t.brought) c.self.view_is
+
+pub returns-then-not-push_item-clause-after : goal.returns-then-not-push_item-clause-after
+returns-then-not-push_item-clause-after c =
+    let full : takes_item ((tree.get nat_cmp c.self.inside.queues) c.in-Some.holder.number) ≡ false = search rules in
+    unpushed_table (tree.get nat_cmp c.self.inside.holders) (tree.get nat_cmp c.self.inside.queues)
+    (tree.get nat_cmp c.push_item.new.queues) c.self.inside.count c.in-Some.holder.number
+    (Ok c.args.response) c.args.event c.push_item.ensures.after full
+    ∙ ap (λ t. t.requests) c.self.view_is
+
+pub returns-then-not-push_item-clause-brought : goal.returns-then-not-push_item-clause-brought
+returns-then-not-push_item-clause-brought c =
+    let full : takes_item ((tree.get nat_cmp c.self.inside.queues) c.in-Some.holder.number) ≡ false = search rules in
+    unpushed_brought (tree.get nat_cmp c.self.inside.queues) (tree.get nat_cmp c.push_item.new.queues) c.self.inside.count
+    c.in-Some.holder.number (Ok c.args.response) c.args.event c.push_item.ensures.after full
+    ∙ ap (λ t. t.brought) c.self.view_is

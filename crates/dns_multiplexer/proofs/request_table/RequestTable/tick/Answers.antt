@@ -1,7 +1,7 @@
-use Rattle.std.proofs.Common.{map, ap, ◌∙◌}
+use Rattle.std.proofs.Common.{ap}
 use Rattle.std.specs.Ordering.{nat_cmp}
 use Rattle.std.specs.BTreeMap as tree
-use Rattle.dns_multiplexer.specs.Machine.{ticked}
+use Rattle.dns_multiplexer.specs.Tables.{events_of}
 use Rattle.dns_multiplexer.proofs.TableEndLemmas.{ticked_table, ticked_is_table}
 use Rattle.dns_multiplexer.proofs.request_table.RequestTable.tick.Goals as goal
 
@@ -12,6 +12,9 @@ invariant_of-self c = ticked_is_table (tree.get nat_cmp c.self.inside.holders)
 
 pub returns : goal.returns
 returns c =
-    ticked_table (tree.get nat_cmp c.self.inside.holders) (tree.get nat_cmp c.expire.new.holders)
-    (tree.get nat_cmp c.self.inside.queues) c.self.inside.count c.args.timeout c.args.now c.expire.ensures
-    ∙ ap (map (ticked c.args.timeout c.args.now)) c.self.view_is
+    rw (← c.self.view_is) (ap (λ rs. record {
+      requests = rs;
+      brought = events_of (tree.get nat_cmp c.self.inside.queues) c.self.inside.count;
+    })
+    (ticked_table (tree.get nat_cmp c.self.inside.holders) (tree.get nat_cmp c.expire.new.holders)
+    (tree.get nat_cmp c.self.inside.queues) c.self.inside.count c.args.timeout c.args.now c.expire.ensures))

@@ -8,7 +8,8 @@ use Rattle.std.proofs.Common.{true}
 use Rattle.dns_rdata.proofs.folded_wire.FoldedWire.of_ref.Goals as goal
 
 -- the front of a buffer that the lowered bytes were put into
-folded_front : (name : Labels) (bytes copied low rest : List ℕ) → bytes ≡ wire name → is_name name ≡ true → copied ≡ bytes → low ≡ map to_ascii_lowercase copied → take (length bytes) (low ++ rest) ≡ wire (folded name)
+folded_front : (name : Labels) (bytes copied low rest : List ℕ) → bytes ≡ wire name → is_name name ≡ true → copied ≡ bytes
+    → low ≡ map to_ascii_lowercase copied → take (length bytes) (low ++ rest) ≡ wire (folded name)
 folded_front name bytes copied low rest w n c l =
     let lowered = l ∙ ap (map to_ascii_lowercase) c in
     let size = sym (ap length lowered ∙ length-map bytes to_ascii_lowercase) in

@@ -1,8 +1,0 @@
-use Rattle.std.proofs.Common.{◌<◌, ◌^◌, length}
-use Rattle.dns_bench.proofs.frames.cut_off.Given as goal
-
-abbrev pub invariant-frames : goal.invariant-frames
-invariant-frames l = length l.rest < 2 ^ 32
-
-abbrev pub decreases-frames : goal.decreases-frames
-decreases-frames l = length l.rest

@@ -1,0 +1,8 @@
+use Rattle.std.proofs.Common.{◌<◌, ◌^◌, length}
+use Rattle.dns_measure.proofs.frames.cut_off.Given as goal
+
+abbrev pub invariant-frames : goal.invariant-frames
+invariant-frames l = length l.rest < 2 ^ 32
+
+abbrev pub decreases-frames : goal.decreases-frames
+decreases-frames l = length l.rest

@@ -1,0 +1,62 @@
+-- The words that the program takes, and the statuses with which it ends.
+use Rattle.std.specs.Prelude.{ℕ, ◌≡◌, ◌<◌, ◌⊎◌, List, [], ◌∷◌, map, codes, Vec, Option, None, Some, if◌then◌else◌}
+use Rattle.std.specs.Option.{option_map, option_and_then}
+use Rattle.dns_model.specs.Keys.{bytes_eq}
+use Rattle.dns_text.specs.Words.{decimal_in}
+use Rattle.dns_io.specs.Reading.{OfInput}
+use Rattle.dns_io.specs.Runs.{Asked, FixedText, NoInput, AnInput}
+use Rattle.dns_io.specs.Writing.{bad_words_text, WritesText}
+use Rattle.dns_session.specs.Grammar.{session_of}
+use Rattle.dns_session.specs.Stops.{session_status}
+use Rattle.dns_measure.specs.declared.form.Form.{Form}
+use Rattle.dns_measure.specs.declared.form.Form.TheVariants.{Reading, Signed}
+use Rattle.dns_measure.specs.declared.form.Work.{Work}
+use Rattle.dns_measure.specs.declared.form.Work.TheVariants.{Decode, OnSession}
+use Rattle.dns_measure.specs.declared.form.SessionWork.TheVariants.{LookUp, LookUpAnew, Report, Verdicts}
+
+-- how often is a number of 32 bits
+abbrev pub passes_in : List ℕ → Option ℕ
+passes_in word = decimal_in 4294967295 word
+
+abbrev pub reading_form : Work → Option ℕ → Option Form
+reading_form work passes = option_map (λ n. Reading work n) passes
+
+abbrev pub signed_form : Option ℕ → Option ℕ → Option Form
+signed_form records passes = option_and_then (λ r. option_map (λ n. Signed r n) passes) records
+
+-- what words ask for: `report`, `verdicts`, `decode PASSES`, `lookup PASSES`, `anew PASSES`, or `signed RECORDS PASSES` with at most
+-- 65535 records
+abbrev pub form_in : List (List ℕ) → Option Form
+form_in (name ∷ []) =
+    if bytes_eq name (codes "report") then Some (Reading (OnSession Report) 1)
+    else if bytes_eq name (codes "verdicts") then Some (Reading (OnSession Verdicts) 1)
+    else None
+form_in (name ∷ passes ∷ []) =
+    if bytes_eq name (codes "decode") then reading_form Decode (passes_in passes)
+    else if bytes_eq name (codes "lookup") then reading_form (OnSession LookUp) (passes_in passes)
+    else if bytes_eq name (codes "anew") then reading_form (OnSession LookUpAnew) (passes_in passes)
+    else None
+form_in (name ∷ records ∷ passes ∷ []) =
+    if bytes_eq name (codes "signed") then signed_form (decimal_in 65535 records) (passes_in passes) else None
+form_in words = None
+
+-- what the words of a call ask for
+abbrev pub asked_form : {Z : Type 0} → List (Vec ℕ Z) → Option Form
+asked_form words = form_in (map (λ w. w.items) words)
+
+-- an input, work without one, or the text for words that are no form
+abbrev pub form_asks : Option Form → Asked
+form_asks None = FixedText
+form_asks (Some (Signed records passes)) = NoInput
+form_asks (Some (Reading work passes)) = AnInput
+
+-- the status of work on bytes: 3 where they are no frames, or no session
+abbrev pub EndsWork : Work → List ℕ → ℕ → Type 0
+EndsWork Decode bytes status = (status ≡ 0) ⊎ (status ≡ 3)
+EndsWork (OnSession work) bytes status = status ≡ session_status (session_of bytes)
+
+-- a status below 4, by what the words ask for; where a source tells no bytes, by some bytes
+abbrev pub EndsAsAsked : Option Form → ℕ → Option (List ℕ) → Option (List ℕ) → Option (List ℕ) → Type 0
+EndsAsAsked None status told before now = WritesText status 2 before now bad_words_text
+EndsAsAsked (Some (Signed records passes)) status told before now = status < 4 → status ≡ 0
+EndsAsAsked (Some (Reading work passes)) status told before now = status < 4 → OfInput told (λ bytes. EndsWork work bytes status)

@@ -1,0 +1,2 @@
+-- Definitions of what the program is asked for.
+pub mod Forms

@@ -1,0 +1,99 @@
+//! The words that the program takes.
+ghost use Rattle.std.specs.Prelude.{◌≡◌};
+ghost use Rattle.dns_text.specs.Words.{decimal_in};
+ghost use Rattle.dns_measure.specs.Forms.{asked_form, passes_in as passes_of_word, reading_form, signed_form};
+
+use dns_text::{decimal_in, u16_in};
+
+/// What is done with a session.
+#[derive(Clone, Copy)]
+pub enum SessionWork {
+    /// Its query is looked up, over one validator, whose cache is filled by the first lookup.
+    LookUp,
+    /// The same, each time with an empty cache.
+    LookUpAnew,
+    /// Any answer to it is reported with its trail: an Ok one, or that inside a denial. Once alone.
+    Report,
+    /// What the NSEC or NSEC3 records of each reply prove is told. Once alone.
+    Verdicts,
+}
+
+/// What is done with an input.
+#[derive(Clone, Copy)]
+pub enum Work {
+    /// Its messages are decoded.
+    Decode,
+    /// It is a session.
+    OnSession(SessionWork),
+}
+
+/// What the program is asked for.
+#[derive(Clone, Copy)]
+pub enum Form {
+    /// To read an input and to work on it so many times.
+    Reading(Work, u32),
+    /// To make the signed bytes of a set of so many records so many times.
+    Signed(u16, u32),
+}
+
+// How often.
+fn passes_in(word: &[u8]) -> Option<u32>
+    ensures { result ≡ passes_of_word word.now }
+{
+    let passes = decimal_in(word, 4_294_967_295)?;
+    Some(passes as u32)
+}
+
+// To work on an input as often as a word says.
+fn reading_form(work: Work, passes: &[u8]) -> Option<Form>
+    ensures { result ≡ reading_form work (passes_of_word passes.now) }
+{
+    let passes = passes_in(passes)?;
+    Some(Form::Reading(work, passes))
+}
+
+// To make signed bytes as two words say.
+fn signed_form(records: &[u8], passes: &[u8]) -> Option<Form>
+    ensures { result ≡ signed_form (decimal_in 65535 records.now) (passes_of_word passes.now) }
+{
+    let records = u16_in(records)?;
+    let passes = passes_in(passes)?;
+    Some(Form::Signed(records, passes))
+}
+
+/// What words ask for.
+pub(crate) fn form_of(words: &[Vec<u8>]) -> Option<Form>
+    ensures { result ≡ asked_form words.now }
+{
+    match words {
+        [name] => {
+            if name.as_slice() == b"report".as_slice() {
+                return Some(Form::Reading(Work::OnSession(SessionWork::Report), 1));
+            }
+            if name.as_slice() == b"verdicts".as_slice() {
+                return Some(Form::Reading(Work::OnSession(SessionWork::Verdicts), 1));
+            }
+            None
+        }
+        [name, passes] => {
+            if name.as_slice() == b"decode".as_slice() {
+                return reading_form(Work::Decode, passes);
+            }
+            if name.as_slice() == b"lookup".as_slice() {
+                return reading_form(Work::OnSession(SessionWork::LookUp), passes);
+            }
+            if name.as_slice() == b"anew".as_slice() {
+                return reading_form(Work::OnSession(SessionWork::LookUpAnew), passes);
+            }
+            None
+        }
+        [name, records, passes] => {
+            if name.as_slice() == b"signed".as_slice() {
+                signed_form(records, passes)
+            } else {
+                None
+            }
+        }
+        _ => None,
+    }
+}

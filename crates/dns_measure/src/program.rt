@@ -1,0 +1,195 @@
+//! The program over any source and any sink.
+ghost use Rattle.std.specs.Prelude.{◌≡◌, ◌<◌, ◌≤◌, length, IfOk};
+ghost use Rattle.dns_io.specs.Reading.{input_limit, OfInput};
+ghost use Rattle.dns_io.specs.Runs.{outside, AnInput, KeepsOutside, KeepsSink};
+ghost use Rattle.dns_session.specs.Grammar.{session_of};
+ghost use Rattle.dns_session.specs.Stops.{session_status};
+ghost use Rattle.dns_measure.specs.Forms.{asked_form, form_asks, EndsAsAsked, EndsWork};
+ghost use Rattle.dns_measure.specs.declared.form.Work.TheVariants.{Decode};
+
+use crate::counts::count_passes;
+use crate::form::{Form, SessionWork, Work, form_of};
+use crate::frames::cut_off;
+use crate::lookups::count_lookups;
+use crate::signing::signed_count;
+use crate::texts::{push_counts, push_line, push_lookups};
+use crate::trails::push_report;
+use crate::verdicts::push_lines;
+use dns_io::status::{self, read_status, refuse_long, refuse_words, write_text};
+use dns_io::{ReadStop, Sink, Source, read_all};
+use dns_record::NoMemory;
+use dns_session::{Session, SessionStop, read_session};
+use std::alloc::Global;
+
+// Decodes the frames of the bytes so many times, and puts what was counted behind a text, or which frame is cut off.
+fn decode(alloc: Global, passes: u32, bytes: &[u8], text: &mut Vec<u8>) -> Result<u8, NoMemory>
+    requires { length bytes.now ≤ input_limit }
+    ensures { IfOk result (λ status. EndsWork Decode bytes.now status) }
+{
+    if let Some(number) = cut_off(bytes) {
+        push_line(text, b"bad frame ", number)?;
+        return Ok(status::BAD_INPUT);
+    }
+    let counts = count_passes(alloc, passes, bytes)?;
+    push_counts(text, counts)?;
+    Ok(status::DONE)
+}
+
+// Looks a session up so many times, each time with an empty cache or not, and puts what was counted behind a text.
+fn push_counted(
+    alloc: Global,
+    passes: u32,
+    session: Session,
+    anew: bool,
+    text: &mut Vec<u8>,
+) -> Result<(), NoMemory> {
+    let counts = count_lookups(alloc, session, passes, anew)?;
+    push_lookups(text, counts)
+}
+
+// Puts the text of work on a session behind a text.
+fn push_text(
+    alloc: Global,
+    work: SessionWork,
+    passes: u32,
+    session: Session,
+    text: &mut Vec<u8>,
+) -> Result<(), NoMemory> {
+    match work {
+        SessionWork::Report => push_report(alloc, session, text),
+        SessionWork::Verdicts => push_lines(alloc, session, text),
+        SessionWork::LookUp => push_counted(alloc, passes, session, false, text),
+        SessionWork::LookUpAnew => push_counted(alloc, passes, session, true, text),
+    }
+}
+
+// Works on the session that the bytes are, and puts its text behind a text, or which line is bad.
+fn work_on(
+    alloc: Global,
+    work: SessionWork,
+    passes: u32,
+    bytes: &[u8],
+    text: &mut Vec<u8>,
+) -> Result<u8, NoMemory>
+    requires { length bytes.now ≤ input_limit }
+    ensures { IfOk result (λ status. status ≡ session_status (session_of bytes.now)) }
+{
+    match read_session(alloc, bytes) {
+        Ok(session) => {
+            push_text(alloc, work, passes, session, text)?;
+            Ok(status::DONE)
+        }
+        Err(SessionStop::BadLine(number)) => {
+            push_line(text, b"bad line ", number)?;
+            Ok(status::BAD_INPUT)
+        }
+        Err(SessionStop::NoMemory) => Err(NoMemory),
+    }
+}
+
+// Works on the bytes so many times.
+fn measure(
+    alloc: Global,
+    work: Work,
+    passes: u32,
+    bytes: &[u8],
+    text: &mut Vec<u8>,
+) -> Result<u8, NoMemory>
+    requires { length bytes.now ≤ input_limit }
+    ensures { IfOk result (λ status. EndsWork work bytes.now status) }
+{
+    match work {
+        Work::Decode => decode(alloc, passes, bytes, text),
+        Work::OnSession(work) => work_on(alloc, work, passes, bytes, text),
+    }
+}
+
+// Works on the bytes so many times, and writes what came of it.
+#[tactic(auto, using(crate::proofs::WorkLemmas::work_done))]
+fn write_measured<W: Sink>(
+    alloc: Global,
+    work: Work,
+    passes: u32,
+    bytes: &[u8],
+    output: &mut W,
+) -> u8
+    requires { length bytes.now ≤ input_limit }
+    ensures ends { result < 4 → EndsWork work bytes.now result }
+    ensures keeps { KeepsSink W.faults result output.old output.new }
+{
+    let mut text = Vec::new(alloc);
+    match measure(alloc, work, passes, bytes, &mut text) {
+        Ok(status) => write_text(status, &text, output),
+        Err(NoMemory) => status::NO_MEMORY,
+    }
+}
+
+// Reads an input and works on it.
+#[tactic(auto, using(dns_io::proofs::Leaving::of_read, dns_io::proofs::Runs::keeps_answered, dns_io::proofs::Runs::keeps_long, dns_io::proofs::Runs::keeps_stopped))]
+fn read_and_measure<S: Source, W: Sink>(
+    alloc: Global,
+    work: Work,
+    passes: u32,
+    input: &mut S,
+    output: &mut W,
+) -> u8
+    ensures ends { result < 4 → OfInput (S.left input.old) (λ bytes. EndsWork work bytes result) }
+    ensures outside { KeepsOutside (outside S.left S.faults W.taken W.faults W.takes_memory) AnInput
+        result input.old input.new output.old output.new }
+{
+    match read_all(alloc, input) {
+        Ok(bytes) => write_measured(alloc, work, passes, &bytes, output),
+        Err(ReadStop::TooLong) => refuse_long(output),
+        Err(stop) => read_status(stop),
+    }
+}
+
+// Makes signed bytes so many times, and puts how many that were behind a text.
+fn push_signed(
+    alloc: Global,
+    records: u16,
+    passes: u32,
+    text: &mut Vec<u8>,
+) -> Result<(), NoMemory> {
+    let count = signed_count(alloc, records, passes)?;
+    push_line(text, b"bytes ", count)
+}
+
+// The same, and writes it.
+fn write_signed<W: Sink>(alloc: Global, records: u16, passes: u32, output: &mut W) -> u8
+    ensures ends { result < 4 → result ≡ 0 }
+    ensures keeps { KeepsSink W.faults result output.old output.new }
+{
+    let mut text = Vec::new(alloc);
+    match push_signed(alloc, records, passes, &mut text) {
+        Ok(()) => write_text(status::DONE, &text, output),
+        Err(NoMemory) => status::NO_MEMORY,
+    }
+}
+
+/// Runs the program with its words, those after its name, and answers its status.
+///
+/// `report` writes the report, with its trail, on any response to a session, an Ok one or that inside a denial, of which `dns_check` writes
+/// one line; and the line of the error where there is none. `verdicts` writes a line for each reply. The others count.
+///
+/// 0: the counts or the text are written. 2: the words aren't a form, and nothing was read. 3: the input isn't one for the words' work; its
+/// first frame that is cut off is named, or its first bad line. 4: a read failed, and nothing is written. 5: a write failed
+/// after a prefix of the text. 6: memory ran out. 7: the input has more than 16,777,216 bytes.
+#[tactic(auto, using(dns_io::proofs::Runs::keeps_unread))]
+pub(crate) fn run<S: Source, W: Sink>(
+    alloc: Global,
+    words: &[Vec<u8>],
+    input: &mut S,
+    output: &mut W,
+) -> u8
+    // Words that are no form end with 2, other work with 0, or with 3 for an input that isn't one for it.
+    ensures ends { EndsAsAsked (asked_form words.now) result (S.left input.old) (W.taken output.old) (W.taken output.new) }
+    ensures outside { KeepsOutside (outside S.left S.faults W.taken W.faults W.takes_memory)
+        (form_asks (asked_form words.now)) result input.old input.new output.old output.new }
+{
+    match form_of(words) {
+        Some(Form::Reading(work, passes)) => read_and_measure(alloc, work, passes, input, output),
+        Some(Form::Signed(records, passes)) => write_signed(alloc, records, passes, output),
+        None => refuse_words(output),
+    }
+}

@@ -1,5 +1,0 @@
-use Rattle.dns_message.proofs.MessageWriting.{given_again}
-use Rattle.dns_message.proofs.message.Message.to_vec.Goals as goal
-
-pub returns-clause-again : goal.returns-clause-again
-returns-clause-again c = given_again c.args.self.now c.encode.result c.encode.ensures

@@ -1,4 +1,0 @@
-pub mod Parts
-pub mod NameSteps
-pub mod TextLemmas
-pub mod ReadSteps

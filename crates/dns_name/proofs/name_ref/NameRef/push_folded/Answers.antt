@@ -1,5 +1,0 @@
-use Rattle.dns_model.proofs.NameLemmas.{lower-wire}
-use Rattle.dns_name.proofs.name_ref.NameRef.push_folded.Goals as goal
-
-pub returns-clause-ok : goal.returns-clause-ok
-returns-clause-ok c = rw (← c.self.view_is, ← lower-wire _ c.self.invariant) c.push_lowered.ensures.ok

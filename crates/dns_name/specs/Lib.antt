@@ -1,3 +1,0 @@
-pub mod NameEnds
-pub mod LabelRuns
-pub mod Held

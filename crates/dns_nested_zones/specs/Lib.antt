@@ -1,3 +1,0 @@
-pub mod NestedZones
-pub mod Benches
-pub mod Parts

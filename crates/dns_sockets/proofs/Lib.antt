@@ -1,3 +1,0 @@
-pub mod MetLemmas
-pub mod BindingLemmas
-mod StreamLemmas

@@ -1,4 +1,0 @@
-pub mod Met
-pub mod Bindings
-pub mod StreamViews
-pub mod Streams

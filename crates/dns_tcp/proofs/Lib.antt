@@ -1,0 +1,14 @@
+pub mod SightLemmas
+pub mod ReadLemmas
+pub mod ReceiveLemmas
+pub mod LiveLemmas
+pub mod OursLemmas
+pub mod WriteLemmas
+pub mod CarryLemmas
+pub mod FrameLemmas
+pub mod FeedLemmas
+pub mod StepLemmas
+pub mod LinkLemmas
+pub mod SureLemmas
+pub mod CauseLemmas
+pub mod DrainLemmas
