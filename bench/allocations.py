@@ -3,7 +3,7 @@
 
     python3 bench/allocations.py [--program PROGRAM] SESSION..
 
-PROGRAM is the built dns_bench. What one lookup takes is taken off what some take, so that reading the session doesn't
+PROGRAM is the built dns_measure. What one lookup takes is taken off what some take, so that reading the session doesn't
 count. Unlike seconds the counts are the same on each run.
 """
 import argparse
@@ -43,7 +43,7 @@ def counted(program, session, lookups, file):
 
 def main():
     words = argparse.ArgumentParser()
-    words.add_argument("--program", default=passes.PROGRAM, help="the built program dns_bench")
+    words.add_argument("--program", default=passes.PROGRAM, help="the built program dns_measure")
     words.add_argument("sessions", nargs="+")
     asked = words.parse_args()
     program = passes.checked(asked.program)

@@ -1,5 +1,5 @@
 #!/usr/bin/env python3
-"""Messages a second that `dns_bench decode` decodes, beside other decoders over the same frames.
+"""Messages a second that `dns_measure decode` decodes, beside other decoders over the same frames.
 
     python3 bench/compare_decode.py --frames FILE PROGRAM PEER..
 
@@ -33,7 +33,7 @@ def main():
     words = argparse.ArgumentParser()
     words.add_argument("--frames", required=True, help="the file of frames")
     words.add_argument("--passes", type=int, default=PASSES)
-    words.add_argument("program", help="the built program dns_bench")
+    words.add_argument("program", help="the built program dns_measure")
     words.add_argument("peers", nargs="+", help="programs that take FILE PASSES")
     asked = words.parse_args()
     with open(asked.frames, "rb") as file:
@@ -41,7 +41,7 @@ def main():
     own = passes.decoding(passes.checked(asked.program), frames, asked.passes)
     decoded, refused, records = own.counts
     count = decoded + refused
-    print(f"{count} messages, {len(frames) / count - 2:.0f} bytes in the mean: dns_bench decodes {decoded} with {records} records, and "
+    print(f"{count} messages, {len(frames) / count - 2:.0f} bytes in the mean: dns_measure decodes {decoded} with {records} records, and "
           f"refuses {refused}")
     best = {peer: float("inf") for peer in asked.peers}
     for _ in range(TURNS):
@@ -50,7 +50,7 @@ def main():
             best[peer] = min(best[peer], peer_seconds(peer, asked.frames, asked.passes))
     fastest = min(best.values())
     print(f"{'program':24}{'messages/s':>12}{'to the fastest peer':>22}")
-    for name, taken in [("dns_bench", own.seconds()), *best.items()]:
+    for name, taken in [("dns_measure", own.seconds()), *best.items()]:
         print(f"{name.rsplit('/', 1)[-1]:24}{count / taken:12.0f}{fastest / taken:22.2f}")
 
 

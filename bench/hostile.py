@@ -3,7 +3,7 @@
 
     python3 bench/hostile.py [PROGRAM]
 
-PROGRAM is the built dns_bench. Each kind is as many bytes of frames. The best of nine runs of some passes is taken off
+PROGRAM is the built dns_measure. Each kind is as many bytes of frames. The best of nine runs of some passes is taken off
 the best of nine of twice as many, so that the program's start and its reading don't count; the kinds run by turns. A
 hostile kind has a limit: so many times the plain kind's seconds a byte. The status is 1 where one is over it.
 """
@@ -21,7 +21,7 @@ LIMITS = {plain: 1, chained: 15, long_named: 15, bare_pointers: 15, smallest: 15
 
 def main():
     words = argparse.ArgumentParser()
-    words.add_argument("program", nargs="?", default=passes.PROGRAM, help="the built program dns_bench")
+    words.add_argument("program", nargs="?", default=passes.PROGRAM, help="the built program dns_measure")
     path = passes.checked(words.parse_args().program)
     wanted = sum(len(plain(number)) for number in range(PLAIN_MESSAGES))
     rows = {}

@@ -4,7 +4,7 @@ warm one, whose sets are served from what the one before it kept.
 
     python3 bench/lookup.py [PROGRAM] [SESSION..]
 
-PROGRAM is the built dns_bench. Without sessions there are two: nine sets under three links each, and one set under a chain of six links.
+PROGRAM is the built dns_measure. Without sessions there are two: nine sets under three links each, and one set under a chain of six links.
 The best of nine runs of some passes is taken off the best of nine of twice as many, so that reading the session doesn't count, nor the one
 lookup that fills the cache. A cold lookup makes its cache, and lets go what the one before it kept.
 """
@@ -32,7 +32,7 @@ def measured(program, session):
 
 def main():
     words = argparse.ArgumentParser()
-    words.add_argument("program", nargs="?", default=passes.PROGRAM, help="the built program dns_bench")
+    words.add_argument("program", nargs="?", default=passes.PROGRAM, help="the built program dns_measure")
     words.add_argument("session", nargs="*", default=SESSIONS)
     asked = words.parse_args()
     program = passes.checked(asked.program)

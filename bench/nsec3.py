@@ -3,7 +3,7 @@
 
     python3 bench/nsec3.py [PROGRAM]
 
-PROGRAM is the built dns_bench. A name of 127 labels is denied in the root's zone by 1,000 records of 500 iterations, none of which matches a
+PROGRAM is the built dns_measure. A name of 127 labels is denied in the root's zone by 1,000 records of 500 iterations, none of which matches a
 name below the root, so that each of its ancestors is hashed, and the wildcard. The salt has 12 bytes: each round is over 32 bytes. A verdict's time is that of a
 session with many such replies less that of the same session asked of another zone, which its first row refuses; the best of nine runs of each. Beside it stands
 what `openssl speed` says of as many digests of 32 bytes.
@@ -16,7 +16,7 @@ import subprocess
 import sys
 import time
 
-PROGRAM = "crates/dns_bench/out/dns_bench"
+PROGRAM = "crates/dns_measure/out/dns_measure"
 LABELS, ITERATIONS, RECORDS, REPLIES, TURNS = 127, 500, 1000, 20, 9
 SALT = bytes(range(12))
 ALPHABET = "0123456789abcdefghijklmnopqrstuv"
@@ -77,7 +77,7 @@ def digests_a_second():
 
 def main():
     words = argparse.ArgumentParser()
-    words.add_argument("program", nargs="?", default=PROGRAM, help="the built program dns_bench")
+    words.add_argument("program", nargs="?", default=PROGRAM, help="the built program dns_measure")
     program = words.parse_args().program
     name = [b"a"] * LABELS
     reply = message(name)

@@ -1,4 +1,4 @@
-"""What the scripts over `dns_bench` share: its runs, what its passes alone take, and frames."""
+"""What the scripts over `dns_measure` share: its runs, what its passes alone take, and frames."""
 import os
 import resource
 import subprocess
@@ -6,7 +6,7 @@ import sys
 import time
 
 TOP = os.path.join(os.path.dirname(os.path.realpath(__file__)), "..")
-PROGRAM = os.path.join(TOP, "crates", "dns_bench", "out", "dns_bench")
+PROGRAM = os.path.join(TOP, "crates", "dns_measure", "out", "dns_measure")
 TURNS = 9
 # the passes must take at least this part of a run
 LEAST_SHARE = 4
@@ -16,7 +16,7 @@ def checked(path):
     """The whole path of a program, or the end with a word on what is missing."""
     path = os.path.abspath(path)
     if not os.access(path, os.X_OK):
-        sys.exit(f"no program at {path}: `rt run` in crates/dns_bench builds dns_bench into its folder out")
+        sys.exit(f"no program at {path}: `rt run` in crates/dns_measure builds dns_measure into its folder out")
     return path
 
 

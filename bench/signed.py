@@ -3,7 +3,7 @@
 
     python3 bench/signed.py [PROGRAM]
 
-PROGRAM is the built dns_bench; the records are addresses of one name. The best of nine runs of some passes is taken off the best of nine of twice as many. The
+PROGRAM is the built dns_measure; the records are addresses of one name. The best of nine runs of some passes is taken off the best of nine of twice as many. The
 status is 1 where a set is made less often than is wanted.
 """
 import argparse
@@ -19,7 +19,7 @@ PASSES = {1: 4_000_000, 13: 600_000}
 
 def main():
     words = argparse.ArgumentParser()
-    words.add_argument("program", nargs="?", default=passes.PROGRAM, help="the built program dns_bench")
+    words.add_argument("program", nargs="?", default=passes.PROGRAM, help="the built program dns_measure")
     path = passes.checked(words.parse_args().program)
     is_under = False
     print(f"{'records':>8}{'times a second':>16}{'wanted':>9}")

@@ -79,6 +79,13 @@ def name_error_by_two_records():
     return name_error("ns1.example"), says, TRAIL
 
 
+def name_error_beside_seven_others():
+    """of nine signed NSEC sets two deny the name and the wildcard; each asks for the keys of the zone"""
+    others = [nsec(f"o{k}.example", f"o{k + 1}.example", A) for k in range(7)]
+    session = asked(A, nsec("b.example", "ns1.example", NS), nsec("example", "a.example", SOA, NS), *others, code=NAME_ERROR)
+    return session, ["denial absent secure", "ending absent secure", "code 3", "chains 9", "asks 10"], TRAIL
+
+
 def name_error_of_a_name_with_another_below():
     """a record whose next name lies below the name: the name exists, so there is no name error"""
     return name_error("a.ml.example"), IS_BOGUS
@@ -240,7 +247,7 @@ def no_record_at_all_of_an_unsigned_zone():
     return no_records_of_an_unsigned_zone(), ["denial absent insecure", "last ending absent insecure 0 1 3", "asks 5"], TRAIL
 
 
-MADE = (name_error_by_two_records, name_error_of_a_name_with_another_below, type_that_a_name_lacks, denial_that_cannot_be_read,
+MADE = (name_error_by_two_records, name_error_beside_seven_others, name_error_of_a_name_with_another_below, type_that_a_name_lacks, denial_that_cannot_be_read,
         address_at_an_apex, expansion_with_its_denial, expansion_without_a_denial, expansion_past_a_closer_name,
         denial_in_the_answer_section, denial_in_the_additional_section,
         expanded_denial_beside_an_answer, denials_of_two_zones, denial_by_its_second_signature, ds_denied_by_its_own_zone,

@@ -186,12 +186,14 @@ class Lookup:
     # ---- what was kept
 
     def is_served(self, step, rrset):
-        """A set that an earlier step kept for the same question has its mark (RFC 4035, 4.5). The chain of a Secure one is tested."""
+        """A set that an earlier step kept for the same question has its mark (RFC 4035, 4.5). The chain of a Secure one is tested, but for
+        that of a key set that was asked for: it was accepted before."""
         number, kept = self.kept.get((folded(step.name), step.kind, rrset.key()), (None, None))
         if kept is None:
             return False
         rrset.repeat(number, kept)
-        self.questions += len(signatures_in(rrset.chain)) if rrset.mark == SIGNED else 0
+        is_asked = rrset.kind == step.kind == DNSKEY and rrset.section == "answer" and folded(rrset.owner) == folded(step.name)
+        self.questions += len(signatures_in(rrset.chain)) if rrset.mark == SIGNED and not is_asked else 0
         return True
 
     def keep(self, step):

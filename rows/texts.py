@@ -4,7 +4,7 @@ The reports here are of one zone, the root, whose keys are anchored or signed by
 session's `accept` lines accept or don't. Names are lists of labels, the leaf first."""
 MOMENT, INCEPTION, EXPIRATION, TTL = 1000, 900, 2000, 3600
 A, NS, MX, DS, RRSIG, NSEC, DNSKEY, OPAQUE, IN = 1, 2, 15, 43, 46, 47, 48, 65280, 1
-WORDS = {A: "A", NS: "NS", MX: "MX", DS: "DS", RRSIG: "RRSIG", DNSKEY: "DNSKEY"}
+WORDS = {A: "A", NS: "NS", MX: "MX", DS: "DS", RRSIG: "RRSIG", DNSKEY: "DNSKEY", 255: "ANY"}
 ALGORITHM = 13
 SIGNATURE = bytes.fromhex("c0de")
 # the key of the stored session: flags of a zone key, protocol 3, algorithm 13

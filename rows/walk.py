@@ -380,10 +380,10 @@ def questions_of_one_zone():
     of_other = Signed([Record([b"b"], A, ADDRESS)], KEY, b"\xda", OTHER)
     scene.accepts.extend(one.accept() for one in (by_key, *signed[1:]))
     scene.says(ROOT, NS, servers, [one.rrsig() for one in signed], authorities=expanded.section(), additionals=of_other.section())
-    # the first of 9 asks for the keys takes 4 questions, and each other one 1, for the chain that was kept; and 2 for the first
-    # signature, 2 for the sixth, 1 for the eighth
+    # the first of 9 asks for the keys takes 4 questions, and no other one any, since their chain was accepted then; and 2 for the
+    # first signature, 2 for the sixth, 1 for the eighth
     says = ["answer . NS secure", "set answer . NS secure table 7 0 1 2 3 4 5 6 7", "set authority a. NSEC bogus table - 8",
-            "set answer . DNSKEY secure repeat-0 1", "asks 10", "questions 17"]
+            "set answer . DNSKEY secure repeat-0 1", "asks 10", "questions 9"]
     return scene.session(ROOT, NS), says, TRAIL
 
 
@@ -401,9 +401,9 @@ def questions_of_a_walk():
     scene.delegates(EXAMPLE, [ds_of(EXAMPLE, one), ds_of(EXAMPLE, other)])
     scene.root()
     scene.accepts.extend([by_one.accept(), keys_by_one.accept()])
-    # the first ask for the keys: 1 for the DS set, 2 for the signature that is refused and 1 for the good one. The second one: 2 for the
-    # chain that was kept. Of the address the first signature is refused for both copies, and the second is good by the first copy
-    says = ["answer www.example. A secure", "set answer example. DNSKEY secure repeat-2 1", "asks 5", "questions 9"]
+    # the first ask for the keys: 1 for the DS set, 2 for the signature that is refused and 1 for the good one. The second one: none, since
+    # their chain was accepted then. Of the address the first signature is refused for both copies, and the second is good by the first copy
+    says = ["answer www.example. A secure", "set answer example. DNSKEY secure repeat-2 1", "asks 5", "questions 7"]
     return scene.session(WWW, A), says, TRAIL
 
 
@@ -476,6 +476,36 @@ def ds_ask_past_the_last_send():
     return session, finds(session, says), 0
 
 
+def thirty_sets_below_twelve_zones():
+    """thirty sets of one zone, each of which asks for the keys of the zone, whose chain has thirteen signed links"""
+    keys = [key_of(b"\xf0" + number(depth, 1)) for depth in range(13)]
+    zones = [[b"z"] * depth for depth in range(13)]
+    scene = Scene()
+    owners = [[b"n%d" % k, *zones[12]] for k in range(30)]
+    scene.says(owners[0], A, *(scene.signed([Record(owner, A, ADDRESS)], keys[12], zones[12]) for owner in owners))
+    for depth in range(12, 0, -1):
+        scene.has_keys(zones[depth], keys[depth:depth + 1])
+        scene.delegates(zones[depth], [ds_of(zones[depth], keys[depth])], keys[depth - 1], zones[depth - 1])
+    # the root's own key, by which its key set is signed, is anchored
+    scene.has_keys(ROOT, [KEY, keys[0]], KEY)
+    session = scene.session(owners[0], A)
+    return session, ["asks 55", "chains 30", "questions 43"], PLAIN
+
+
+def chain_of_sixty_three_links():
+    """a set below twenty zones, one below the other"""
+    keys = [key_of(b"\xf1" + number(depth, 1)) for depth in range(21)]
+    zones = [[b"z"] * depth for depth in range(21)]
+    scene = Scene()
+    scene.says(zones[20], A, scene.signed([Record(zones[20], A, ADDRESS)], keys[20], zones[20]))
+    for depth in range(20, 0, -1):
+        scene.has_keys(zones[depth], keys[depth:depth + 1])
+        scene.delegates(zones[depth], [ds_of(zones[depth], keys[depth])], keys[depth - 1], zones[depth - 1])
+    scene.has_keys(ROOT, [KEY, keys[0]], KEY)
+    session = scene.session(zones[20], A, depth=60)
+    return session, ["asks 42", "chains 1", "chain answer 63"], PLAIN
+
+
 MADE = (walk_by_ds, trail_of_a_walk_by_ds, keys_matched_by_each_digest, keys_anchored_or_matched, anchored_key_below_the_root,
         key_that_no_ds_matches_signs, third_key_of_one_tag_signs_its_set, ninth_signature_of_a_key_set, names_in_another_case,
         ds_of_another_zone_alone, ds_of_another_zone_beside, ds_set_signed_by_its_own_zone, ds_set_that_is_not_accepted,
@@ -483,7 +513,7 @@ MADE = (walk_by_ds, trail_of_a_walk_by_ds, keys_matched_by_each_digest, keys_anc
         unknown_digests_before_a_good_one, ds_of_another_tag_and_algorithm, ds_of_an_unknown_algorithm_alone,
         keys_beside_their_own_ds, keys_and_what_they_sign, set_signed_by_a_zone_beside, third_zone_with_depth_five,
         third_zone_with_depth_six, revoked_key_that_a_ds_matches, revoked_key_that_is_anchored, key_of_no_octets_beside,
-        questions_of_one_zone, questions_of_a_walk, questions_of_an_anchored_key_beside)
+        questions_of_one_zone, questions_of_a_walk, questions_of_an_anchored_key_beside, thirty_sets_below_twelve_zones, chain_of_sixty_three_links)
 
 
 if __name__ == "__main__":

@@ -1,4 +1,4 @@
-"""Sessions that are put to `dns_bench verdicts`, for `tools/zones` and `tools/verdicts`."""
+"""Sessions that are put to `dns_measure verdicts`, for `tools/zones` and `tools/verdicts`."""
 import concurrent.futures
 import os
 import subprocess
@@ -6,7 +6,7 @@ import sys
 import tempfile
 
 TOP = os.path.realpath(os.path.join(os.path.dirname(os.path.realpath(__file__)), ".."))
-CRATE = os.path.join(TOP, "crates", "dns_bench")
+CRATE = os.path.join(TOP, "crates", "dns_measure")
 
 
 def run_program(program, sessions):
