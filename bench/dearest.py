@@ -124,7 +124,7 @@ KINDS = (searches, owners, signatures, hashed)
 
 
 def seconds(path, text):
-    """The best of some runs, each of which must end with a report, or for want of memory."""
+    """The best of some runs, each of which must end with a report, or where memory runs out."""
     best, status = float("inf"), 0
     for _ in range(RUNS):
         start = time.perf_counter()
@@ -153,7 +153,7 @@ def main(words):
             sys.exit(f"no program at {path}: `rt run` in crates/dns_check builds it")
         for name, text in texts.items():
             taken, status = seconds(os.path.abspath(path), text)
-            ends = "" if status == 0 else ", and ends for want of memory"
+            ends = "" if status == 0 else ", and ends where memory runs out"
             print(f"{name:12} {len(text):10,} bytes {taken:8.2f} s{ends}", flush=True)
     else:
         sys.exit(__doc__)

@@ -213,7 +213,7 @@ impl<H: DnsHandle + Drop, V: Verifier + Drop, C: AcceptedBy<V> + Drop> DnssecDns
         ensures sends { OrUnsent (inner_of self.old) (inner_of self.new) result
             (SendsFor (Asking H.DnsHandle options now) (inner_of self.old) (inner_of self.new) query) }
 
-        // And whatever the result, the sends are a front of a run, or that and one send more whose reply was lost to want of memory:
+        // And whatever the result, the sends are a front of a run, or that and one send more whose reply was lost as memory ran out:
         // each the first one, or named by its asker's table for what was heard, in the order of sends, with its depth. The answer
         // is the one to which that run has come, or that memory ran out. What the cache has afterwards it had before, or it is of a set
         // that one of the sends heard.
@@ -239,7 +239,7 @@ impl<H: DnsHandle + Drop, V: Verifier + Drop, C: AcceptedBy<V> + Drop> DnssecDns
         ensures denies { IfOk result (λ a. ShowsItsDenial now query a) }
         ensures denied { DeniesQuery query (reply_of result) }
 
-        // An error without an answer inside, want of memory aside, is the handle's own, or names a record of another class than
+        // An error without an answer inside, running out of memory aside, is the handle's own, or names a record of another class than
         // the query's.
         ensures caused { HasItsCause H.DnsHandle
             (call_of V.Verifier C.ValidationCache self.old self.new query options now) (reply_of result) }

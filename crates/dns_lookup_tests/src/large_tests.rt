@@ -58,7 +58,7 @@ const UNSIGNED: Scene = Scene {
 /// A reply of six hundred records up to these.
 const MANY_FRONT: &[u8] = b"\0\0\x84\0\0\x01\x02\x58\0\0\0\0\x02aa\0\0\x01\0\x01";
 
-/// What stands behind the owner of each of them.
+/// What follows the owner of each of them.
 const ADDRESS: &[u8] = b"\0\0\x01\0\x01\0\0\x0e\x10\0\x04\xc0\0\x02\x01";
 
 /// Addresses of `aa.`, `ab.` and so on, each a set of its own.

@@ -298,7 +298,7 @@ fn ends_out_of_memory(
 }
 
 #[test]
-fn want_of_memory_ends_a_validation(rt: HostRuntime) {
+fn out_of_memory_ends_a_validation(rt: HostRuntime) {
     let anchors = anchors_of(&rt, rt.alloc(), unsigned_cut());
     let verifier = verifier_of_both(&rt, rt.alloc());
     let held = ends_out_of_memory(&rt, rt.alloc(), &anchors, &verifier);

@@ -6,7 +6,7 @@ use crate::sets_tests::{message_of, query};
 use dns_cache::{ProofError, ProofErrorKind};
 use dns_evidence::{Listed, MarkedSet, PlacedSet};
 use dns_flow::{
-    Ask, Got, Need, Phase, after, cause_after, found_of, start_cause, start_ending, start_set, turn,
+    Ask, Got, Need, Phase, cause_after, found_of, start_cause, start_ending, start_set,
 };
 use dns_message::Message;
 use dns_model::Proof;
@@ -42,7 +42,7 @@ fn one<T: Drop>(rt: &impl Abort, alloc: Global, item: T) -> Vec<T> {
 /// What the last phase needs.
 fn last_need(rt: &impl Abort, alloc: Global, phases: &mut Vec<Phase>) -> Need {
     let phase = phases.pop().expect(rt, "a phase");
-    turn(alloc, phase).expect(rt, "memory")
+    phase.turn(alloc).expect(rt, "memory")
 }
 
 fn is_query(rt: &impl Abort, alloc: Global, asked: &Asked, ask: &Ask) -> bool {
@@ -94,7 +94,9 @@ fn lead(
 ) {
     let phase = phases.pop().expect(rt, "a phase");
     lead_cause(rt, alloc, step, &phase, &got, causes);
-    let led = after(alloc, step.judge, step.query, step.message, phase, got).expect(rt, "memory");
+    let led = phase
+        .after(alloc, step.judge, step.query, step.message, got)
+        .expect(rt, "memory");
     phases.push(led).expect(rt, "memory");
 }
 

@@ -20,7 +20,7 @@ enum Zone {
     Bogus,
 }
 
-/// What it shows; the owner of a key set, its keys, how many copies of `KEY` stand behind them, and its signatures;
+/// What it shows; the owner of a key set, its keys, how many copies of `KEY` follow them, and its signatures;
 /// whether `KEY` is an anchor; the DS verdict; the mark at second 1500, nothing where it needs the DS verdict; and how
 /// often the verifier is asked.
 struct Row(

@@ -24,7 +24,7 @@ struct Told(
     Proof,
 );
 
-/// A verdict, by the number of its DS records or the text of its cause, or want of memory.
+/// A verdict, by the number of its DS records or the text of its cause, or running out of memory.
 enum Want {
     Signed(usize),
     Insecure(&'static str),
@@ -303,7 +303,7 @@ fn no_records(rt: &impl Abort, alloc: Global) -> NetError {
     NetError::from(NoRecords::new(alloc, query, ResponseCode(0)))
 }
 
-/// An ask that failed makes the verdict Bogus, with the question, but want of memory stays it.
+/// An ask that failed makes the verdict Bogus, with the question, and running out of memory is passed on.
 fn check_failed(rt: &impl Abort, alloc: Global, row: &str, error: NetError, want: &Want) {
     check_row(rt, row, gives(rt, alloc, IN, Err(error), want));
 }
@@ -323,7 +323,7 @@ fn zones_are_bogus_where_the_ask_failed(rt: HostRuntime) {
     check_failed(
         &rt,
         alloc,
-        "want of memory",
+        "running out of memory",
         NetError::NoMemory,
         &Want::NoMemory,
     );

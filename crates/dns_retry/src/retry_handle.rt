@@ -10,9 +10,9 @@ use std::alloc::Global;
 
 /// A handle that sends a request again after an error (RFC 1035, 4.2.1 and 7.1).
 ///
-/// Another send is due after an error while attempts are left, but not after one that it can't mend: `NoConnections`,
-/// `NoRecordsFound`, `DnssecBogus` and `NoMemory` are answered at once. `Busy` costs no attempt, and is answered when it
-/// comes for the 64th time in one call. With no attempt left each error is answered. An error that is answered, other than
+/// While attempts are left, an error brings another send. Four errors don't, since another send can't mend them: `NoConnections`,
+/// `NoRecordsFound`, `DnssecBogus` and `NoMemory`. `Busy` is tried again without using up an attempt, up to the 64th time in one
+/// call. With no attempt left each error is answered. An error that is answered, other than
 /// `NoRecordsFound` and `NoMemory`, is a fault of this handle.
 #[derive(Drop)]
 pub struct RetryDnsHandle<H: Drop> {

@@ -87,7 +87,7 @@ fn nowhere() -> SocketAddr {
 }
 
 /// The messages whose frames these pieces are, one behind the other (RFC 1035, 4.2.2). It doesn't matter where they are cut. An
-/// error other than want of memory comes only where the bytes are no row of frames.
+/// error other than running out of memory comes only where the bytes are no row of frames.
 pub fn unframe(alloc: Global, pieces: Vec<Octets>) -> Result<Vec<Octets>, NetError>
     requires { All (λ piece. piece ≢ []) pieces.items }
     ensures framed { IfOk result (λ messages. AreFrames (concat pieces.items) messages.items) }

@@ -18,7 +18,7 @@ use std::net::SocketAddr;
 ///
 /// A send writes all that waits, the request last, and then reads messages until one has the request's id; others are passed over.
 /// It answers `Timeout` after 1,024 of them, and `Io(UnexpectedEof)` where the link ended between two; then each later send is
-/// `NoConnections`. How long a read or a write waits is the link's. Each error that it answers is a fault, but for want of memory.
+/// `NoConnections`. How long a read or a write waits is the link's. Each error that it answers is a fault, but for running out of memory.
 #[derive(Drop)]
 pub struct TcpExchange<L: Link + Drop, R: Draws + Drop> {
     stream: TcpStream<L>,

@@ -20,7 +20,7 @@ use std::net::SocketAddr;
 
 /// Messages over a link, each behind its length (RFC 1035, 4.2.2).
 ///
-/// Messages wait in a queue until [`TcpStream::drain`] writes them. After any fault but want of memory nothing is read or written
+/// Messages wait in a queue until [`TcpStream::drain`] writes them. After any fault but running out of memory nothing is read or written
 /// any more.
 #[derive(Drop)]
 pub struct TcpStream<L: Link + Drop> {
@@ -108,7 +108,7 @@ impl<L: Link + Drop> TcpStream<L> {
         self.state.peer()
     }
 
-    /// How many faults `feed` and `drain` have answered, want of memory aside, and how often `feed` that the link was closed. It
+    /// How many faults `feed` and `drain` have answered, running out of memory aside, and how often `feed` that the link was closed. It
     /// stops at the greatest `u64`.
     pub fn failures(&self) -> u64
         ensures { result ≡ (state_of self.now).failures }

@@ -27,7 +27,7 @@ const CASES: &[Case] = &[
         given: &[],
     },
     Case {
-        message: "what stands behind a length of 0 is not read",
+        message: "what follows a length of 0 is not read",
         pieces: &[&[0, 0, 0, 1, 7]],
         answers: &[
             Heard::Fault(IoKind::BrokenPipe),

@@ -96,7 +96,7 @@ pub(crate) fn put<L: Link + Drop>(
     );
 }
 
-/// What stands behind the length in a frame.
+/// What follows the length in a frame.
 pub(crate) fn behind(frame: &[u8]) -> &[u8] {
     match frame {
         [_, _, message @ ..] => message,

@@ -1,4 +1,4 @@
-//! Whether the steps of a trail stand in the order in which they were sent and ended (RFC 4035, 4.3 and 5).
+//! Trails in order: each step after those that it waited for, as they were sent and ended (RFC 4035, 4.3 and 5).
 
 ghost use Rattle.std.specs.Prelude.{◌≡◌, ◌<◌, ◌-◌, suc, length};
 ghost use Rattle.dns_rules.specs.Asking.{most_sends};

@@ -46,7 +46,7 @@ fn accept_message(request: &Message, case: bool, message: Message) -> Accepted
     Accepted::Answer(message)
 }
 
-/// What bytes are called that are no message; want of memory says nothing of them.
+/// What bytes are called that are no message; running out of memory says nothing of them.
 fn undecodable(error: DecodeError) -> Result<Accepted, NoMemory>
     ensures { IsUndecodable error result }
 {

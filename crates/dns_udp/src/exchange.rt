@@ -10,7 +10,7 @@ use dns_multiplexer::Draws;
 use std::alloc::Global;
 
 /// A handle that sends each request by datagrams, under an id that is drawn. An error that it answers, other than that there are
-/// no records and want of memory, is a fault of this handle. A truncated response is given as it is.
+/// no records and running out of memory, is a fault of this handle. A truncated response is given as it is.
 #[derive(Drop)]
 pub struct UdpExchange<D: Drop, R: Drop> {
     stream: UdpClientStream,

@@ -133,7 +133,7 @@ impl<G: Datagrams + Drop> UdpStream<G> {
     }
 
     /// Puts a message into the queue, under the handle's address. `SendQueueFull` comes only where one more waits than the
-    /// handle's buffer holds, which is 33 messages for the handle that `new` and `with_bound` give; for want of memory, and where
+    /// handle's buffer holds, which is 33 messages for the handle that `new` and `with_bound` give; where memory runs out, and where
     /// the queue is full, nothing changes.
     pub fn enqueue(
         &mut self,
@@ -149,8 +149,8 @@ impl<G: Datagrams + Drop> UdpStream<G> {
     }
 
     /// Sends all messages that wait, each once and in order; one whose send fails is let go. Then it waits once for a datagram,
-    /// of 4,096 bytes at most. None comes exactly where none came in time; an error other than want of memory where the wait
-    /// failed. For want of memory nothing is sent.
+    /// of 4,096 bytes at most. None comes exactly where none came in time; an error other than running out of memory where the wait
+    /// failed. Where memory runs out nothing is sent.
     pub fn receive(&mut self, alloc: Global) -> Result<Option<SerialMessage>, NetError>
         ensures received { (result ≡ Err errors.NoMemory) ⊎ HasReceived (queue_of self.old) (G.counts (socket_of self.old))
             (G.counts (socket_of self.new)) (G.given (socket_of self.old)) (G.given (socket_of self.new)) result }

@@ -9,7 +9,7 @@ use dns_message::Edns;
 use dns_record::{NoMemory, Octets, Query};
 use std::alloc::Global;
 
-/// The request of an ask whose reply is judged (RFC 4035, 4.1; RFC 6840, 5.7) or only seen. The only error is want of memory.
+/// The request of an ask whose reply is judged (RFC 4035, 4.1; RFC 6840, 5.7) or only seen. The only error is running out of memory.
 pub fn request_for(
     alloc: Global,
     query: &Query,

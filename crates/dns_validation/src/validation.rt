@@ -77,7 +77,7 @@ impl<'a, V: Verifier> Validation<'a, V> {
     ghost use Rattle.dns_validation.specs.Validations.{AcceptedWhereKept, terms_in, state_of, terms_by, wanted_in};
 
     /// Begins with a query. Its own request is sent for it, as that of each judged ask: with EDNS and DO, AD set and CD clear. The
-    /// only error is want of memory. NSEC3 records prove something up to so many iterations of their hash.
+    /// only error is running out of memory. NSEC3 records prove something up to so many iterations of their hash.
     pub fn new(
         alloc: Global,
         judge: Judge<'a, V>,
@@ -97,7 +97,7 @@ impl<'a, V: Verifier> Validation<'a, V> {
     }
 
     /// Begins with a query and the request that is sent for it, with EDNS and DO, AD set and CD clear: else as it is given. The
-    /// other asks are by the options of the request. The only error is want of memory.
+    /// other asks are by the options of the request. The only error is running out of memory.
     pub fn by_request(
         alloc: Global,
         judge: Judge<'a, V>,
@@ -135,7 +135,7 @@ impl<'a, V: Verifier> Validation<'a, V> {
         }
     }
 
-    /// Takes the reply to what it asked, and goes on. Want of memory, also as the reply, ends it. Where nothing waits for a reply, it
+    /// Takes the reply to what it asked, and goes on. Running out of memory, also as the reply, ends it. Where nothing waits for a reply, it
     /// lets it go.
     pub fn answer(&mut self, reply: Result<DnsResponse, NetError>)
         ensures terms { terms_in V.answers self.new ≡ terms_in V.answers self.old }
