@@ -1,7 +1,7 @@
 -- For how many sets a lookup has asked its cache: at most one hit each.
-use Rattle.std.proofs.Common.{ℕ, ◌+◌, ◌≡◌, ◌≤◌, Bool, true, false, List, [], ◌∷◌, ◌++◌, drop, length, slice_get, Option, None, Some, Result, Ok, Err, if◌then◌else◌, refl, ap, sym, ◌∙◌, arith, sum_by}
+use Rattle.std.proofs.Common.{ℕ, ◌+◌, ◌≡◌, ◌≤◌, Bool, true, false, List, [], ◌∷◌, ◌++◌, drop, length, slice_get, Option, None, Some, Result, Ok, Err, if◌then◌else◌, refl, ap, sym, ◌∙◌, arith}
 use Rattle.std.proofs.lemmas.List.{length-append}
-use Rattle.std.proofs.lemmas.List.Sums.{sum_by-cons}
+use Rattle.std.proofs.lemmas.List.Sums.{sum_by_push}
 use Rattle.std.specs.Option.{IsSome, option_and_then, option_map}
 use Rattle.dns_model.specs.Counts.{one_more}
 use Rattle.dns_model.specs.declared.proof.Proof.{Proof}
@@ -170,24 +170,12 @@ ends_none (Concluded x) o is = refl
 
 -- ---- counts
 
-none_before : (n : ℕ) → n ≡ 0 + n
-none_before n = omega arith
-
-sum_append : {X : Type 0} (f : X → ℕ) (xs ys : List X) → sum_by f (xs ++ ys) ≡ sum_by f xs + sum_by f ys
-sum_append f [] ys = none_before (sum_by f ys)
-sum_append f (x ∷ xs) ys =
-    let here = sum_by-cons f x (xs ++ ys) in
-    let there = sum_by-cons f x xs in
-    let rest = sum_append f xs ys in
-    omega (arith, here, there, rest)
-
 pushed_step : (steps : List AskedValue) (step : AskedValue)
     → all_sets (steps ++ step ∷ []) ≡ all_sets steps + length step.sets
 pushed_step steps step =
     let count : AskedValue → ℕ = λ s. length s.sets in
-    let here = sum_append count steps (step ∷ []) in
-    let one = sum_by-cons count step [] in
-    omega (arith, here, one)
+    let here = sum_by_push count steps step in
+    omega (arith, here)
 
 pushed_set : (sets : List JudgedSetValue) (set : JudgedSetValue) → length (sets ++ set ∷ []) ≡ length sets + 1
 pushed_set sets set = length-append sets (set ∷ [])

@@ -1,6 +1,6 @@
 -- How many sets are served from a cache: each of them by one hit.
-use Rattle.std.proofs.Common.{ℕ, ◌+◌, ◌≡◌, ◌≤◌, Bool, true, false, cond, List, [], ◌∷◌, ◌++◌, length, Option, None, Some, Result, Ok, Err, refl, ap, arith, sum_by}
-use Rattle.std.proofs.lemmas.List.Sums.{sum_by-cons}
+use Rattle.std.proofs.Common.{ℕ, ◌+◌, ◌≡◌, ◌≤◌, Bool, true, false, cond, List, [], ◌∷◌, ◌++◌, length, Option, None, Some, Result, Ok, Err, refl, ap, arith}
+use Rattle.std.proofs.lemmas.List.Sums.{sum_by_push}
 use Rattle.std.specs.Option.{option_map}
 use Rattle.dns_model.specs.Counts.{RoseBy, one_more}
 use Rattle.dns_model.specs.declared.proof.Proof.TheVariants.{Bogus}
@@ -45,37 +45,21 @@ rose_none a = omega arith
 pub rose_more : (n m a b c : ℕ) → m ≤ n + 1 → RoseBy n a b → c ≡ one_more b → RoseBy m a c
 rose_more n m a b c less rose is = omega (arith, less, rose, is)
 
-none_before : (n : ℕ) → n ≡ 0 + n
-none_before n = omega arith
-
-sum_append : {X : Type 0} (f : X → ℕ) (xs ys : List X) → sum_by f (xs ++ ys) ≡ sum_by f xs + sum_by f ys
-sum_append f [] ys = none_before (sum_by f ys)
-sum_append f (x ∷ xs) ys =
-    let here = sum_by-cons f x (xs ++ ys) in
-    let there = sum_by-cons f x xs in
-    let rest = sum_append f xs ys in
-    omega (arith, here, there, rest)
-
 abbrev of_cache : JudgedSetValue → ℕ
 of_cache set = cond (was_kept set.origin) 1 0
-
-sum_one : {X : Type 0} (f : X → ℕ) (x : X) → sum_by f (x ∷ []) ≡ f x
-sum_one f x = let here = sum_by-cons f x [] in omega (arith, here)
 
 pushed_entry : (sets : List JudgedSetValue) (set : JudgedSetValue)
     → from_cache (sets ++ set ∷ []) ≡ from_cache sets + of_cache set
 pushed_entry sets set =
-    let here = sum_append of_cache sets (set ∷ []) in
-    let one = sum_one of_cache set in
-    omega (arith, here, one)
+    let here = sum_by_push of_cache sets set in
+    omega (arith, here)
 
 pushed_step : (steps : List AskedValue) (step : AskedValue)
     → served_sets (steps ++ step ∷ []) ≡ served_sets steps + from_cache step.sets
 pushed_step steps step =
     let count : AskedValue → ℕ = λ s. from_cache s.sets in
-    let here = sum_append count steps (step ∷ []) in
-    let one = sum_one count step in
-    omega (arith, here, one)
+    let here = sum_by_push count steps step in
+    omega (arith, here)
 
 table_none : (sets : List JudgedSetValue) (c : ChainedSet) (asked : List AskRef)
     → from_cache (sets ++ entry_of c.judged asked ∷ []) ≡ from_cache sets

@@ -14,6 +14,7 @@ pub mod SendLemmas
 pub mod FrontLemmas
 pub mod ComesLemmas
 pub mod LoopLemmas
+pub mod TermsLemmas
 pub mod ConclusionLemmas
 pub mod AlongLemmas
 pub mod TopLemmas

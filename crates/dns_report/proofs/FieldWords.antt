@@ -1,5 +1,5 @@
 -- The words of an answer's fields: each is a word, and tells its field.
-use Rattle.std.proofs.Common.{◌≡◌, ℕ, ◌^◌, ◌<◌, ◌≤◌, Bool, true, List, [], ◌∷◌, map, get_or, ap, refl, arith}
+use Rattle.std.proofs.Common.{◌≡◌, ℕ, ◌^◌, ◌<◌, ◌≤◌, Bool, true, ◌&&◌, List, [], ◌∷◌, map, get_or, ap, refl, arith}
 use Rattle.std.specs.Fmt.{decimal}
 use Rattle.std.specs.List.{list_all}
 use Rattle.std.proofs.lemmas.Bool.{and_parts, ltb-true}
@@ -53,6 +53,25 @@ small_tells a b first second h =
 
 pub number_tells : (a b : ℕ) → is_u32 a ≡ true → is_u32 b ≡ true → decimal a ≡ decimal b → a ≡ b
 number_tells a b first second h = decimal_injective a b (below_u32 a first) (below_u32 b second) h
+
+-- what the fields of a record are that fits
+pub record FitFields (labels : Labels) (class_code type_code seconds : ℕ) (bytes : List ℕ) : Type 0 where
+  pub owner : fitting_name labels ≡ true
+  pub class : is_u16 class_code ≡ true
+  pub rtype : is_u16 type_code ≡ true
+  pub ttl : is_u32 seconds ≡ true
+  pub rdata : is_bytes bytes ≡ true
+
+pub fit_fields : (labels : Labels) (class_code type_code seconds : ℕ) (bytes : List ℕ)
+    → (fitting_name labels && (is_u16 class_code && (is_u16 type_code && (is_u32 seconds && is_bytes bytes)))) ≡ true
+    → FitFields labels class_code type_code seconds bytes
+fit_fields labels class_code type_code seconds bytes h =
+    let a = and_parts (fitting_name labels)
+    (is_u16 class_code && (is_u16 type_code && (is_u32 seconds && is_bytes bytes))) h in
+    let b = and_parts (is_u16 class_code) (is_u16 type_code && (is_u32 seconds && is_bytes bytes)) a.1 in
+    let c = and_parts (is_u16 type_code) (is_u32 seconds && is_bytes bytes) b.1 in
+    let d = and_parts (is_u32 seconds) (is_bytes bytes) c.1 in
+    record { owner = a.0; class = b.0; rtype = c.0; ttl = d.0; rdata = d.1 }
 
 -- ---- lists of words
 

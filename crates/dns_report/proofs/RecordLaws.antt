@@ -1,9 +1,7 @@
 -- The line of a record tells the record, and the lines of a section its records.
-use Rattle.std.proofs.Common.{◌≡◌, true, false, ◌&&◌, List, [], get_or, refl, ap}
+use Rattle.std.proofs.Common.{◌≡◌, true, false, List, [], get_or, refl, ap}
 use Rattle.std.specs.Fmt.{decimal}
 use Rattle.std.specs.List.{list_all}
-use Rattle.std.proofs.lemmas.Bool.{and_parts}
-use Rattle.dns_model.specs.Bytes.{is_bytes}
 use Rattle.dns_model.specs.NameText.{printed}
 use Rattle.dns_model.specs.Records.{Rr}
 use Rattle.dns_model.specs.declared.section.Section.{Section}
@@ -12,31 +10,16 @@ use Rattle.dns_record.specs.Words.{type_word, class_word}
 use Rattle.dns_text.specs.Words.{octets_word}
 use Rattle.dns_text.proofs.WordShapes.{octets_is_word, octets_injective}
 use Rattle.dns_report.specs.LineWords.{mark_word, section_word}
-use Rattle.dns_report.specs.Fields.{fitting_name, is_u16, is_u32}
 use Rattle.dns_report.specs.View.{fitting_record}
 use Rattle.dns_report.proofs.LineLaws.{Line, is_line}
 use Rattle.dns_report.proofs.NameShapes.{printed_word}
 use Rattle.dns_report.proofs.MarkWords.{mark_injective, mark_is_word, section_is_word}
-use Rattle.dns_report.proofs.FieldWords.{class_good, type_good, number_good, name_tells, class_tells, type_tells, number_tells}
+use Rattle.dns_report.proofs.FieldWords.{FitFields, fit_fields, class_good, type_good, number_good, name_tells, class_tells, type_tells, number_tells}
 use Rattle.dns_report.proofs.LineBlocks.{Same, one_line, starts, named, one_line_tells, blocks_tell, one_line_good, blocks_good}
 use Rattle.dns_report.proofs.ReportLines.{record_of, section_lines}
 
--- what a fitting record's fields are
-pub record Fields (r : Rr) : Type 0 where
-  pub owner : fitting_name r.owner ≡ true
-  pub class : is_u16 r.class ≡ true
-  pub rtype : is_u16 r.rtype ≡ true
-  pub ttl : is_u32 r.ttl ≡ true
-  pub rdata : is_bytes r.rdata ≡ true
-
-pub fields_of : (r : Rr) → fitting_record r ≡ true → Fields r
-fields_of r h =
-    let a =
-    and_parts (fitting_name r.owner) (is_u16 r.class && (is_u16 r.rtype && (is_u32 r.ttl && is_bytes r.rdata))) h in
-    let b = and_parts (is_u16 r.class) (is_u16 r.rtype && (is_u32 r.ttl && is_bytes r.rdata)) a.1 in
-    let c = and_parts (is_u16 r.rtype) (is_u32 r.ttl && is_bytes r.rdata) b.1 in
-    let d = and_parts (is_u32 r.ttl) (is_bytes r.rdata) c.1 in
-    record { owner = a.0; class = b.0; rtype = c.0; ttl = d.0; rdata = d.1 }
+pub fields_of : (r : Rr) → fitting_record r ≡ true → FitFields r.owner r.class r.rtype r.ttl r.rdata
+fields_of r h = fit_fields r.owner r.class r.rtype r.ttl r.rdata h
 
 pub record_good : (section : Section) (r : Rr) → fitting_record r ≡ true → is_line (record_of section r) ≡ true
 record_good section r h =

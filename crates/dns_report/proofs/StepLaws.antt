@@ -5,7 +5,6 @@ use Rattle.std.specs.List.{list_all}
 use Rattle.std.proofs.lemmas.Bool.{and_parts, ltb-true}
 use Rattle.std.proofs.lemmas.Fmt.{decimal_injective}
 use Rattle.std.proofs.lemmas.List.Folds.{list_all-append}
-use Rattle.dns_model.specs.Bytes.{is_bytes}
 use Rattle.dns_model.specs.NameText.{printed}
 use Rattle.dns_model.specs.Keys.{bytes_eq}
 use Rattle.dns_model.specs.declared.section.Section.{Section}
@@ -17,34 +16,21 @@ use Rattle.dns_record.specs.Words.{type_word, class_word}
 use Rattle.dns_text.specs.Words.{octets_word}
 use Rattle.dns_text.proofs.WordShapes.{is_word, decimal_word, octets_is_word, octets_injective}
 use Rattle.dns_report.specs.LineWords.{mark_word, section_word}
-use Rattle.dns_report.specs.Fields.{fitting_name, is_u16, is_u32}
+use Rattle.dns_report.specs.Fields.{fitting_name, is_u16}
 use Rattle.dns_report.specs.TrailView.{ToldRecord, HeardView, Records, Fault, StepView, fitting_told, fitting_heard, fitting_ask, fitting_origin, fitting_set, fitting_ending, fitting_step, fitting_trail}
 use Rattle.dns_report.specs.TrailLines.{purpose_word, empty_words, ask_word, origin_word, place_word, ending_words}
 use Rattle.dns_report.proofs.LineLaws.{Line, is_line}
 use Rattle.dns_report.proofs.NameShapes.{printed_word}
 use Rattle.dns_report.proofs.MarkWords.{mark_injective, mark_is_word, section_injective, section_is_word}
-use Rattle.dns_report.proofs.FieldWords.{below_u16, small_good, number_good, class_good, type_good, small_tells, number_tells, name_tells, class_tells, type_tells, more_words, each_good, each_tells}
+use Rattle.dns_report.proofs.FieldWords.{FitFields, fit_fields, below_u16, small_good, number_good, class_good, type_good, small_tells, number_tells, name_tells, class_tells, type_tells, more_words, each_good, each_tells}
 use Rattle.dns_report.proofs.LineBlocks.{Tells, Same, blocks, one_line, starts, named, no_yes, first_line, other_lines, one_line_tells, blocks_tell, counted_tell, blocks_start, one_line_good, blocks_good, word_same}
 use Rattle.dns_report.proofs.TrailWords.{purpose_tells, purpose_good, empty_tells, empty_good, no_number, ask_tells, ask_good, origin_tells, origin_good, place_tells, place_good, ending_tells, ending_good, fitting_place}
 use Rattle.dns_report.proofs.StepLines.{step_of, got_of, told_of, told_in, told_lines, set_of, ending_of, judged_lines, step_lines, count_of, trail_lines}
 
 -- ---- records as they were told
 
-pub record FitsTold (r : ToldRecord) : Type 0 where
-  pub owner : fitting_name r.owner ≡ true
-  pub class : is_u16 r.class ≡ true
-  pub rtype : is_u16 r.rtype ≡ true
-  pub ttl : is_u32 r.ttl ≡ true
-  pub rdata : is_bytes r.rdata ≡ true
-
-pub fits_told : (r : ToldRecord) → fitting_told r ≡ true → FitsTold r
-fits_told r h =
-    let a =
-    and_parts (fitting_name r.owner) (is_u16 r.class && (is_u16 r.rtype && (is_u32 r.ttl && is_bytes r.rdata))) h in
-    let b = and_parts (is_u16 r.class) (is_u16 r.rtype && (is_u32 r.ttl && is_bytes r.rdata)) a.1 in
-    let c = and_parts (is_u16 r.rtype) (is_u32 r.ttl && is_bytes r.rdata) b.1 in
-    let d = and_parts (is_u32 r.ttl) (is_bytes r.rdata) c.1 in
-    record { owner = a.0; class = b.0; rtype = c.0; ttl = d.0; rdata = d.1 }
+pub fits_told : (r : ToldRecord) → fitting_told r ≡ true → FitFields r.owner r.class r.rtype r.ttl r.rdata
+fits_told r h = fit_fields r.owner r.class r.rtype r.ttl r.rdata h
 
 pub told_good : (section : Section) (r : ToldRecord) → fitting_told r ≡ true → is_line (told_of section r) ≡ true
 told_good section r h =

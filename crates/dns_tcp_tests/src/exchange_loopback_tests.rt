@@ -54,9 +54,7 @@ fn serve(rt: &impl Abort, alloc: Global, listener: &TcpListener) -> (u32, Heard)
     let (socket, peer) = listener.accept().expect(rt, "a connection");
     let (mut stream, _) = TcpStream::from_stream(alloc, SocketLink::new(socket), peer);
     let mut read = Vec::new(alloc);
-    let served = served(rt, alloc, &mut stream, &mut read);
-    drop(stream);
-    served
+    served(rt, alloc, &mut stream, &mut read)
 }
 
 /// How many of so many requests over one connection to a server are answered.
@@ -72,7 +70,6 @@ fn answered<R: Net + Clock + Alloc<A = Global> + Abort>(rt: &R, server: SocketAd
             count = count.saturating_add(1);
         }
     }
-    drop(exchange);
     count
 }
 
@@ -111,7 +108,6 @@ fn is_echoed<R: Net + Clock + Alloc<A = Global> + Abort>(rt: &R, server: SocketA
     let written = write_all(&mut stream);
     let mut read = Vec::new(alloc);
     let heard = read_next(rt, &mut stream, &mut read);
-    drop(stream);
     written == Heard::Written && heard == Heard::Message && read.as_slice() == b"echo".as_slice()
 }
 
@@ -137,7 +133,6 @@ fn heard_in_time<R: Net + Clock + Copy + Alloc<A = Global> + Abort + Drop>(
     let mut exchange = made.ok().expect(&rt, "a connection");
     let began = Instant::now(&rt).expect(&rt, "a clock");
     let heard = asked(alloc, &mut exchange);
-    drop(exchange);
     let passed = began.elapsed(&rt).expect(&rt, "a clock");
     (heard, passed.as_secs() < 2)
 }
@@ -193,10 +188,10 @@ fn the_example_of_a_handle_hears_a_refusal(rt: HostRuntime) {
     let alloc = rt.alloc();
     let listener = TcpListener::bind(&rt, "127.0.0.1:0").expect(&rt, "a listener");
     let addr = listener.local_addr().expect(&rt, "an address");
+    // frees the port, so that nobody listens at it
     drop(listener);
     let reply = ask_over_connection(alloc, &rt, addr, 7, query(alloc), 0);
     let heard = heard_reply(&reply);
-    drop(reply);
     check(
         &rt,
         "nobody listens",

@@ -91,6 +91,7 @@ fn a_clock_is_read_each_time(rt: HostRuntime) {
 fn refused<R: Net + time::Clock + Abort>(rt: &R) -> Option<IoKind> {
     let other = UdpSocket::bind(rt, "127.0.0.1:0").expect(rt, "a socket");
     let nobody = other.local_addr().expect(rt, "an address");
+    // frees the port, so that nobody hears at it
     drop(other);
     let socket = UdpSocket::bind(rt, "127.0.0.1:0").expect(rt, "a socket");
     socket.connect(nobody).expect(rt, "a peer");

@@ -148,6 +148,44 @@ one_left t q g told p e c (Some cause) same stand h =
 
 -- ---- the sets of a step
 
+-- What holds of no sets and no entries, and of one of each more, holds of the sets of a step of which anything was found and of
+-- the entries that it leaves.
+module _ (t : Terms) (q : Question) (Holds : List (PlacedSet × JudgedSetValue) → List EntryValue → Type 0)
+    (of_none : Holds [] [])
+    (of_more : (p : PlacedSet) (e : JudgedSetValue) (entry : EntryValue) (found : List (PlacedSet × JudgedSetValue))
+    (left : List EntryValue) → IsOfSet t q p e entry → Holds found left → Holds ((p, e) ∷ found) (entry ∷ left)) where
+  one_behind : (trail : List AskedValue) (p : PlacedSet) (e : JudgedSetValue) (o : Option EntryValue)
+      (found : List (PlacedSet × JudgedSetValue)) (left : List EntryValue) → OneLeft t q trail p e o
+      → Holds found left
+      → Holds (cond (is_found trail e) ((p, e) ∷ found) found) (cons_option o left)
+  one_behind trail p e o found left (LeavesNone not_found none) rest =
+      subst (λ b. Holds (cond b ((p, e) ∷ found) found) (cons_option o left)) (sym not_found)
+      (subst (λ x. Holds found (cons_option x left)) (sym none) rest)
+  one_behind trail p e o found left (Leaves entry is some of) rest =
+      subst (λ b. Holds (cond b ((p, e) ∷ found) found) (cons_option o left)) (sym is)
+      (subst (λ x. Holds ((p, e) ∷ found) (cons_option x left)) (sym some) (of_more p e entry found left of rest))
+
+  pub all_left : (g : StepContext) (told : Told) (ps : List PlacedSet) (es : List JudgedSetValue)
+      (sets : List ChainedSet) (causes : List (Option ProofErrorKindValue)) → bare sets ≡ with_entries ps es
+      → AllByRecursion (λ c. stands t.judge c ≡ true) sets
+      → AreCaused g told ps es causes
+      → Holds (filter (λ (x : PlacedSet × JudgedSetValue). is_found g.earlier x.1) (zip ps es))
+      (filter_map (entry_if t q) (zip sets causes))
+  all_left g told [] [] [] [] same stand h = of_none
+  all_left g told [] [] (c ∷ sets) [] same stand h = absurd (no_head same)
+  all_left g told [] [] sets (cause ∷ causes) same stand h = absurd h
+  all_left g told [] (e ∷ es) sets causes same stand h = absurd h
+  all_left g told (p ∷ ps) [] sets causes same stand h = absurd h
+  all_left g told (p ∷ ps) (e ∷ es) sets [] same stand h = absurd h
+  all_left g told (p ∷ ps) (e ∷ es) [] (cause ∷ causes) same stand h = absurd (no_tail same)
+  all_left g told (p ∷ ps) (e ∷ es) (c ∷ sets) (cause ∷ causes) same stand h =
+      let one : c.judged ≡ with_entry (p, e) = head_same same in
+      let rest : bare sets ≡ with_entries ps es = tail_same same in
+      one_behind g.earlier p e (entry_if t q (c, cause))
+      (filter (λ (x : PlacedSet × JudgedSetValue). is_found g.earlier x.1) (zip ps es))
+      (filter_map (entry_if t q) (zip sets causes)) (one_left t q g told p e c cause one stand.0 h.0)
+      (all_left g told ps es sets causes rest stand.1 h.1)
+
 -- the last of these sets leaves the last of these entries
 data LastOf (t : Terms) (q : Question) (found : List (PlacedSet × JudgedSetValue))
     (left : List EntryValue) : Type 0 where
@@ -165,41 +203,6 @@ behind_one t q p e entry found left of (NoneOf none_found none_left) =
 behind_one t q p e entry found left of (OneOf before one front last is_before is_front one_of) =
     OneOf ((p, e) ∷ before) one (entry ∷ front) last (ap (λ xs. (p, e) ∷ xs) is_before)
     (ap (λ xs. entry ∷ xs) is_front) one_of
-
-last_behind : (t : Terms) (q : Question) (trail : List AskedValue) (p : PlacedSet) (e : JudgedSetValue)
-    (o : Option EntryValue)
-    (found : List (PlacedSet × JudgedSetValue)) (left : List EntryValue) → OneLeft t q trail p e o
-    → LastOf t q found left
-    → LastOf t q (cond (is_found trail e) ((p, e) ∷ found) found) (cons_option o left)
-last_behind t q trail p e o found left (LeavesNone not_found none) rest =
-    subst (λ b. LastOf t q (cond b ((p, e) ∷ found) found) (cons_option o left)) (sym not_found)
-    (subst (λ x. LastOf t q found (cons_option x left)) (sym none) rest)
-last_behind t q trail p e o found left (Leaves entry is some of) rest =
-    subst (λ b. LastOf t q (cond b ((p, e) ∷ found) found) (cons_option o left)) (sym is)
-    (subst (λ x. LastOf t q ((p, e) ∷ found) (cons_option x left)) (sym some)
-    (behind_one t q p e entry found left of rest))
-
-all_left : (t : Terms) (q : Question) (g : StepContext) (told : Told) (ps : List PlacedSet) (es : List JudgedSetValue)
-    (sets : List ChainedSet)
-    (causes : List (Option ProofErrorKindValue)) → bare sets ≡ with_entries ps es
-    → AllByRecursion (λ c. stands t.judge c ≡ true) sets
-    → AreCaused g told ps es causes
-    → LastOf t q (filter (λ (x : PlacedSet × JudgedSetValue). is_found g.earlier x.1) (zip ps es))
-    (filter_map (entry_if t q) (zip sets causes))
-all_left t q g told [] [] [] [] same stand h = NoneOf refl refl
-all_left t q g told [] [] (c ∷ sets) [] same stand h = absurd (no_head same)
-all_left t q g told [] [] sets (cause ∷ causes) same stand h = absurd h
-all_left t q g told [] (e ∷ es) sets causes same stand h = absurd h
-all_left t q g told (p ∷ ps) [] sets causes same stand h = absurd h
-all_left t q g told (p ∷ ps) (e ∷ es) sets [] same stand h = absurd h
-all_left t q g told (p ∷ ps) (e ∷ es) [] (cause ∷ causes) same stand h = absurd (no_tail same)
-all_left t q g told (p ∷ ps) (e ∷ es) (c ∷ sets) (cause ∷ causes) same stand h =
-    let one : c.judged ≡ with_entry (p, e) = head_same same in
-    let rest : bare sets ≡ with_entries ps es = tail_same same in
-    last_behind t q g.earlier p e (entry_if t q (c, cause))
-    (filter (λ (x : PlacedSet × JudgedSetValue). is_found g.earlier x.1) (zip ps es))
-    (filter_map (entry_if t q) (zip sets causes)) (one_left t q g told p e c cause one stand.0 h.0)
-    (all_left t q g told ps es sets causes rest stand.1 h.1)
 
 last_is : (t : Terms) (q : Question) (found : List (PlacedSet × JudgedSetValue)) (left kept : List EntryValue)
     (p : PlacedSet) (e : JudgedSetValue)
@@ -237,7 +240,7 @@ module _ (t : Terms) (cached : List EntryValue) where
       last_is t s.query
       (filter (λ (x : PlacedSet × JudgedSetValue). is_found (closed ++ more) x.1) (zip part s.entries))
       (entries_left t s) kept p e
-      (all_left t s.query
+      (all_left t s.query (LastOf t s.query) (NoneOf refl refl) (behind_one t s.query)
       (later_step_context g more) told part s.entries s.sets s.causes done.judged.same done.judged.stand
       (caused_later g more told part s.entries s.causes done.caused))
       is

@@ -1,26 +1,21 @@
 -- What a step leaves to be kept is what was found of its sets, one entry for each of which anything was found, in order.
-use Rattle.std.proofs.Common.{◌≡◌, Bool, true, false, cond, List, [], ◌∷◌, ◌++◌, map, Option, None, Some, refl, sym, subst}
-use Rattle.std.specs.List.{AllByRecursion, cons_option, filter, filter_map, zip}
+use Rattle.std.proofs.Common.{◌≡◌, List, [], ◌∷◌, ◌++◌, map}
+use Rattle.std.specs.List.{filter, zip}
 use Rattle.dns_model.specs.Records.{Question}
-use Rattle.dns_model.specs.SoundAnswers.{PlacedSet, Told, told_by}
+use Rattle.dns_model.specs.SoundAnswers.{PlacedSet, told_by}
 use Rattle.dns_model.specs.Trails.{AskedValue, JudgedSetValue}
 use Rattle.dns_rules.specs.Asking.{judged_part}
 use Rattle.dns_rules.specs.CacheEntries.{EntryValue}
-use Rattle.dns_rules.specs.ChainedSets.{ChainedSet, bare, stands}
-use Rattle.dns_rules.specs.Derivation.{StepContext, with_entries}
-use Rattle.dns_rules.specs.DerivationParts.{with_entry}
 use Rattle.dns_rules.specs.Outcome.{Outcome}
-use Rattle.dns_rules.specs.ProofErrors.{ProofErrorKindValue}
 use Rattle.dns_rules.proofs.StayLemmas.{later_step_context}
 use Rattle.dns_flow.specs.Phases.{StepEnds, turn}
 use Rattle.dns_validation.specs.KeptSets.{AreOfSets, FoundSet, found_set}
 use Rattle.dns_validation.specs.LastKept.{IsOfSet, is_found}
-use Rattle.dns_validation.specs.Machine.{Terms, OpenValue, entries_left, entry_if}
-use Rattle.dns_validation.proofs.CausedSets.{AreCaused, caused_later}
-use Rattle.dns_validation.proofs.FoundLemmas.{head_same, no_head, no_tail, tail_same}
+use Rattle.dns_validation.specs.Machine.{Terms, OpenValue, entries_left}
+use Rattle.dns_validation.proofs.CausedSets.{caused_later}
 use Rattle.dns_validation.proofs.GotLemmas.{context_at}
 use Rattle.dns_validation.proofs.Judgings.{Judging, step_judging}
-use Rattle.dns_validation.proofs.LastLemmas.{OneLeft, Leaves, LeavesNone, one_left}
+use Rattle.dns_validation.proofs.LastLemmas.{all_left}
 
 -- an entry for each
 abbrev AllOf : Terms → Question → List (PlacedSet × JudgedSetValue) → List EntryValue → Type 0
@@ -28,38 +23,6 @@ AllOf t q [] [] = Unit {0}
 AllOf t q [] (e ∷ left) = ⊥
 AllOf t q (p ∷ found) [] = ⊥
 AllOf t q (p ∷ found) (e ∷ left) = IsOfSet t q p.0 p.1 e × AllOf t q found left
-
-each_behind : (t : Terms) (q : Question) (trail : List AskedValue) (p : PlacedSet) (e : JudgedSetValue)
-    (o : Option EntryValue) (found : List (PlacedSet × JudgedSetValue)) (left : List EntryValue)
-    → OneLeft t q trail p e o → AllOf t q found left
-    → AllOf t q (cond (is_found trail e) ((p, e) ∷ found) found) (cons_option o left)
-each_behind t q trail p e o found left (LeavesNone not_found none) rest =
-    subst (λ b. AllOf t q (cond b ((p, e) ∷ found) found) (cons_option o left)) (sym not_found)
-    (subst (λ x. AllOf t q found (cons_option x left)) (sym none) rest)
-each_behind t q trail p e o found left (Leaves entry is some of) rest =
-    subst (λ b. AllOf t q (cond b ((p, e) ∷ found) found) (cons_option o left)) (sym is)
-    (subst (λ x. AllOf t q ((p, e) ∷ found) (cons_option x left)) (sym some) (of, rest))
-
-each_left : (t : Terms) (q : Question) (g : StepContext) (told : Told) (ps : List PlacedSet) (es : List JudgedSetValue)
-    (sets : List ChainedSet) (causes : List (Option ProofErrorKindValue)) → bare sets ≡ with_entries ps es
-    → AllByRecursion (λ c. stands t.judge c ≡ true) sets
-    → AreCaused g told ps es causes
-    → AllOf t q (filter (λ (x : PlacedSet × JudgedSetValue). is_found g.earlier x.1) (zip ps es))
-    (filter_map (entry_if t q) (zip sets causes))
-each_left t q g told [] [] [] [] same stand h = tt
-each_left t q g told [] [] (c ∷ sets) [] same stand h = absurd (no_head same)
-each_left t q g told [] [] sets (cause ∷ causes) same stand h = absurd h
-each_left t q g told [] (e ∷ es) sets causes same stand h = absurd h
-each_left t q g told (p ∷ ps) [] sets causes same stand h = absurd h
-each_left t q g told (p ∷ ps) (e ∷ es) sets [] same stand h = absurd h
-each_left t q g told (p ∷ ps) (e ∷ es) [] (cause ∷ causes) same stand h = absurd (no_tail same)
-each_left t q g told (p ∷ ps) (e ∷ es) (c ∷ sets) (cause ∷ causes) same stand h =
-    let one : c.judged ≡ with_entry (p, e) = head_same same in
-    let rest : bare sets ≡ with_entries ps es = tail_same same in
-    each_behind t q g.earlier p e (entry_if t q (c, cause))
-    (filter (λ (x : PlacedSet × JudgedSetValue). is_found g.earlier x.1) (zip ps es))
-    (filter_map (entry_if t q) (zip sets causes)) (one_left t q g told p e c cause one stand.0 h.0)
-    (each_left t q g told ps es sets causes rest stand.1 h.1)
 
 of_pairs : (t : Terms) (q : Question) (found : List (PlacedSet × JudgedSetValue)) (left : List EntryValue)
     → AllOf t q found left → AreOfSets t (map (found_set q) found) left
@@ -86,7 +49,8 @@ module _ (t : Terms) (cached : List EntryValue) where
       of_pairs t s.query
       (filter (λ (x : PlacedSet × JudgedSetValue). is_found (closed ++ more) x.1) (zip part s.entries))
       (entries_left t s)
-      (each_left t s.query (later_step_context g more) told part s.entries s.sets s.causes done.judged.same
+      (all_left t s.query (λ found left. AllOf t s.query found left) tt (λ p e entry found left of rest. (of, rest))
+      (later_step_context g more) told part s.entries s.sets s.causes done.judged.same
       done.judged.stand (caused_later g more told part s.entries s.causes done.caused))
 
 -- ---- lists of them
