@@ -7,6 +7,7 @@ writes each as FOLDER/NAME.session, NAME.words, NAME.out and NAME.status. `tools
 import os
 import sys
 
+import attacks
 import denials
 import hashed
 import texts
@@ -358,7 +359,7 @@ MADE = (forty_keys, sixty_links, two_hundred_sets, hundred_chains, audit_of_a_hu
         hashed.unsigned_by_a_thousand_records, chain_of_three_hundred_links, forty_ds_records,
         set_of_4500_records, rdata_of_sixty_thousand_bytes, seventy_thousand_lines_of_each_kind, bad_line_behind_seventy_thousand,
         referral_to_two_thousand_servers, long_name_of_another_class, three_hundred_words, word_of_100_000_letters, words_of_more_than_255_bytes, number_of_300_digits,
-        algorithm_of_300_digits, type_of_300_letters, fault_of_300_letters, line_with_a_word_of_300_letters)
+        algorithm_of_300_digits, type_of_300_letters, fault_of_300_letters, line_with_a_word_of_300_letters, *attacks.LARGE)
 
 
 def rows():

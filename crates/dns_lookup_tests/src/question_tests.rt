@@ -2,7 +2,10 @@
 //! verifier's count.
 use crate::given::{Answer, MOMENT, anchors_of, ask, ask_scene, upstream_of, verifier_of};
 use crate::rows::check_held;
-use crate::scenes::{Scene, anchored_beside, one_zone, thirty_sets, walk};
+use crate::scenes::{
+    Scene, anchored_beside, nine_below, nine_of_a_key_set, one_zone, thirty_sets, three_keys,
+    three_sections, two_keys, walk,
+};
 use dns_chain_check::check_chain;
 use dns_evidence::{Chain, IterationLimits, Limits, Listed, Trail, Verifier};
 use dns_handle::DnsResponse;
@@ -47,6 +50,11 @@ enum Given {
     Walk,
     AnchoredBeside,
     ThirtySets,
+    TwoKeys,
+    ThreeKeys,
+    KeySet,
+    Below,
+    Sections,
 }
 
 fn scene_of(given: &Given) -> &'static Scene {
@@ -55,6 +63,11 @@ fn scene_of(given: &Given) -> &'static Scene {
         Given::Walk => walk(),
         Given::AnchoredBeside => anchored_beside(),
         Given::ThirtySets => thirty_sets(),
+        Given::TwoKeys => two_keys(),
+        Given::ThreeKeys => three_keys(),
+        Given::KeySet => nine_of_a_key_set(),
+        Given::Below => nine_below(),
+        Given::Sections => three_sections(),
     }
 }
 
@@ -79,6 +92,21 @@ const ROWS: &[Row] = &[
         43,
         420,
     ),
+    // attacks (docs/ATTACKS.md): no signature is accepted. Two keys of a tag for each of eight signatures
+    Row("eight signatures and two keys", Given::TwoKeys, 9, 16, 0),
+    Row(
+        "a ninth signature and a third key",
+        Given::ThreeKeys,
+        9,
+        16,
+        0,
+    ),
+    // 1 anchored key
+    Row("nine signatures of a key set", Given::KeySet, 1, 8, 0),
+    // 1 for the DS set, and two keys
+    Row("nine signatures below DS records", Given::Below, 3, 17, 0),
+    // 1 anchored key in each of 3 sections
+    Row("a key set in three sections", Given::Sections, 2, 24, 0),
 ];
 
 /// The answer to a scene's query by a verifier that counts.
