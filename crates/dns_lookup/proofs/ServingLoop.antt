@@ -198,8 +198,7 @@ module _ (t u v : Terms) (first s m n : StateValue) where
       serving_fewer t u v first s m n old now key h.given at wishes h.taken
 
 -- memory ran out before
-pub failed_handing : {E : Type 0} (t u : Terms) (first s m n : StateValue) (old now after : CacheState)
-    (key : CacheKeyValue) (moment : ℕ) (e : E) → Serving t u first s old now → NotHanded key moment now after m n
-    → ServesOn t first old (Err e) n after
-failed_handing t u first s m n old now after key moment e at h =
-    failed_getting t u first s n old now after key moment e at h.left
+module _ (t u : Terms) (first s m n : StateValue) where
+  pub failed_handing : {E : Type 0} (old now after : CacheState) (key : CacheKeyValue) (moment : ℕ) (e : E)
+      → Serving t u first s old now → NotHanded key moment now after m n → ServesOn t first old (Err e) n after
+  failed_handing old now after key moment e at h = failed_getting t u first s n old now after key moment e at h.left

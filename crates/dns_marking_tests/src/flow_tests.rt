@@ -47,9 +47,7 @@ fn last_need(rt: &impl Abort, alloc: Global, phases: &mut Vec<Phase>) -> Need {
 
 fn is_query(rt: &impl Abort, alloc: Global, asked: &Asked, ask: &Ask) -> bool {
     let expected = query(rt, alloc, asked.owner, asked.record_type);
-    let same = ask.query == expected;
-    drop(expected);
-    same && ask.judged == asked.judged
+    ask.query == expected && ask.judged == asked.judged
 }
 
 /// Whether the last phase needs this ask; the phase that asks is put back.
@@ -57,14 +55,9 @@ fn asks(rt: &impl Abort, alloc: Global, asked: &Asked, phases: &mut Vec<Phase>) 
     match last_need(rt, alloc, phases) {
         Need::Asks(ask, phase) => {
             phases.push(phase).expect(rt, "memory");
-            let held = is_query(rt, alloc, asked, &ask);
-            drop(ask);
-            held
+            is_query(rt, alloc, asked, &ask)
         }
-        other => {
-            drop(other);
-            false
-        }
+        _ => false,
     }
 }
 
@@ -122,9 +115,7 @@ fn go(
 /// The mark and the cause of an error read so.
 fn reads(rt: &impl Abort, alloc: Global, error: &ProofError, want: &str) -> bool {
     let text = format!(in alloc; "{error}").expect(rt, "memory");
-    let held = text.as_str() == want;
-    drop(text);
-    held
+    text.as_str() == want
 }
 
 /// What is found of a judged set by the cause that is left is an error that reads so.
@@ -137,12 +128,10 @@ fn is_error(
 ) -> bool {
     let cause = causes.pop().expect(rt, "a cause");
     let found = found_of(500, judged, cause);
-    let held = match &found {
+    match &found {
         Ok(_) => false,
         Err(error) => reads(rt, alloc, error, want),
-    };
-    drop(found);
-    held
+    }
 }
 
 /// Whether a set has ended, and what is found of it reads so.
@@ -154,18 +143,15 @@ fn ends(
     want: &str,
 ) -> bool {
     let need = last_need(rt, alloc, phases);
-    let held = match &need {
+    match &need {
         Need::SetEnds(ended) => is_error(rt, alloc, &ended.judged, causes, want),
         _ => false,
-    };
-    drop(need);
-    held
+    }
 }
 
 fn first_causes(rt: &impl Abort, alloc: Global, told: &Told) -> Vec<ProofErrorKind> {
     let set = signed_set(rt, alloc, told);
     let cause = start_cause(&set).expect(rt, "memory");
-    drop(set);
     one(rt, alloc, cause)
 }
 
@@ -182,22 +168,14 @@ fn first_phases(rt: &impl Abort, alloc: Global, step: &Step<'_>, told: &Told) ->
 fn is_found(rt: &impl Abort, alloc: Global, step: &Step<'_>, row: &Row) -> bool {
     let mut causes = first_causes(rt, alloc, &row.set);
     let mut phases = first_phases(rt, alloc, step, &row.set);
-    let held = go(rt, alloc, step, row.asks, &mut phases, &mut causes)
-        && ends(rt, alloc, &mut phases, &mut causes, row.found);
-    drop(phases);
-    drop(causes);
-    held
+    go(rt, alloc, step, row.asks, &mut phases, &mut causes)
+        && ends(rt, alloc, &mut phases, &mut causes, row.found)
 }
 
 /// Whether a step has ended with a denial that is Bogus.
 fn is_denied(rt: &impl Abort, alloc: Global, phases: &mut Vec<Phase>) -> bool {
     let need = last_need(rt, alloc, phases);
-    let held = match &need {
-        Need::StepEnds(outcome) => *outcome == Outcome::Denied(Proof::Bogus),
-        _ => false,
-    };
-    drop(need);
-    held
+    matches!(&need, Need::StepEnds(outcome) if *outcome == Outcome::Denied(Proof::Bogus))
 }
 
 /// An ending makes these asks, and the step is refused.
@@ -205,11 +183,7 @@ fn is_ended(rt: &impl Abort, alloc: Global, step: &Step<'_>, all: &[Asked]) -> b
     let start = start_ending(alloc, &LIMITS, step.query, step.message, &[]);
     let mut phases = one(rt, alloc, start.expect(rt, "memory"));
     let mut causes = Vec::new(alloc);
-    let held = go(rt, alloc, step, all, &mut phases, &mut causes)
-        && is_denied(rt, alloc, &mut phases);
-    drop(causes);
-    drop(phases);
-    held
+    go(rt, alloc, step, all, &mut phases, &mut causes) && is_denied(rt, alloc, &mut phases)
 }
 
 /// What is tried in a step: what is found by a row, or an ending by these asks.
@@ -234,13 +208,10 @@ fn holds_by(
         query: &query,
         message: &message,
     };
-    let held = match tried {
+    match tried {
         Tried::Found(row) => is_found(rt, alloc, &step, row),
         Tried::Ending(all) => is_ended(rt, alloc, &step, all),
-    };
-    drop(message);
-    drop(query);
-    held
+    }
 }
 
 fn holds(rt: &impl Abort, alloc: Global, asked: RecordType, tried: &Tried<'_>) -> bool {
@@ -251,10 +222,7 @@ fn holds(rt: &impl Abort, alloc: Global, asked: RecordType, tried: &Tried<'_>) -
         anchors: &anchors,
         moment: 500,
     };
-    let held = holds_by(rt, alloc, &judge, asked, tried);
-    drop(verifier);
-    drop(anchors);
-    held
+    holds_by(rt, alloc, &judge, asked, tried)
 }
 
 #[test]

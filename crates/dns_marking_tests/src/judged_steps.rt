@@ -165,9 +165,6 @@ fn ends(rt: &impl Abort, alloc: Global, row: &Row) -> bool {
     let query = query(rt, alloc, row.name, row.record_type);
     let response = response(rt, alloc, row);
     let outcome = outcome_of(alloc, &LIMITS, &query, &response, &sets);
-    drop(response);
-    drop(query);
-    drop(sets);
     outcome.expect(rt, "memory") == row.outcome
 }
 

@@ -199,10 +199,7 @@ fn are_grouped(placed: &[PlacedSet], want: &[Grouped]) -> bool {
 fn makes(rt: &impl Abort, alloc: Global, depth: u16, want: &[Grouped]) -> bool {
     let message = message(rt, alloc, met_rows());
     let placed = judged_part(alloc, depth, &message).expect(rt, "memory");
-    drop(message);
-    let held = are_grouped(&placed, want);
-    drop(placed);
-    held
+    are_grouped(&placed, want)
 }
 
 #[test]

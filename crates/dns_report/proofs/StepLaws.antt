@@ -127,9 +127,10 @@ fits_records code empty a u n h =
     let r = and_parts (list_all fitting_told u) (list_all fitting_told n) q.1 in
     record { coded = p.0; first = q.0; second = r.0; third = r.1 }
 
-records_same : (c d : ℕ) (e f : Bool) (a b u v n m : List ToldRecord) → c ≡ d → e ≡ f → a ≡ b → u ≡ v → n ≡ m
-    → Records c e a u n ≡ Records d f b v m
-records_same c d e f a b u v n m g h i j k = rw (g, h, i, j, k) refl
+module _ (c d : ℕ) (e f : Bool) where
+  records_same : (a b u v n m : List ToldRecord) → c ≡ d → e ≡ f → a ≡ b → u ≡ v → n ≡ m
+      → Records c e a u n ≡ Records d f b v m
+  records_same a b u v n m g h i j k = rw (g, h, i, j, k) refl
 
 heard_tells : (r q : HeardView) (x y : List Line) → fitting_heard r ≡ true → fitting_heard q ≡ true → Untold x
     → Untold y

@@ -41,16 +41,16 @@ judged_at how s now inquiry is =
     ap (λ m. judge (verifier_answers inquiry.verifier) inquiry.anchors m) is.moment
     ∙ judge_plain how (at_moment now s) (verifier_answers inquiry.verifier) inquiry.anchors is.verifier is.anchors
 
-sound_by : {H : Type 0} (meanings : handle.Ghosts H) (how : Verification) (s : SessionValue) (now : ℕ)
-    (inquiry : Inquiry SessionVerifier)
-    (kept : CacheUse) (old new : H) (a : ResponseValue) → IsInquiryOf how s now inquiry
-    → IsSoundAnswer meanings (call_over tests.ghosts inquiry kept old new) a → IsSoundAt how s now a
-sound_by meanings how s now inquiry kept old new a is sound = record {
-  message = sound.message;
-  sound =
-      subst (λ m. Sound (session_judge how (at_moment now s)) m (told_by sound.message) a) is.moment
-      (subst (λ j. Sound j inquiry.moment (told_by sound.message) a) (judged_at how s now inquiry is) sound.sound);
-}
+module _ {H : Type 0} (meanings : handle.Ghosts H) (how : Verification) (s : SessionValue) (now : ℕ) where
+  sound_by : (inquiry : Inquiry SessionVerifier) (kept : CacheUse) (old new : H) (a : ResponseValue)
+      → IsInquiryOf how s now inquiry
+      → IsSoundAnswer meanings (call_over tests.ghosts inquiry kept old new) a → IsSoundAt how s now a
+  sound_by inquiry kept old new a is sound = record {
+    message = sound.message;
+    sound =
+        subst (λ m. Sound (session_judge how (at_moment now s)) m (told_by sound.message) a) is.moment
+        (subst (λ j. Sound j inquiry.moment (told_by sound.message) a) (judged_at how s now inquiry is) sound.sound);
+  }
 
 -- where ids and ports are drawn from
 abbrev drawn_at : Option ℕ → ℕ → RandDraws

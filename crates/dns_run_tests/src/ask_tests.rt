@@ -89,7 +89,6 @@ fn fails_so(rt: &impl Abort, alloc: Global, row: &FailRow) -> bool {
         let dial = Replying::new(alloc, call);
         held = sure_ends(alloc, &words, session, dial, row.status, row.text) && held;
     }
-    drop(words);
     held
 }
 

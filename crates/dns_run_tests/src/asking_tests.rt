@@ -145,8 +145,6 @@ fn is_end(reply: &Result<DnsResponse, NetError>, end: &End) -> bool {
 fn an_answer_is_validated_at_the_moment_and_a_fault_is_told(rt: HostRuntime) {
     for row in ROWS {
         let ended = asked(&rt, rt.alloc(), row);
-        let held = is_end(&ended.reply, &row.3);
-        drop(ended);
-        check_row(&rt, row.0, held);
+        check_row(&rt, row.0, is_end(&ended.reply, &row.3));
     }
 }

@@ -52,10 +52,7 @@ fn failing_ends(
     let mut sink = TextSink::new(alloc, Vec::new(alloc));
     let dial = Replying::new(alloc, 0);
     let ended = status_over(alloc, words, &mut source, &mut sink, dial);
-    let held = ended == status && *sink.taken() == *text;
-    drop(sink);
-    drop(source);
-    held
+    ended == status && *sink.taken() == *text
 }
 
 // Over a sink whose second write fails a row ends for that, with what was written before.
@@ -67,10 +64,7 @@ fn slow_ends(rt: &impl Abort, alloc: Global, words: &[Vec<u8>], row: &Row) -> bo
     };
     let dial = Replying::new(alloc, 0);
     let ended = status_over(alloc, words, &mut source, &mut sink, dial);
-    let held = ended == 5 && *sink.taken.as_slice() == *row.text.get(..1).unwrap_or_default();
-    drop(sink);
-    drop(source);
-    held
+    ended == 5 && *sink.taken.as_slice() == *row.text.get(..1).unwrap_or_default()
 }
 
 // Both kinds of source and sink end as the row says, which asks no server.
@@ -108,7 +102,6 @@ fn rows_end_as_they_say_and_where_the_outside_fails(rt: HostRuntime) {
         let held = ends_so(&rt, rt.alloc(), &words, row)
             && slow_ends(&rt, rt.alloc(), &words, row)
             && fails_so(&rt, rt.alloc(), &words, row);
-        drop(words);
         check_row(&rt, row.name, held);
     }
 }

@@ -31,9 +31,7 @@ pub(crate) fn status_over<S: Source, W: Sink, D: Dialer + Drop>(
 ) -> u8 {
     let mut clock = FixedClock::new(1000);
     let end = run(alloc, words, source, sink, dial, &mut clock);
-    let status = end.status;
-    drop(end);
-    status
+    end.status
 }
 
 /// Over a source of these bytes and a sink, neither of which fails, the words end with this status and this text.
@@ -48,8 +46,5 @@ pub(crate) fn sure_ends<D: Dialer + Drop>(
     let mut source = SureSource::new(session);
     let mut sink = SureSink::new(alloc);
     let ended = status_over(alloc, words, &mut source, &mut sink, dial);
-    let held = ended == status && *sink.taken() == *text;
-    drop(sink);
-    drop(source);
-    held
+    ended == status && *sink.taken() == *text
 }

@@ -128,7 +128,6 @@ fn holds(rt: &impl Abort, alloc: Global, case: &Case) -> bool {
     let mut exchange = exchange_over(rt, alloc, link, case.max);
     let first = asked(alloc, &mut exchange);
     let second = asked(alloc, &mut exchange);
-    drop(exchange);
     first == case.first && second == case.second
 }
 

@@ -31,7 +31,6 @@ fn is_read(rt: &impl Abort, alloc: Global, pieces: Vec<Octets>, frame: &[u8]) ->
     let first = read_next(rt, &mut stream, &mut read);
     let is_whole = *read.as_slice() == *behind(frame);
     let second = read_next(rt, &mut stream, &mut read);
-    drop(stream);
     first == Heard::Message && is_whole && second == Heard::Closed
 }
 
@@ -94,16 +93,13 @@ fn count_of(messages: &Result<Vec<Octets>, NetError>) -> Result<usize, Heard> {
 /// How many messages bytes give that are cut into single bytes, or the fault.
 fn unframed(rt: &impl Abort, alloc: Global, bytes: &[u8]) -> Result<usize, Heard> {
     let messages = unframe(alloc, single_bytes(rt, alloc, bytes));
-    let count = count_of(&messages);
-    drop(messages);
-    count
+    count_of(&messages)
 }
 
 #[test]
 fn ten_thousand_frames_are_unframed(rt: HostRuntime) {
     let bytes = frames(&rt, rt.alloc(), 10_000);
     let count = unframed(&rt, rt.alloc(), &bytes);
-    drop(bytes);
     check(&rt, "each frame is one message", count == Ok(10_000));
 }
 

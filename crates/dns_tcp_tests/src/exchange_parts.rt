@@ -13,9 +13,7 @@ pub(crate) fn asked<L: Link + Drop, R: Draws + Drop>(
     exchange: &mut TcpExchange<L, R>,
 ) -> Heard {
     let reply = exchange.send(alloc, query(alloc), 1000);
-    let heard = heard_reply(&reply);
-    drop(reply);
-    heard
+    heard_reply(&reply)
 }
 
 /// Puts the frame of a response without a question behind others, so often (RFC 1035, 4.2.2).

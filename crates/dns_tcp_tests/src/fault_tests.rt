@@ -69,7 +69,6 @@ fn is_told(rt: &impl Abort, alloc: Global, at: u64, kind: IoKind) -> bool {
     let told = exchange(rt, &mut stream, &mut read);
     let after = drain(&mut stream);
     let failures = stream.failures();
-    drop(stream);
     told == heard_as(kind) && after == Heard::Fault(IoKind::NotConnected) && failures == 2
 }
 
@@ -106,26 +105,20 @@ fn refusing(rt: &impl Abort, alloc: Global) -> ListDialer {
 /// What a stream is answered.
 fn stream_told(alloc: Global, dial: &mut ListDialer) -> Heard {
     let made = TcpStream::with_future(alloc, dial, server(), 5000);
-    let heard = heard_made(&made);
-    drop(made);
-    heard
+    heard_made(&made)
 }
 
 /// What a client's stream is answered.
 fn client_told(alloc: Global, dial: &mut ListDialer) -> Heard {
     let made = TcpClientStream::new(alloc, dial, server(), None, 5000);
-    let heard = heard_made(&made);
-    drop(made);
-    heard
+    heard_made(&made)
 }
 
 /// What an exchange is answered.
 fn exchange_told(rt: &impl Abort, alloc: Global, dial: &mut ListDialer) -> Heard {
     let draws = draws_of(rt, alloc, &[]);
     let made = TcpExchange::connect(alloc, dial, server(), None, 5000, None, draws);
-    let heard = heard_made(&made);
-    drop(made);
-    heard
+    heard_made(&made)
 }
 
 /// Dialing answers first a link's refusal and then that there is none.
@@ -148,5 +141,4 @@ fn a_refusal_of_the_dialer_is_passed_on(rt: HostRuntime) {
         "there is no link for an exchange",
         exchange_told(&rt, alloc, &mut dial) == Heard::Fault(IoKind::AddrNotAvailable),
     );
-    drop(dial);
 }

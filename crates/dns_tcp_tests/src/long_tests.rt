@@ -55,7 +55,6 @@ fn the_longest_message_is_carried(rt: HostRuntime) {
     let frame = longest_frame(&rt, alloc);
     let mut dial = dialer(&rt, alloc, &frame);
     let mut stream = stream_by(&rt, alloc, &mut dial);
-    drop(dial);
     let mut read = Vec::new(alloc);
     put(&rt, alloc, &mut stream, server(), behind(&frame));
     check(
@@ -95,7 +94,6 @@ fn next_for_client(
     for _ in 0..200_000u32 {
         let reply = stream.feed();
         let heard = heard_feed(rt, &reply, read);
-        drop(reply);
         if heard != Heard::More {
             return heard;
         }
@@ -115,10 +113,8 @@ fn carries_for_client(
     check(rt, "a queue with room", stream.has_room(handle));
     let put = stream.enqueue(handle, message_of(rt, alloc, behind(frame)));
     let is_taken = heard_made(&put) == Heard::Made;
-    drop(put);
     let drained = stream.drain();
     let is_written = heard_drain(&drained) == Heard::Written;
-    drop(drained);
     is_taken && is_written && next_for_client(rt, stream, read) == Heard::Message
 }
 
@@ -129,10 +125,8 @@ fn the_longest_message_is_carried_for_a_client(rt: HostRuntime) {
     let frame = longest_frame(&rt, alloc);
     let mut dial = dialer(&rt, alloc, &frame);
     let (mut stream, mut handle) = client_by(&rt, alloc, &mut dial);
-    drop(dial);
     let mut read = Vec::new(alloc);
     let carried = carries_for_client(&rt, alloc, &mut stream, &mut handle, &frame, &mut read);
-    drop(stream);
     check(&rt, "the message is written and read", carried);
     check(
         &rt,

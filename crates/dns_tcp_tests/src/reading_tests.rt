@@ -104,7 +104,6 @@ fn holds(rt: &impl Abort, alloc: Global, case: &Case) -> bool {
     let mut stream = stream_over(alloc, link_of(rt, alloc, case.pieces));
     let mut read = Vec::new(alloc);
     let heard = is_heard(rt, &mut stream, case.answers, &mut read);
-    drop(stream);
     heard && *read.as_slice() == *case.given
 }
 

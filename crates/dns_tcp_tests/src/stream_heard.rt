@@ -39,17 +39,13 @@ pub(crate) fn feed<L: Link + Drop>(
     read: &mut Vec<u8>,
 ) -> Heard {
     let reply = stream.feed();
-    let heard = heard_feed(rt, &reply, read);
-    drop(reply);
-    heard
+    heard_feed(rt, &reply, read)
 }
 
 /// Writes once.
 pub(crate) fn drain<L: Link + Drop>(stream: &mut TcpStream<L>) -> Heard {
     let reply = stream.drain();
-    let heard = heard_drain(&reply);
-    drop(reply);
-    heard
+    heard_drain(&reply)
 }
 
 /// Reads until something else than a part of a message comes.

@@ -75,9 +75,7 @@ pub(crate) fn put_by<L: Link + Drop>(
     bytes: &[u8],
 ) -> bool {
     let put = stream.enqueue(handle, message_of(rt, alloc, bytes));
-    let held = heard_made(&put) == Heard::Made;
-    drop(put);
-    held
+    heard_made(&put) == Heard::Made
 }
 
 /// Puts it there by a handle of the usual size to an address, and it is taken.

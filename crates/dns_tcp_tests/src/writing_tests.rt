@@ -32,7 +32,6 @@ fn ends(rt: &impl Abort, alloc: Global, row: &(usize, u8, IoKind)) -> bool {
     bytes.clear();
     let first = drain(&mut stream);
     let second = feed(rt, &mut stream, &mut bytes);
-    drop(stream);
     first == Heard::Fault(row.2) && second == Heard::Fault(IoKind::NotConnected)
 }
 
@@ -103,7 +102,6 @@ fn a_link_that_takes_nothing_is_a_fault(rt: HostRuntime) {
         drain(&mut stream) == Heard::Fault(IoKind::NotConnected),
     );
     check(&rt, "both faults are counted", stream.failures() == 2);
-    drop(stream);
 }
 
 /// How many messages of one byte a queue takes of fifty by a handle, as it tells before each.
@@ -140,5 +138,4 @@ fn a_stream_takes_one_more_than_its_size(rt: HostRuntime) {
         "a queue of size 3 takes four",
         taken(&rt, alloc, &mut stream, &mut handle) == 4,
     );
-    drop(stream);
 }

@@ -231,47 +231,48 @@ left_first g placed left entries sets is none =
 one_less : (left more : List PlacedSet) (p : PlacedSet) → left ≡ more ++ p ∷ [] → reverse left ≡ p ∷ reverse more
 one_less left more p is = ap reverse is ∙ reverse-append more (p ∷ [])
 
--- one set less
-pub left_next : (g : StepContext) (placed left more : List PlacedSet) (p : PlacedSet)
-    (entries others rest : List JudgedSetValue) (e : JudgedSetValue) (sets : List MarkedSet) (j : MarkedSet)
-    → AreLeft g placed left entries others sets → left ≡ more ++ p ∷ [] → others ≡ e ∷ rest
-    → Some j ≡ some_if (entry_holds g p e) (with_entry (p, e))
-    → AreLeft g placed more entries rest (sets ++ j ∷ [])
-unfolding entries_hold
-left_next g placed left more p entries others rest e sets j so_far less first is =
-    let back = one_less left more p less in
-    let one = some_held (entry_holds g p e) j (with_entry (p, e)) is in
-    record {
-      hold =
-          sym (ap (λ b. b && entries_hold g (reverse more) rest) one.0)
-          ∙ sym (ap (λ ps. entries_hold g ps others) back ∙ ap (entries_hold g (p ∷ reverse more)) first) ∙ so_far.hold;
-      marks = append_assoc sets (j ∷ []) (with_entries (reverse more) rest)
-          ∙ ap (λ x. sets ++ x ∷ with_entries (reverse more) rest) one.1
-          ∙ sym (ap (λ ps. sets ++ with_entries ps others) back ∙ ap (λ es. sets ++ with_entries (p ∷ reverse more) es) first)
-          ∙ so_far.marks;
-    }
+module _ (g : StepContext) (placed left more : List PlacedSet) (p : PlacedSet) where
+  -- one set less
+  pub left_next : (entries others rest : List JudgedSetValue) (e : JudgedSetValue) (sets : List MarkedSet) (j : MarkedSet)
+      → AreLeft g placed left entries others sets → left ≡ more ++ p ∷ [] → others ≡ e ∷ rest
+      → Some j ≡ some_if (entry_holds g p e) (with_entry (p, e))
+      → AreLeft g placed more entries rest (sets ++ j ∷ [])
+  unfolding entries_hold
+  left_next entries others rest e sets j so_far less first is =
+      let back = one_less left more p less in
+      let one = some_held (entry_holds g p e) j (with_entry (p, e)) is in
+      record {
+        hold =
+            sym (ap (λ b. b && entries_hold g (reverse more) rest) one.0)
+            ∙ sym (ap (λ ps. entries_hold g ps others) back ∙ ap (entries_hold g (p ∷ reverse more)) first) ∙ so_far.hold;
+        marks = append_assoc sets (j ∷ []) (with_entries (reverse more) rest)
+            ∙ ap (λ x. sets ++ x ∷ with_entries (reverse more) rest) one.1
+            ∙ sym (ap (λ ps. sets ++ with_entries ps others) back
+            ∙ ap (λ es. sets ++ with_entries (p ∷ reverse more) es) first)
+            ∙ so_far.marks;
+      }
 
--- a set without an entry
-pub left_alone : (g : StepContext) (placed left more : List PlacedSet) (p : PlacedSet)
-    (entries others : List JudgedSetValue) (sets : List MarkedSet)
-    → AreLeft g placed left entries others sets → left ≡ more ++ p ∷ [] → others ≡ []
-    → None ≡ some_if (entries_hold g placed entries) (with_entries placed entries)
-unfolding entries_hold
-left_alone g placed left more p entries others sets so_far less none =
-    sym (ap (λ b. some_if b (with_entries placed entries))
-    (sym so_far.hold ∙ ap (λ ps. entries_hold g ps others) (one_less left more p less) ∙ ap (entries_hold g (p ∷ reverse more)) none))
+  -- a set without an entry
+  pub left_alone : (entries others : List JudgedSetValue) (sets : List MarkedSet)
+      → AreLeft g placed left entries others sets → left ≡ more ++ p ∷ [] → others ≡ []
+      → None ≡ some_if (entries_hold g placed entries) (with_entries placed entries)
+  unfolding entries_hold
+  left_alone entries others sets so_far less none =
+      sym (ap (λ b. some_if b (with_entries placed entries))
+      (sym so_far.hold ∙ ap (λ ps. entries_hold g ps others) (one_less left more p less)
+      ∙ ap (entries_hold g (p ∷ reverse more)) none))
 
--- a set whose entry doesn't hold
-pub left_refused : (g : StepContext) (placed left more : List PlacedSet) (p : PlacedSet)
-    (entries others rest : List JudgedSetValue) (e : JudgedSetValue) (sets : List MarkedSet)
-    → AreLeft g placed left entries others sets → left ≡ more ++ p ∷ [] → others ≡ e ∷ rest
-    → None ≡ some_if (entry_holds g p e) (with_entry (p, e))
-    → None ≡ some_if (entries_hold g placed entries) (with_entries placed entries)
-unfolding entries_hold
-left_refused g placed left more p entries others rest e sets so_far less first is =
-    sym (ap (λ b. some_if b (with_entries placed entries))
-    (sym so_far.hold ∙ ap (λ ps. entries_hold g ps others) (one_less left more p less) ∙ ap (entries_hold g (p ∷ reverse more)) first
-    ∙ ap (λ b. b && entries_hold g (reverse more) rest) (none_held (entry_holds g p e) (with_entry (p, e)) is)))
+  -- a set whose entry doesn't hold
+  pub left_refused : (entries others rest : List JudgedSetValue) (e : JudgedSetValue) (sets : List MarkedSet)
+      → AreLeft g placed left entries others sets → left ≡ more ++ p ∷ [] → others ≡ e ∷ rest
+      → None ≡ some_if (entry_holds g p e) (with_entry (p, e))
+      → None ≡ some_if (entries_hold g placed entries) (with_entries placed entries)
+  unfolding entries_hold
+  left_refused entries others rest e sets so_far less first is =
+      sym (ap (λ b. some_if b (with_entries placed entries))
+      (sym so_far.hold ∙ ap (λ ps. entries_hold g ps others) (one_less left more p less)
+      ∙ ap (entries_hold g (p ∷ reverse more)) first
+      ∙ ap (λ b. b && entries_hold g (reverse more) rest) (none_held (entry_holds g p e) (with_entry (p, e)) is)))
 
 -- no set is left, and no entry
 pub left_none : (g : StepContext) (placed left : List PlacedSet) (entries others : List JudgedSetValue)

@@ -64,38 +64,39 @@ last_step : (b : Bool) (done : List Verdict) (v : Verdict)
 last_step true done v = refl
 last_step false done v = refl
 
--- the first signature proves the set
-pub tried_proved : (g : StepContext) (set : RrSet) (done : List Verdict) (sigs : List Rr) (r : Rr) (rs : List Rr)
-    (asks : List AskRef) (whole : Option (List Verdict))
-    (v : Verdict) (left : List AskRef)
-    → behind done (verdicts_by g set sigs asks) ≡ whole → sigs ≡ r ∷ rs → tried_by g set r asks ≡ Some (v, left)
-    → is_proved v ≡ true
-    → some_if (is_empty left) (done ++ v ∷ []) ≡ whole
-unfolding after_try
-tried_proved g set done sigs r rs asks whole v left so_far first tried proved =
-    sym (last_step (is_empty left) done v)
-    ∙ sym (ap (λ b. behind done (if b then if_last left (v ∷ []) else after_verdict v (verdicts_by g set rs left))) proved)
-    ∙ sym (ap (λ o. behind done (after_try o (verdicts_by g set rs))) tried)
-    ∙ sym (ap (behind done) (ap (λ xs. verdicts_by g set xs asks) first ∙ step g set r rs asks)) ∙ so_far
-
 more_step : (done : List Verdict) (v : Verdict) (o : Option (List Verdict))
     → behind (done ++ v ∷ []) o ≡ behind done (after_verdict v o)
 more_step done v None = refl
 more_step done v (Some vs) = ap Some (append_assoc done (v ∷ []) vs)
 
--- it doesn't
-pub tried_more : (g : StepContext) (set : RrSet) (done : List Verdict) (sigs : List Rr) (r : Rr) (rs : List Rr)
-    (asks : List AskRef) (whole : Option (List Verdict))
-    (v : Verdict) (left : List AskRef)
-    → behind done (verdicts_by g set sigs asks) ≡ whole → sigs ≡ r ∷ rs → tried_by g set r asks ≡ Some (v, left)
-    → is_proved v ≡ false
-    → behind (done ++ v ∷ []) (verdicts_by g set rs left) ≡ whole
-unfolding after_try
-tried_more g set done sigs r rs asks whole v left so_far first tried failed =
-    more_step done v (verdicts_by g set rs left)
-    ∙ sym (ap (λ b. behind done (if b then if_last left (v ∷ []) else after_verdict v (verdicts_by g set rs left))) failed)
-    ∙ sym (ap (λ o. behind done (after_try o (verdicts_by g set rs))) tried)
-    ∙ sym (ap (behind done) (ap (λ xs. verdicts_by g set xs asks) first ∙ step g set r rs asks)) ∙ so_far
+module _ (g : StepContext) (set : RrSet) (done : List Verdict) where
+  -- the first signature proves the set
+  pub tried_proved : (sigs : List Rr) (r : Rr) (rs : List Rr) (asks : List AskRef) (whole : Option (List Verdict))
+      (v : Verdict) (left : List AskRef)
+      → behind done (verdicts_by g set sigs asks) ≡ whole → sigs ≡ r ∷ rs → tried_by g set r asks ≡ Some (v, left)
+      → is_proved v ≡ true
+      → some_if (is_empty left) (done ++ v ∷ []) ≡ whole
+  unfolding after_try
+  tried_proved sigs r rs asks whole v left so_far first tried proved =
+      sym (last_step (is_empty left) done v)
+      ∙ sym
+      (ap (λ b. behind done (if b then if_last left (v ∷ []) else after_verdict v (verdicts_by g set rs left))) proved)
+      ∙ sym (ap (λ o. behind done (after_try o (verdicts_by g set rs))) tried)
+      ∙ sym (ap (behind done) (ap (λ xs. verdicts_by g set xs asks) first ∙ step g set r rs asks)) ∙ so_far
+
+  -- it doesn't
+  pub tried_more : (sigs : List Rr) (r : Rr) (rs : List Rr) (asks : List AskRef) (whole : Option (List Verdict))
+      (v : Verdict) (left : List AskRef)
+      → behind done (verdicts_by g set sigs asks) ≡ whole → sigs ≡ r ∷ rs → tried_by g set r asks ≡ Some (v, left)
+      → is_proved v ≡ false
+      → behind (done ++ v ∷ []) (verdicts_by g set rs left) ≡ whole
+  unfolding after_try
+  tried_more sigs r rs asks whole v left so_far first tried failed =
+      more_step done v (verdicts_by g set rs left)
+      ∙ sym
+      (ap (λ b. behind done (if b then if_last left (v ∷ []) else after_verdict v (verdicts_by g set rs left))) failed)
+      ∙ sym (ap (λ o. behind done (after_try o (verdicts_by g set rs))) tried)
+      ∙ sym (ap (behind done) (ap (λ xs. verdicts_by g set xs asks) first ∙ step g set r rs asks)) ∙ so_far
 
 all_step : (b : Bool) (done : List Verdict) → some_if b done ≡ behind done (if b then Some [] else None)
 all_step true done = ap Some (sym (append-nil done))

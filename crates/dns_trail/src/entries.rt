@@ -239,10 +239,7 @@ fn judged_unsigned<V: Verifier>(
             unsigned_set(context.alloc, placed, mark),
             entry,
         )),
-        None => {
-            drop(placed);
-            Ok(None)
-        }
+        None => Ok(None),
     }
 }
 

@@ -35,7 +35,6 @@ pub(crate) fn search_zone<V: Verifier>(
     };
     let question = ns_query(name, class)?;
     if !is_plain_ask(context, &question, *ask) {
-        drop(question);
         return Ok(None);
     }
     // The search goes on above by calling itself, so the question is freed first.

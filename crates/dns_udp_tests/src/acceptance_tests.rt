@@ -57,11 +57,8 @@ fn judged(rt: &impl Abort, alloc: Global, case: bool, from: Origin, bytes: &[u8]
     let request = Message::from_vec(alloc, ASKED).expect(rt, "a message");
     let server = address(Origin::Server);
     let accepted = accept_datagram(alloc, &request, server, case, address(from), bytes);
-    drop(request);
     let accepted = accepted.expect(rt, "memory");
-    let kind = kind_of(&accepted);
-    drop(accepted);
-    kind
+    kind_of(&accepted)
 }
 
 /// Whether letters count, where a datagram comes from, its bytes, and what it comes to.

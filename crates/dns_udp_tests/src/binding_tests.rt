@@ -156,10 +156,7 @@ fn heard_over(rt: &impl Abort, alloc: Global, dial: &mut Watching, row: &Row) ->
         Some(avoid),
         row.os_ports,
     );
-    let heard = heard_made(&made);
-    drop(made);
-    drop(draws);
-    heard
+    heard_made(&made)
 }
 
 /// Whether a stream is bound as the row says.

@@ -18,8 +18,6 @@ fn attempted(rt: &impl Abort, alloc: Global, avoided: u32) -> (u16, u8) {
     let mut draws = ListDraws::new(Vec::new(alloc), drawn(rt, alloc, avoided));
     let mut attempted = 0;
     let port = next_port(&mut draws, &mut attempted, &avoid);
-    drop(draws);
-    drop(avoid);
     (port, attempted)
 }
 

@@ -308,11 +308,7 @@ fn heard_over(
     let mut stream = built(builder, call.tries);
     let mut draws = draws_of(rt, alloc, &[]);
     let reply = stream.send_message(alloc, dial, &mut draws, request);
-    let heard = heard_for(request, &reply);
-    drop(reply);
-    drop(draws);
-    drop(stream);
-    heard
+    heard_for(request, &reply)
 }
 
 /// Whether a call comes to what it is to come to, and its request is sent alike on as many sockets as it is to.
@@ -320,7 +316,6 @@ fn holds(rt: &impl Abort, alloc: Global, call: &Call) -> bool {
     let request = request_for(rt, alloc, call);
     let mut dial = Watching::new(call.asked, call.coming, call.is_short, 0).after(call.quiet);
     let heard = heard_over(rt, alloc, &mut dial, &request, call);
-    drop(request);
     heard == call.heard && dial.alike == call.sockets && dial.others == 0
 }
 

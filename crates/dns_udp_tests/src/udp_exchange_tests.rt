@@ -38,7 +38,6 @@ fn told(alloc: Global, dial: Watching, draws: ListDraws, request: DnsRequest) ->
     let mut exchange = UdpClientStream::builder(alloc, server()).exchange(dial, draws);
     let reply = exchange.send(alloc, request, 0);
     let heard = heard_reply(&reply);
-    drop(reply);
     (heard, exchange.into_dialer())
 }
 

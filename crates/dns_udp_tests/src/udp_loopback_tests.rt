@@ -85,11 +85,7 @@ fn is_answered<R: Net + Clock + Alloc<A = Global> + Abort>(
         .with_bind_addr(Some(local))
         .build();
     let reply = stream.send_message(alloc, &mut dial, &mut draws, &request);
-    drop(request);
-    let held = is_answer(&reply);
-    drop(reply);
-    drop(stream);
-    held
+    is_answer(&reply)
 }
 
 /// Whether a server of this machine is heard by a client at a local address that it has chosen.

@@ -22,9 +22,7 @@ fn is_put<G: Datagrams + Drop>(
         addr: server(),
     };
     let put = stream.enqueue(handle, message);
-    let held = heard_made(&put) == Heard::Made;
-    drop(put);
-    held
+    heard_made(&put) == Heard::Made
 }
 
 /// The length of what came, and its last byte; 0 where nothing did.
@@ -44,9 +42,7 @@ fn came(reply: &Result<Option<SerialMessage>, NetError>) -> Came {
 /// What comes next.
 fn received<G: Datagrams + Drop>(alloc: Global, stream: &mut UdpStream<G>) -> Came {
     let reply = stream.receive(alloc);
-    let came = came(&reply);
-    drop(reply);
-    came
+    came(&reply)
 }
 
 /// How many of 40 messages are taken to be sent.
@@ -95,7 +91,6 @@ fn a_stream_takes_33_messages_and_receives(rt: HostRuntime) {
         "nothing comes then",
         received(alloc, &mut stream) == Err(Heard::Waiting),
     );
-    drop(stream);
 }
 
 #[test]
@@ -127,5 +122,4 @@ fn what_waits_is_sent_once_and_in_order(rt: HostRuntime) {
         "nothing comes back then",
         received(alloc, &mut stream) == Err(Heard::Waiting),
     );
-    drop(stream);
 }
