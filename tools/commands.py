@@ -3,6 +3,7 @@ import argparse
 import os
 import sys
 
+import reading
 from report_lines import BadLine
 from reports import NoReport, report_in
 
@@ -11,7 +12,7 @@ NO_REPORT, BAD_INPUT, NOT_READ, NOT_WRITTEN = 1, 3, 4, 5
 
 
 def seconds(word):
-    """A moment on the command line."""
+    """A time on the command line."""
     value = int(word)
     if not 0 <= value < 2**64:
         raise ValueError(word)
@@ -19,9 +20,10 @@ def seconds(word):
 
 
 def words_of(tool, about):
-    """The words that both tools take."""
+    """The arguments that both tools take."""
     parser = argparse.ArgumentParser(prog=tool, description=about, formatter_class=argparse.RawDescriptionHelpFormatter)
-    parser.add_argument("--moment", type=seconds, metavar="SECONDS", help="the moment of the session, in seconds since 1970")
+    parser.add_argument("--session", metavar="FILE", help="the session of the report: its query, its time and its replies are used")
+    parser.add_argument("--moment", type=seconds, metavar="SECONDS", help="the time of the session, in seconds since 1970, or another one")
     parser.add_argument("report", metavar="REPORT", help="a file, or - for the standard input")
     return parser
 
@@ -48,19 +50,36 @@ def write_output(text):
         raise
 
 
-def run(tool, path, made):
-    """Writes the text that `made` makes of the report at a path, and answers the status."""
+def session_at(path):
+    """The session of a file, or None without one. Of its lines no more is looked at than these tools use."""
+    if path is None:
+        return None
+    session = reading.session_in(read_input(path))
+    for _, (word, rest) in session.replies:
+        _ = reading.FAULTS[rest] if word == "fault" else reading.octets_in(rest)
+    return session
+
+
+def run(tool, words, made):
+    """Writes the text that `made` makes of the report that the arguments name, and answers the status. `made` takes the report, the time or
+    None, and the session or None."""
     def said(status, what):
         if sys.stderr is not None:
             print(f"{tool}: {what}", file=sys.stderr)
         return status
 
+    path = words.session
     try:
+        session = session_at(path)
+        path = words.report
         octets = read_input(path)
     except OSError as error:
         return said(NOT_READ, f"{path} can't be read: {error.strerror or error}")
+    except (KeyError, ValueError, IndexError):
+        return said(BAD_INPUT, f"{path} is no session; dns_check names its first bad line")
+    moment = words.moment if words.moment is not None or session is None else session.moment
     try:
-        text = made(report_in(octets))
+        text = made(report_in(octets), moment, session)
     except BadLine as bad:
         return said(BAD_INPUT, f"{path} is no report: {bad}")
     except NoReport as none:

@@ -1,10 +1,12 @@
 """A report as SVG, which is what `tools/picture` writes: where zones, boxes and arrows stand, and how they look."""
+import re
 import textwrap
 from dataclasses import dataclass
 from xml.sax.saxutils import escape, quoteattr
 
 from graph import SET, Graph, Zone, worse
 from presentation import code_text, name_text, set_text, time_text
+from reasons import told_faults
 from reports import MARKS, RRSIG
 
 # in pixels; a sign of a font of one width is six tenths as wide as it is high
@@ -40,8 +42,19 @@ class Box:
 # ---- sizes and places
 
 def wrapped(line, most):
-    """A long line as several; a word that is too long is broken."""
-    return textwrap.wrap(line, most, break_on_hyphens=False) or [""]
+    """A long line as several. A name that is too long is broken behind its dots; no other word is."""
+    return textwrap.wrap(" ".join(part for word in line.split(" ") for part in parts_of(word, most)), most, break_on_hyphens=False,
+                         break_long_words=False) or [""]
+
+
+def parts_of(word, most):
+    """A word that is too long, broken behind dots."""
+    parts = [""]
+    for piece in re.findall(r"(?:\\.|[^.\\])*\.?", word) if len(word) > most else [word]:
+        if parts[-1] and len(parts[-1] + piece) > most:
+            parts.append("")
+        parts[-1] += piece
+    return parts
 
 
 def node_lines(node):
@@ -80,11 +93,12 @@ def head_of(zone):
 
 
 class Layout:
-    """The box of each zone and each node, by its identity."""
+    """The box of each zone and each node, by its identity; and in which level and zone a node stands."""
 
     def __init__(self, graph, top, least):
-        self.boxes, self.width, top = {}, 0, top + 30
+        self.boxes, self.homes, self.width, top = {}, {}, 0, top + 30
         levels = graph.levels()
+        self.levels = [[id(zone) for zone in level] for level in levels]
         sizes = {id(zone): self.zone_size(zone) for level in levels for zone in level}
         widths = [sum(sizes[id(zone)][0] + ZONE_GAP for zone in level) - ZONE_GAP for level in levels]
         self.width = max([*widths, least]) + 2 * MARGIN
@@ -106,6 +120,7 @@ class Layout:
 
     def place(self, zone, box):
         self.boxes[id(zone)] = box
+        self.homes.update({id(node): id(zone) for node in zone.nodes})
         top = box.top + head_of(zone)
         for row in rows_of(zone):
             sizes = [size_of(node) for node in row]
@@ -164,7 +179,15 @@ def draw_node(node, box):
 
 
 def draw_arrows(graph, layout):
-    """From below the start to above the end; arrows that share a place stand side by side."""
+    """From below the start to above the end, around what lies between; arrows that share a place stand side by side."""
+    routes = Routes(layout)
+    for arrow, points in arrow_points(graph, layout, routes):
+        path = f'<path d="{curve(points)}" fill="none" {line_look(arrow.mark)} marker-end="url(#{arrow.mark})"/>'
+        yield f"<g><title>{escape(arrow.tip)}</title>{path}</g>"
+
+
+def arrow_points(graph, layout, routes):
+    """Each arrow with the points that it goes through."""
     leaving, coming = {}, {}
     for arrow in graph.arrows:
         leaving.setdefault(id(arrow.start), []).append(arrow)
@@ -175,7 +198,7 @@ def draw_arrows(graph, layout):
         to_left = beside(arrow, coming[id(arrow.end)], end, lambda one: layout.boxes[id(one.start)].center())
         if isinstance(arrow.end, Zone):
             to_left = min(max(from_left, end.left + 30), end.left + end.width - 30)
-        yield f"<g><title>{escape(arrow.tip)}</title>{arrow_path(arrow, start, end, from_left, to_left)}</g>"
+        yield arrow, routes.points(arrow, from_left, to_left)
 
 
 def beside(arrow, arrows, box, place):
@@ -185,18 +208,82 @@ def beside(arrow, arrows, box, place):
     return box.center() + (next(at for at, one in enumerate(ordered) if one is arrow) - (len(ordered) - 1) / 2) * step
 
 
-def arrow_path(arrow, start, end, from_left, to_left):
-    """A bow from above to below; between boxes beside each other one that goes around below, where the rows leave room."""
-    top = start.bottom() + 2
-    if end.top >= start.bottom():
-        bottom = end.top - 8 - 5 * getattr(arrow.end, "is_anchor", False)
-        bend = max((bottom - top) * 0.45, 12)
-        leaves, comes = top + bend, bottom - bend
-    else:
-        bottom = end.bottom() + 8
-        leaves = comes = max(top, bottom) + 20
-    bow = f"M{from_left:.1f} {top:.1f} C{from_left:.1f} {leaves:.1f} {to_left:.1f} {comes:.1f} {to_left:.1f} {bottom:.1f}"
-    return f'<path d="{bow}" fill="none" {line_look(arrow.mark)} marker-end="url(#{arrow.mark})"/>'
+class Routes:
+    """Ways between boxes that lead through none of them: past each row of boxes and each level of zones in a lane between two, beside the lanes
+    that other arrows have there."""
+
+    def __init__(self, layout):
+        self.layout, self.lanes = layout, []
+
+    def points(self, arrow, from_left, to_left):
+        start, end = self.layout.boxes[id(arrow.start)], self.layout.boxes[id(arrow.end)]
+        top, bottom = start.bottom() + 2, end.top - 8 - 5 * getattr(arrow.end, "is_anchor", False)
+        if end.top >= start.bottom():
+            bands = self.bands(arrow, start.bottom() + 1, end.top - 1)
+            return self.through(bands, (from_left, top), (to_left, bottom))
+        return self.around(arrow, (from_left, top), (to_left, end.bottom() + 8))
+
+    def bands(self, arrow, top, bottom):
+        """What lies between, from above to below: of the zones that the arrow begins and ends in the boxes, of others the zones."""
+        homes = {self.layout.homes[id(arrow.start)], self.layout.homes.get(id(arrow.end), id(arrow.end))}
+        boxes = [self.layout.boxes[node] for node, home in self.layout.homes.items() if home in homes]
+        boxes += [self.layout.boxes[zone] for level in self.layout.levels for zone in level if zone not in homes]
+        bands = []
+        for box in sorted((box for box in boxes if box.bottom() > top and box.top < bottom), key=lambda box: box.top):
+            if bands and box.top < bands[-1][1] + 4:
+                bands[-1] = bands[-1][0], max(bands[-1][1], box.bottom()), [*bands[-1][2], box]
+            else:
+                bands.append((box.top, box.bottom(), [box]))
+        return [(max(high, top), min(low, bottom), some) for high, low, some in bands]
+
+    def through(self, bands, first, last):
+        """A lane through each band, as near as can be to the straight way."""
+        points = [first]
+        for high, low, boxes in bands:
+            left = first[0] if high <= first[1] else last[0] if low >= last[1] else None
+            if left is None:
+                share = (high - points[-1][1]) / max(last[1] - points[-1][1], 1)
+                left = self.lane(boxes, points[-1][0] + (last[0] - points[-1][0]) * share, high, low)
+            points += [(left, max(high - 4, first[1])), (left, min(low + 4, last[1]))]
+        return [*points, last]
+
+    def lane(self, boxes, wished, high, low):
+        """The free place nearest to a wished one, and not where another arrow has its own."""
+        taken = [(box.left - 9, box.left + box.width + 9) for box in boxes]
+        taken += [(at - 7, at + 7) for at, above, below in self.lanes if above < low and below > high]
+        edges = [wished, *(edge for span in taken for edge in span)]
+        free = [edge for edge in edges if 4 < edge < self.layout.width - 4 and not any(left < edge < right for left, right in taken)]
+        chosen = min(free, key=lambda edge: abs(edge - wished), default=wished)
+        self.lanes.append((chosen, high, low))
+        return chosen
+
+    def around(self, arrow, first, last):
+        """To a box that stands beside, or above: below all of its row, and where it is above up in a lane past both zones."""
+        bands = self.bands(arrow, min(last[1], first[1]) - 6, max(last[1], first[1]) + 6)
+        below = max([first[1], last[1], *(low for high, low, _ in bands if high < first[1])]) + 16
+        if abs(first[1] - last[1]) < 200 and not self.crosses(arrow, last, below):
+            return [first, (first[0], below), (last[0], below), last]
+        boxes = [box for _, _, some in self.bands(arrow, last[1], below) for box in some]
+        left = self.lane(boxes, (first[0] + last[0]) / 2, last[1], below)
+        return [first, (first[0], first[1] + 12), (left, first[1] + 12), (left, last[1] + 12), (last[0], last[1] + 12), last]
+
+    def crosses(self, arrow, last, below):
+        """Whether the way up to a box leads through another one."""
+        boxes = [box for _, _, some in self.bands(arrow, last[1] + 1, below) for box in some]
+        return any(box.left < last[0] < box.left + box.width for box in boxes if box.top > last[1])
+
+
+def curve(points):
+    """A path through points: straight where two stand above each other or beside, and a bow else."""
+    path, (left, top) = [f"M{points[0][0]:.1f} {points[0][1]:.1f}"], points[0]
+    for to_left, to_top in points[1:]:
+        if abs(to_left - left) < 0.05 or abs(to_top - top) < 0.05:
+            path.append(f"L{to_left:.1f} {to_top:.1f}")
+        else:
+            bend = (to_top - top) * 0.45
+            path.append(f"C{left:.1f} {top + bend:.1f} {to_left:.1f} {to_top - bend:.1f} {to_left:.1f} {to_top:.1f}")
+        left, top = to_left, to_top
+    return " ".join(path)
 
 
 def draw_legend(left, top):
@@ -208,21 +295,23 @@ def draw_legend(left, top):
     yield from (text(MARGIN, top + LINE * (place + 1) + 6, line) for place, line in enumerate(SHAPES))
 
 
-def title_lines(report, moment):
-    """The query with what it came to, in as many lines as it needs; below these the moment."""
+def title_lines(report, moment, session):
+    """The query with what it came to, in as many lines as it needs; below these the time."""
     top = report.steps[-1] if report.steps else None
-    asked = f"{set_text(top.name, top.kind)}: " if top else ""
+    query = session.query if session else (top.name, top.kind) if top else None
+    asked = f"{set_text(*query)}: " if query else ""
     denied = "" if report.denial == ["none"] else f", denial {' '.join(report.denial)}"
     marks = {one.mark for one in report.records if one.section == "answer" and one.record.kind != RRSIG}
     answer = f", the answer is {worse(*marks).capitalize()}" if marks else ""
-    below = f"judged at {time_text(moment)}" if moment is not None else "at a moment that isn't told"
+    below = f"judged at {time_text(moment)}" if moment is not None else "the time isn't known"
     below += "" if top else "; a report without a trail"
     return wrapped(f"{asked}{code_text(report.code)}{answer}{denied}", 2 * WRAP), below
 
 
-def picture(report, moment):
+def picture(report, moment, session=None):
+    told_faults(report, session)
     graph = Graph(report, moment)
-    titles, below = title_lines(report, moment)
+    titles, below = title_lines(report, moment, session)
     least = max(max(map(len, titles)) * TITLE_FONT, max(map(len, (*SHAPES, below))) * FONT) * SIGN
     top = MARGIN + 24 * len(titles)
     layout = Layout(graph, top, least)
@@ -237,7 +326,7 @@ def picture(report, moment):
     signs = int((layout.width - 2 * MARGIN) / FONT / SIGN)
     failed = [part for line in graph.failed for part in wrapped(line, signs)]
     if failed:
-        parts.append(text(MARGIN, foot, "Asks without an answer to judge by", FONT, "bold"))
+        parts.append(text(MARGIN, foot, "Queries without an answer to judge by", FONT, "bold"))
         parts += [text(MARGIN, foot + (place + 1) * LINE, line) for place, line in enumerate(failed)]
         foot += (len(failed) + 2) * LINE
     parts += draw_legend(MARGIN, foot)

@@ -150,7 +150,7 @@ class Graph:
                 self.add_ds(fact)
         self.add_sets([fact for fact in self.facts if fact.kind not in (DNSKEY, DS)])
         self.add_denials(report)
-        self.failed = list(dict.fromkeys(f"The ask {asked_fault(step)}." for step in report.steps or [] if asked_fault(step)))
+        self.failed = list(dict.fromkeys(f"The query {asked_fault(step)}." for step in report.steps or [] if asked_fault(step)))
         self.mark_zones()
 
     def zone(self, name):

@@ -1,15 +1,53 @@
 """What a report's trail says of why a set isn't Secure, in words, for `tools/show` and `tools/picture`.
 
-A report doesn't hold the moment at which it was judged. Where that is handed in, signatures whose time it isn't are told from
-others."""
+A report doesn't hold the time at which it was judged, nor why a reply is missing. The session has both: where they are given, signatures that had ended
+are named, and so is what came in place of a reply."""
+import denial
+import hashes
+import reading
 from answers import is_set
-from model import serial_at_or_before
-from presentation import by_tag, key_roles, name_text, set_text, signature_of, time_text
-from reading import dnskey_of, folded, is_above
+from model import DIGESTS, Lookup, serial_at_or_before
+from presentation import by_tag, code_text, ds_text, key_roles, name_text, set_text, signature_of, time_text
+from reading import dnskey_of, ds_of, folded, is_above
 
-DS, DNSKEY, NS = 43, 48, 2
+DS, DNSKEY, NS, NSEC, NSEC3, NAME_ERROR = 43, 48, 2, 47, 50, 3
 ANSWERED = ("none", "absent", "expanded")
-REFUSED = {"deep": "an ask would have been too deep", "many": "there had been as many asks as may be"}
+REFUSED = {"deep": "a query would have been too deep", "many": "there had been as many queries as may be"}
+FAULTS = {"timeout": "the server didn't answer in time", "io": "the connection failed", "busy": "the server was busy"}
+DAY, HOUR = 86_400, 3_600
+
+
+# ---- what a session adds
+
+def told_faults(report, session):
+    """Notes at each step what the session has in place of a whole reply, where all its lines for the question say the same."""
+    for step in report.steps or [] if session else []:
+        lines = [line for question, line in session.replies if question == (folded(step.name), step.kind)]
+        faults = {fault_of(line) for line in lines} or {"the session has no reply to it"}
+        step.fault = faults.pop() if len(faults) == 1 else None
+
+
+def fault_of(line):
+    """Why a line of a session is no whole reply, or None."""
+    word, rest = line
+    if word == "fault":
+        return FAULTS[rest]
+    try:
+        return "the reply was truncated" if reading.message_in(reading.octets_in(rest)).is_truncated else None
+    except reading.Fault as fault:
+        kind, offset = fault.args
+        return f"the reply is no message: {kind} at byte {offset}"
+
+
+def span_text(seconds):
+    """How long something is, in days, hours or seconds."""
+    for unit, word in ((DAY, "day"), (HOUR, "hour"), (1, "second")):
+        if seconds >= unit:
+            return f"{seconds // unit} {word}{'' if seconds // unit == 1 else 's'}"
+    return "no time"
+
+
+# ---- sets
 
 
 def made_asks(asks):
@@ -68,7 +106,7 @@ def reasons(steps, step, entry, moment=None):
         yield "it has no signature"
     faults = [signature_fault(steps, step, entry, signature, moment) for signature in signatures]
     yield from dict.fromkeys(faults)
-    yield from dict.fromkeys(f"the ask {fault}" for fault in (asked_fault(steps[ask]) for ask in made_asks(entry.asks)) if fault)
+    yield from dict.fromkeys(f"the query {fault}" for fault in (asked_fault(steps[ask]) for ask in made_asks(entry.asks)) if fault)
 
 
 def insecure_reasons(steps, entry):
@@ -87,17 +125,83 @@ def insecure_reasons(steps, entry):
 
 
 def asked_fault(step):
-    """Why an ask gave no answer to judge by, or None."""
+    """Why a query has no answer to judge by, or None."""
+    asked = f"for {set_text(step.name, step.kind)}"
+    why = f": {step.fault}" if step.fault else ""
     if step.code is None:
-        return f"for {set_text(step.name, step.kind)} heard no reply"
+        return f"{asked} got no reply{why}"
     if step.ending[0] == "failed":
-        return f"for {set_text(step.name, step.kind)} isn't judged: a Secure NSEC3 set was seen"
+        return f"{asked} isn't judged"
+    if step.code in reading.FAILURES and step.ending[0] == "denied":
+        return f"{asked} was answered with {code_text(step.code)}"
     if step.ending[0] == "denied":
-        return f"for {set_text(step.name, step.kind)} has no answer, and its denial is {step.ending[1].capitalize()}"
+        reason = why or f": {denial_fault(step)}"
+        return f"{asked} has no answer, and its denial is {step.ending[1].capitalize()}{reason}"
     if step.ending[0] == "foreign":
-        return f"for {set_text(step.name, step.kind)} heard a record of another class: {' '.join(step.ending[1:])}"
+        return f"{asked} got a record of another class: {' '.join(step.ending[1:])}"
     return None
 
+
+# ---- denials
+
+def denial_fault(step):
+    """What the Secure NSEC or NSEC3 records of a reply don't show. Some cases have no words of their own."""
+    sets = [entry for entry in step.sets if entry.section == "authority" and entry.kind in (NSEC, NSEC3) and entry.mark == "secure"]
+    kinds = {entry.kind for entry in sets}
+    signers = {folded(sig.signer) for sig in (signature_of(decider_of(step, entry)) for entry in sets) if sig}
+    if not sets:
+        return "no Secure NSEC or NSEC3 record is in the reply"
+    if len(kinds) > 1 or len(signers) > 1:
+        return "NSEC and NSEC3 records stand beside each other" if len(kinds) > 1 else "records of several zones stand beside each other"
+    records = [record for entry in sets for record in step.records_of(entry)]
+    zone = signers.pop()
+    if not is_above(zone, step.name):
+        return f"the records are those of {name_text(zone)}, which the name isn't in"
+    return hashed_fault(step, zone, records) if kinds == {NSEC3} else plain_fault(step, records)
+
+
+def plain_fault(step, records):
+    those = [one for one in map(denial.nsec_of, records) if one]
+    if any(denial.is_same(one.owner, step.name) for one in those):
+        return f"the NSEC record of {name_text(step.name)} doesn't deny the type"
+    by = denial.covering(those, step.name)
+    if by is None:
+        return f"no NSEC record covers {name_text(step.name)}"
+    encloser = max(denial.common(step.name, by.owner), denial.common(step.name, by.following), key=len)
+    wildcard = (b"*", *encloser)
+    is_shown = denial.covering(those, wildcard) if step.code == NAME_ERROR else any(denial.is_same(one.owner, wildcard) for one in those)
+    verb = "covers" if step.code == NAME_ERROR else "is that of"
+    return "the records don't show what they have to" if is_shown else f"no NSEC record {verb} the wildcard {name_text(wildcard)}"
+
+
+def hashed_fault(step, apex, records):
+    zone = hashes.zone_of(apex, [one for one in map(hashes.nsec3_of, records) if one])
+    if zone is None:
+        return "no NSEC3 record counts, or they are hashed differently"
+    if zone.iterations > hashes.SOFT:
+        return f"names are hashed {zone.iterations} times more, which is over {hashes.SOFT if zone.iterations <= hashes.HARD else hashes.HARD}"
+    if zone.at(step.name):
+        return f"the NSEC3 record of {name_text(step.name)} doesn't deny the type"
+    above = zone.encloser(step.name)
+    if above is None:
+        return f"no NSEC3 record stands for a name above {name_text(step.name)}, or one there leads to another zone"
+    closer = step.name[len(step.name) - len(above) - 1:]
+    by = zone.covering(closer)
+    if by is None:
+        return f"no NSEC3 record covers {name_text(closer)}"
+    wildcard = (b"*", *above)
+    if step.code != NAME_ERROR:
+        is_there = any(one.hash == zone.hashed(wildcard) for one in zone.records)
+        return "the records don't show what they have to" if is_there else f"no NSEC3 record is that of the wildcard {name_text(wildcard)}"
+    over = zone.covering(wildcard)
+    if over is None:
+        return f"no NSEC3 record covers the wildcard {name_text(wildcard)}"
+    if hashes.OPT_OUT in (by.flags, over.flags):
+        return f"an NSEC3 record that covers {name_text(closer if by.flags else wildcard)} has the flag Opt-Out"
+    return "the records don't show what they have to"
+
+
+# ---- signatures
 
 def signature_fault(steps, step, entry, record, moment):
     """Why a signature didn't prove its set, as far as the report tells."""
@@ -108,9 +212,9 @@ def signature_fault(steps, step, entry, record, moment):
     if not is_above(sig.signer, entry.owner):
         return f"{by} names a signer that isn't above the set"
     if moment is not None and not serial_at_or_before(moment % 2**32, sig.expiration):
-        return f"{by} ended at {time_text(sig.expiration)}"
+        return f"{by} ended at {time_text(sig.expiration)}, {span_text((moment - sig.expiration) % 2**32)} before"
     if moment is not None and not serial_at_or_before(sig.inception, moment % 2**32):
-        return f"{by} begins at {time_text(sig.inception)}"
+        return f"{by} begins at {time_text(sig.inception)}, {span_text((sig.inception - moment) % 2**32)} later"
     return key_fault(steps, step, entry, sig, by) or f"{by} {' or '.join(doubts(entry, moment))}"
 
 
@@ -131,6 +235,9 @@ def key_fault(steps, step, entry, sig, by):
         if ds_set and ds_set.mark != "secure":
             return f"the DS set of {name_text(sig.signer)} is {ds_set.mark.capitalize()}"
         keys, mark = step.records_of(entry), "secure"
+        unmatched = [fault for made in asked for fault in ds_faults(made, entry.owner, keys)] if ds_set else []
+        if unmatched:
+            return "; ".join(dict.fromkeys(unmatched))
     else:
         if not asked:
             return f"{by} wasn't tried"
@@ -145,3 +252,14 @@ def key_fault(steps, step, entry, sig, by):
         return f"{by} is by none of the zone's keys"
     roles = [role for key in fitting for role in key_roles(key) if role != "SEP"]
     return f"{by} is by a key that may sign nothing: {', '.join(dict.fromkeys(roles))}" if len(roles) >= len(fitting) else None
+
+
+def ds_faults(step, owner, keys):
+    """Which DS records match no key, where none matches one."""
+    records = [one.record for one in step.told if one.section == "answer" and one.record.kind == DS and ds_of(one.record)]
+    matches = [any(ds_of(ds).digest_type in DIGESTS and Lookup.matches(owner, key, ds) for key in keys) for ds in records]
+    if any(matches):
+        return
+    for ds in records:
+        tagged = [key for key in map(dnskey_of, keys) if key and (key.tag, key.algorithm) == (ds_of(ds).tag, ds_of(ds).algorithm)]
+        yield f"the {ds_text(ds)} {'has another digest than the key of that tag' if tagged else 'has no key of that tag'}"

@@ -85,7 +85,8 @@ class Entry:
 
 @dataclass
 class Step:
-    """An ask. `code` is None where a fault was heard; `ending` holds the words of its ending."""
+    """A query. `code` is None where a fault came in place of a reply; `ending` holds the words of its ending, and `fault` what a session says of the
+    reply or its absence."""
     number: int
     depth: int
     purpose: str
@@ -97,6 +98,7 @@ class Step:
     sets: list = field(default_factory=list)
     ending: list = field(default_factory=list)
     asks: list = field(default_factory=list)
+    fault: Optional[str] = None
 
     def records_of(self, entry):
         return [one.record for one in self.told if one.section == entry.section and one.record.kind == entry.kind

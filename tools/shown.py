@@ -1,8 +1,8 @@
 """A report as a person reads DNS, as text and as a value for JSON: what `tools/show` writes."""
 from presentation import (code_text, ds_text, key_roles, key_text, name_text, rdata_text, record_text, set_text, signature_of,
                           time_text)
-from reading import class_word, dnskey_of, num_labels, type_word
-from reasons import decider_of, has_servers, reasons
+from reading import FAILURES, class_word, dnskey_of, num_labels, type_word
+from reasons import decider_of, denial_fault, has_servers, reasons
 from reports import DNSKEY, MARKS, SECTIONS, Anchored, KeySet, Matched, Signed
 
 MARK_WIDTH = max(map(len, MARKS)) + 2
@@ -19,20 +19,22 @@ def denial_text(denial):
 
 def ending_text(step):
     ending = step.ending
+    why = f": {denial_fault(step)}" if ending[0] == "denied" and step.code not in FAILURES else ""
     if ending == ["seen"]:
         return "has NS records, and so is the zone" if has_servers(step) else "has no NS records"
     return {"none": "ended with an answer", "failed": "ended without an answer",
             "absent": "ended with a denial: no such name, or no data of the type at it",
             "expanded": "ended with an answer from a wildcard, which is denied to be there by itself",
             "denied": "ended without an answer and without a denial that holds",
-            "foreign": "ended by a record of another class"}[ending[0]] + (f" ({' '.join(ending[1:])})" if ending[1:] else "")
+            "foreign": "ended by a record of another class"}[ending[0]] + (f" ({' '.join(ending[1:])})" if ending[1:] else "") + why
 
 
 def heard_text(step):
+    fault = f"; {step.fault}" if step.fault else ""
     if step.code is None:
-        return "no reply was heard"
+        return f"no reply came{fault}"
     count = f"{len(step.told)} record{'' if len(step.told) == 1 else 's'}"
-    return f"heard {code_text(step.code)}{', no records of the name and type' if step.is_empty else ''}, {count}"
+    return f"{code_text(step.code)}{', no records of the name and type' if step.is_empty else ''}, {count}{fault}"
 
 
 def ask_text(step):
@@ -90,7 +92,7 @@ def text_lines(report, moment):
         yield from (f"{number:4}  {capital(link_text(link))}." for number, link in enumerate(chain.links))
     if report.steps is not None:
         count = len(report.steps)
-        yield from ("", f"Trail of {count} ask{'' if count == 1 else 's'}")
+        yield from ("", f"Trail of {count} {'query' if count == 1 else 'queries'}")
         yield from tree(report.steps, moment)
 
 
@@ -99,7 +101,7 @@ def capital(text):
 
 
 def tree(steps, moment):
-    """Each ask with what was heard, its sets, and below these the asks that they stand on. The query comes first."""
+    """Each query with what came, its sets, and below these the queries that they stand on. The session's comes first."""
     seen = set()
     for last in range(len(steps) - 1, -1, -1):
         waiting = [] if last in seen else [(1, last)]
@@ -124,7 +126,7 @@ def step_items(steps, step, moment):
         yield from ((2, ask) for ask in entry.asks if isinstance(ask, int))
     if step.code is not None:
         yield 1, ending_text(step)
-    yield from ((2, ask) if isinstance(ask, int) else (2, f"an ask that wasn't made: {ask}") for ask in step.asks)
+    yield from ((2, ask) if isinstance(ask, int) else (2, f"a query that wasn't made: {ask}") for ask in step.asks)
 
 
 # ---- the JSON value

@@ -16,8 +16,10 @@ sys.dont_write_bytecode = True
 sys.path[:0] = [HERE, f"{TOP}/rows"]
 import drawing  # noqa: E402
 import graph as graphs  # noqa: E402
+import model  # noqa: E402
 import presentation  # noqa: E402
 import reading  # noqa: E402
+import reasons  # noqa: E402
 import report_lines  # noqa: E402
 import reports  # noqa: E402
 import shown  # noqa: E402
@@ -159,10 +161,10 @@ class Pictures(unittest.TestCase):
         self.assertGreaterEqual(len(names), 3)
         for name in names:
             with open(f"{TOP}/examples/{name}.session", "rb") as session, open(f"{TOP}/examples/{name}.trail", "rb") as trail:
-                moment, report = reading.session_in(session.read()).moment, reports.report_in(trail.read())
+                asked, report = reading.session_in(session.read()), reports.report_in(trail.read())
             with open(f"{TOP}/examples/{name}.svg", encoding="utf-8") as picture, open(f"{TOP}/docs/PICTURES.md", encoding="utf-8") as page:
-                is_current, is_shown = drawing.picture(report, moment) == picture.read(), f"](../examples/{name}.svg)" in page.read()
-            self.assertTrue(is_current, f"tools/picture --moment {moment} examples/{name}.trail > examples/{name}.svg")
+                is_current, is_shown = drawing.picture(report, asked.moment, asked) == picture.read(), f"](../examples/{name}.svg)" in page.read()
+            self.assertTrue(is_current, f"tools/picture --session examples/{name}.session examples/{name}.trail > examples/{name}.svg")
             self.assertTrue(is_shown, f"docs/PICTURES.md doesn't show examples/{name}.svg")
 
     def test_boxes_lie_apart_and_within(self):
@@ -175,6 +177,38 @@ class Pictures(unittest.TestCase):
                 for place, box in enumerate(boxes):
                     self.assertTrue(is_within(box, outer), path)
                     self.assertFalse(any(is_over(box, other) for other in boxes[:place]), path)
+
+
+    def test_arrows_lead_through_no_box(self):
+        for path, octets in stored_reports():
+            graph = graphs.Graph(reports.report_in(octets), None)
+            layout = drawing.Layout(graph, 0, 0)
+            nodes = [node for zone in graph.zones.values() for node in zone.nodes]
+            for arrow, points in drawing.arrow_points(graph, layout, drawing.Routes(layout)):
+                way = list(places_on(points))
+                for node in nodes:
+                    if node is not arrow.start and node is not arrow.end:
+                        self.assertFalse(any(is_inside(place, layout.boxes[id(node)]) for place in way), f"{path}: {arrow.tip}, {node.lines}")
+
+    def test_no_label_is_broken(self):
+        name = "a" * 60 + "." + "b" * 60 + ".example."
+        self.assertEqual(drawing.wrapped(f"up to {name} here", 36), ["up to", "a" * 60 + ".", "b" * 60 + ".", "example. here"])
+
+
+def places_on(points):
+    """Forty places on each part of a path, as `drawing.curve` draws it."""
+    for (left, top), (to_left, to_top) in zip(points, points[1:]):
+        for share in (step / 40 for step in range(41)):
+            rest = 1 - share
+            bow = 3 * share * rest * rest * (top + (to_top - top) * 0.45) + 3 * share * share * rest * (to_top - (to_top - top) * 0.45)
+            bent = rest ** 3 * top + bow + share ** 3 * to_top
+            is_bow = abs(to_left - left) >= 0.05 and abs(to_top - top) >= 0.05
+            across = (rest ** 3 + 3 * share * rest * rest) * left + (3 * share * share * rest + share ** 3) * to_left
+            yield (across, bent) if is_bow else (left + (to_left - left) * share, top + (to_top - top) * share)
+
+
+def is_inside(place, box):
+    return box.left < place[0] < box.left + box.width and box.top < place[1] < box.bottom()
 
 
 def is_within(box, outer):
@@ -198,8 +232,29 @@ class Words(unittest.TestCase):
 
     def test_an_ended_signature_is_named(self):
         report = reports.report_in(REPORT.replace("NS secure table 0 0", "NS bogus table - 0").encode())
-        self.assertIn(" ended at 1970-01-01 00:33:20 UTC", shown.text_of(report, 2001))
+        self.assertIn(" ended at 1970-01-01 00:33:20 UTC, 1 second before", shown.text_of(report, 2001))
         self.assertNotIn(" ended at ", shown.text_of(report, 2000))
+
+
+class Causes(unittest.TestCase):
+    """What `show` says of rows that aren't Secure: the signature, the DS record, the name or the query that is at fault."""
+
+    CASES = (
+        ("examples/expired", "the signature by key 56361 (ECDSAP256SHA256) of . ended at 2025-12-01 00:00:00 UTC, 62 days before"),
+        ("examples/oo-bad", "the DS record 42474 (ECDSAP256SHA256, SHA-256) has another digest than the key of that tag"),
+        ("examples/ins-unkalg", "no DS record of unkalg.example. has an algorithm and a digest type that are supported"),
+        ("rows/ds-set-that-is-not-accepted", "the signature by key 44745 (ECDSAP256SHA256) of . isn't accepted"),
+        ("rows/truncated-keys", "the query for example. DNSKEY has no answer, and its denial is Bogus: the reply was truncated"),
+        ("rows/refused-keys", "the query for example. DNSKEY was answered with REFUSED"),
+    )
+
+    def test_causes(self):
+        for name, said in self.CASES:
+            with open(f"{TOP}/{name}.session", "rb") as file:
+                octets = file.read()
+            session, report = reading.session_in(octets), reports.report_in(model.written(octets, (b"validate", b"trail"))[0])
+            reasons.told_faults(report, session)
+            self.assertIn(said, shown.text_of(report, session.moment))
 
 
 class Ends(unittest.TestCase):
