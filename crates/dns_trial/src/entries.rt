@@ -67,6 +67,7 @@ pub(crate) fn keys_of(alloc: Global, count: u32) -> Result<Vec<CacheKey>, NoMemo
     Ok(keys)
 }
 
+// An rdata.
 fn some_bytes(alloc: Global) -> Result<Rdata, NoMemory> {
     Rdata::from_slice(alloc, SOME_BYTES)
 }

@@ -75,6 +75,7 @@ pub(crate) struct Form {
     pub(crate) third: u32,
 }
 
+// The works that a form can name.
 fn kinds() -> &'static [Kind] {
     KINDS
 }

@@ -74,6 +74,7 @@ pub(crate) fn send(
     told_by(&mux.send_message(alloc, &request(alloc), moment))
 }
 
+// What was taken for a request.
 fn given(taken: &Taken) -> Answer {
     match taken {
         Taken::Item(Ok(response)) => Answer::Response(
@@ -91,6 +92,7 @@ pub(crate) fn taken(mux: &mut DnsMultiplexer<FewIds>, number: u64) -> Answer {
     given(&mux.take(RequestId(number)))
 }
 
+// The id of the message that is to be sent.
 fn outbound(message: &Option<SerialMessage>) -> Answer {
     match message {
         None => Answer::Nothing,

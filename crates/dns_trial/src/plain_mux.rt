@@ -112,6 +112,7 @@ fn add(waiting: &mut Vec<Waiting>, number: usize, mark: Option<u8>) -> Result<bo
     Ok(true)
 }
 
+// How many requests are live.
 fn live_count(requests: &[PlainRequest]) -> usize {
     let mut count: usize = 0;
     for request in requests {
@@ -133,6 +134,7 @@ fn holder(requests: &[PlainRequest], id: u16) -> Option<usize> {
 }
 
 impl Plain {
+    /// No request yet.
     pub(crate) fn new(alloc: Global, draws: FewIds) -> Plain {
         Plain {
             now: 0,
@@ -149,6 +151,7 @@ impl Plain {
         self.requests.len() as u64
     }
 
+    // An id that no live request has, among a hundred that are drawn.
     fn draw(&mut self) -> Option<u16> {
         for _ in 0..100 {
             let id = self.draws.id();
@@ -159,6 +162,7 @@ impl Plain {
         None
     }
 
+    // Sends a request.
     fn send(&mut self, moment: u64) -> Result<Answer, NoMemory> {
         if live_count(&self.requests) >= MAXIMUM {
             return Ok(Answer::Busy);
@@ -180,6 +184,7 @@ impl Plain {
         Ok(Answer::Sent(number))
     }
 
+    // A response with an id arrives.
     fn arrive(&mut self, id: u16, mark: u8) -> Result<Arrival, NoMemory> {
         let Some(number) = holder(&self.requests, id) else {
             return Ok(Arrival::Stranger);
@@ -191,6 +196,7 @@ impl Plain {
         }
     }
 
+    // Takes what came first for a request.
     fn take(&mut self, number: usize) -> Answer {
         let Some(request) = self.requests.get(number) else {
             return Answer::Ended;
@@ -216,6 +222,7 @@ impl Plain {
         }
     }
 
+    // Time passes: requests that are too old end.
     fn tick(&mut self, now: u64) {
         self.now = now;
         for request in &mut self.requests {
@@ -225,6 +232,7 @@ impl Plain {
         }
     }
 
+    // The connection ends: each live request gets a fault.
     fn close(&mut self) -> Result<(), NoMemory> {
         self.is_closed = true;
         for number in 0..self.requests.len() {
@@ -238,6 +246,7 @@ impl Plain {
         Ok(())
     }
 
+    // The next message to send.
     fn pop(&mut self) -> Answer {
         if self.outbound.is_empty() {
             Answer::Nothing
