@@ -5,7 +5,7 @@ use Rattle.dns_session.specs.Grammar.{session_of}
 use Rattle.dns_session.specs.Stops.{session_status}
 use Rattle.dns_measure.specs.Forms.{EndsWork}
 use Rattle.dns_measure.specs.declared.form.Work.{Work}
-use Rattle.dns_measure.specs.declared.form.Work.TheVariants.{Decode, OnSession}
+use Rattle.dns_measure.specs.declared.form.Work.TheVariants.{Decode, OnSession, Signatures}
 
 small : (told : Result SessionValue ℕ) → session_status told < 4
 small (Ok session) = omega arith
@@ -20,4 +20,6 @@ session_done bytes status is =
 pub work_done : (work : Work) (bytes : List ℕ) (status : ℕ) → EndsWork work bytes status → status < 4
 work_done Decode bytes status (inl is) = omega (arith, is)
 work_done Decode bytes status (inr is) = omega (arith, is)
+work_done Signatures bytes status (inl is) = omega (arith, is)
+work_done Signatures bytes status (inr is) = omega (arith, is)
 work_done (OnSession on) bytes status is = session_done bytes status is

@@ -25,6 +25,8 @@ pub enum Work {
     Decode,
     /// It is a session.
     OnSession(SessionWork),
+    /// Each of its lines is a signature, which is verified. Once alone.
+    Signatures,
 }
 
 /// What the program is asked for.
@@ -72,6 +74,9 @@ pub(crate) fn form_of(words: &[Vec<u8>]) -> Option<Form>
             }
             if name.as_slice() == b"verdicts".as_slice() {
                 return Some(Form::Reading(Work::OnSession(SessionWork::Verdicts), 1));
+            }
+            if name.as_slice() == b"signatures".as_slice() {
+                return Some(Form::Reading(Work::Signatures, 1));
             }
             None
         }
