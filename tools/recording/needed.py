@@ -2,7 +2,7 @@
 import importlib.util
 import sys
 
-PACKAGES = {"dns": "python3-dnspython", "cryptography": "python3-cryptography"}
+PACKAGES = {"dns": "python3-dnspython"}
 LACKING = 4
 
 
