@@ -9,11 +9,18 @@ used one falls off. Beside them stands what making and letting go of an entry ta
 stands on takes for the same keys. Times are those of the processor: the best run of some passes over all keys is taken off the best
 of twice as many. The bytes of an entry are those of a full cache's run beyond those of a run that has the keys alone. The status is 1
 where a get or an insert takes more than four times as long at the greater size.
+
+Then gets over a shared cache by one, two and four threads, by turns with those over a cache of one's own, whose entries have a chain of six
+links with four signatures each: times by the clock, for all threads together. The status is also 1 where one thread takes more than 1.3
+times as long as over a cache of its own, where several together do less than 0.8 times the gets of one, since each get copies its entry
+under the lock, or where four threads make fewer than twice as many warm lookups as one. Beside them stands an insert into a shelf, and the same entry made and dropped with its chain tested, with a verifier that takes no time
+and with one that hashes 11,500 bytes for a signature; and a get for a list of as many signatures as the shelf's.
 """
 import argparse
 import os
 import subprocess
 import sys
+import time
 
 from passes import TOP, TURNS
 
@@ -22,6 +29,14 @@ PROGRAM = os.path.join(TOP, "crates", "dns_trial", "out", "dns_trial")
 SIZES = {1_000: 400, 65_536: 6}
 LINKS = (6, 0)
 MOST_TIMES = 4
+MOST_SHARED, LEAST_TOGETHER, LEAST_LOOKUPS = 1.3, 0.8, 2
+SHARED_LOOKUPS = 20_000
+SHARED_ENTRIES, SHARED_PASSES = 1_000, 400
+# no thread: a cache of one's own
+THREADS = (0, 1, 2, 4)
+# what a verifier hashes for a signature, and how many passes
+WEIGHTS = {0: 100, 11_500: 4}
+SIGNATURES = {4: 400, 10_000: 2}
 # what is done, and whether a chain's links are among its words
 WORKS = {"get": True, "insert": True, "copy": True, "map-get": False, "map-put": False}
 
@@ -62,6 +77,59 @@ class Measured:
         return (self.best[1] - self.best[0]) / (self.passes * self.entries) * 1e9
 
 
+class Timed(Measured):
+    """The same by the clock, of words with one more behind the passes."""
+
+    def __init__(self, path, work, passes, last, times=1):
+        super().__init__([path, work, str(SHARED_ENTRIES)], SHARED_ENTRIES, passes)
+        self.last = str(last)
+        self.times = times
+
+    def turn(self):
+        for place, passes in enumerate((self.passes, 2 * self.passes)):
+            wanted = f"done {passes * self.entries * self.times}\n"
+            began = time.perf_counter()
+            line = subprocess.run([*self.words, str(passes), self.last], stdout=subprocess.PIPE, text=True, check=True).stdout
+            self.best[place] = min(self.best[place], time.perf_counter() - began)
+            if line != wanted:
+                sys.exit(f"{' '.join(self.words[1:])} {passes} {self.last}: {line} and not {wanted}")
+
+    def nanoseconds(self):
+        return super().nanoseconds() / self.times
+
+
+class Lookups(Timed):
+    """Lookups by some threads over one shared cache."""
+
+    def __init__(self, path, threads):
+        super().__init__(path, "shared-lookups", SHARED_LOOKUPS, threads, threads)
+        self.words, self.entries = [path, "shared-lookups"], 1
+
+
+def shared(path, turns):
+    """Prints what sharing costs, and says whether it is more than is wanted."""
+    gets = {threads: Timed(path, "shared-get", SHARED_PASSES, threads, max(threads, 1)) for threads in THREADS}
+    rows = [*gets.values()]
+    shelves = {(work, weight): Timed(path, work, passes, weight) for weight, passes in WEIGHTS.items() for work in ("shelf-insert", "shelf-test")}
+    lists = {count: Timed(path, "shelf-for", passes, count) for count, passes in SIGNATURES.items()}
+    lookups = {threads: Lookups(path, threads) for threads in (1, 4)}
+    for _ in range(turns):
+        for one in (*rows, *shelves.values(), *lists.values(), *lookups.values()):
+            one.turn()
+    for threads, one in gets.items():
+        print(f"gets over {f'a shared cache by {threads}' if threads else 'an owned one'}: {one.nanoseconds():.0f} ns each")
+    for (work, weight), one in shelves.items():
+        print(f"{work}, {weight} bytes hashed for a signature: {one.nanoseconds():.0f} ns")
+    for count, one in lists.items():
+        print(f"get for a list of {count} signatures: {one.nanoseconds():.0f} ns")
+    for threads, one in lookups.items():
+        print(f"warm lookups by {threads} over a shared cache: {one.nanoseconds():.0f} ns each")
+    single = gets[1].nanoseconds()
+    return (single > MOST_SHARED * gets[0].nanoseconds()
+            or any(single < LEAST_TOGETHER * gets[threads].nanoseconds() for threads in (2, 4))
+            or lookups[1].nanoseconds() < LEAST_LOOKUPS * lookups[4].nanoseconds())
+
+
 def main():
     words = argparse.ArgumentParser()
     words.add_argument("--turns", type=int, default=TURNS, help="of how many runs the best counts")
@@ -86,6 +154,7 @@ def main():
     for links in LINKS:
         room = run(words_of(path, "get", many, links), 0)[2] - run(words_of(path, "copy", many, links), 0)[2]
         print(f"{links} links: {room / many:.0f} bytes an entry")
+    is_over |= shared(path, given.turns)
     sys.exit(1 if is_over else 0)
 
 

@@ -1,8 +1,7 @@
-//! Random calls, played on both caches and on the plain list.
+//! Random calls, played on caches and on the plain list beside them.
 
-use crate::entries::{keys_of, plain_entry, value_in};
-use crate::plain_cache::Plain;
-use dns_cache::{CacheKey, ListCache, LruValidationCache, ValidationCache};
+use crate::entries::keys_of;
+use dns_cache::CacheKey;
 use dns_multiplexer::{Draws, RandDraws};
 use dns_record::NoMemory;
 use std::alloc::Global;
@@ -19,75 +18,49 @@ const CAPACITIES: u16 = 7;
 /// A moment is below this.
 const MOMENTS: u16 = 16;
 
-/// What a call is about: a key with its number, a moment, and the value where an entry is put in.
+/// What a call is about: a key with its number, a moment, the value where an entry is put in, and a number by which players choose
+/// among their calls.
 #[derive(Clone, Copy)]
-struct Call<'a> {
-    key: &'a CacheKey,
-    number: usize,
-    moment: u64,
-    value: u32,
+pub(crate) struct Call<'a> {
+    pub(crate) key: &'a CacheKey,
+    pub(crate) number: usize,
+    pub(crate) moment: u64,
+    pub(crate) value: u32,
+    pub(crate) choice: u16,
 }
 
-// Puts one entry into all three.
-fn insert_alike(
-    alloc: Global,
-    list: &mut ListCache,
-    hashed: &mut LruValidationCache,
-    plain: &mut Plain,
-    call: Call,
-) -> Result<(), NoMemory> {
-    let entry = plain_entry(call.key, call.moment, call.value)?;
-    list.insert(alloc, entry)?;
-    let entry = plain_entry(call.key, call.moment, call.value)?;
-    hashed.insert(alloc, entry)?;
-    plain.insert(call.number, call.moment, call.value)
-}
+/// Caches, and the plain list beside them.
+pub(crate) trait Players {
+    /// Those of a capacity, without entries.
+    fn of(alloc: Global, capacity: usize) -> Result<Self, NoMemory>;
 
-// Whether a cache gives the value that is wanted.
-fn gives<C: ValidationCache>(
-    alloc: Global,
-    cache: &mut C,
-    call: Call,
-    wanted: Option<u32>,
-) -> Result<bool, NoMemory> {
-    let given = cache.get(alloc, call.key, call.moment)?;
-    Ok(value_in(&given) == wanted)
-}
+    /// Puts an entry of the call into each.
+    fn insert(&mut self, alloc: Global, call: Call) -> Result<(), NoMemory>;
 
-// Whether all three give one answer for a key, and have given entries as often.
-fn get_alike(
-    alloc: Global,
-    list: &mut ListCache,
-    hashed: &mut LruValidationCache,
-    plain: &mut Plain,
-    call: Call,
-) -> Result<bool, NoMemory> {
-    let wanted = plain.get(call.number, call.moment)?;
-    let by_list = gives(alloc, list, call, wanted)? && list.hits() == plain.hits();
-    let by_hash = gives(alloc, hashed, call, wanted)? && hashed.hits() == plain.hits();
-    Ok(by_list && by_hash)
+    /// Whether all give one answer for the call's key, and have given entries as often.
+    fn get_alike(&mut self, alloc: Global, call: Call) -> Result<bool, NoMemory>;
 }
 
 // The next call, on one of the keys.
 fn next_call<'a>(random: &mut RandDraws, keys: &'a [CacheKey], value: u32) -> Option<Call<'a>> {
     let number = usize::from(random.id() % KEYS);
     let moment = u64::from(random.id() % MOMENTS);
+    let choice = random.id();
     let key = keys.get(number)?;
     Some(Call {
         key,
         number,
         moment,
         value,
+        choice,
     })
 }
 
-// The first of the calls with numbers from one up to another that all three don't answer alike.
-fn difference_on(
+// The first of the calls with numbers from one up to another that not all players answer alike.
+fn difference_on<P: Players>(
     alloc: Global,
     random: &mut RandDraws,
-    list: &mut ListCache,
-    hashed: &mut LruValidationCache,
-    plain: &mut Plain,
+    players: &mut P,
     keys: &[CacheKey],
     first: u32,
     end: u32,
@@ -97,16 +70,16 @@ fn difference_on(
             return Ok(Some(value));
         };
         if random.id() % 2 == 0 {
-            insert_alike(alloc, list, hashed, plain, call)?;
-        } else if !get_alike(alloc, list, hashed, plain, call)? {
+            players.insert(alloc, call)?;
+        } else if !players.get_alike(alloc, call)? {
             return Ok(Some(value));
         }
     }
     Ok(None)
 }
 
-// The same on new caches and a new list, of one capacity.
-fn difference_with(
+// The same on new players of one capacity.
+fn difference_with<P: Players + Drop>(
     alloc: Global,
     random: &mut RandDraws,
     capacity: usize,
@@ -114,23 +87,12 @@ fn difference_with(
     first: u32,
     end: u32,
 ) -> Result<Option<u32>, NoMemory> {
-    let mut hashed = LruValidationCache::new(alloc, capacity)?;
-    let mut list = ListCache::new(alloc, capacity);
-    let mut plain = Plain::new(alloc, capacity);
-    difference_on(
-        alloc,
-        random,
-        &mut list,
-        &mut hashed,
-        &mut plain,
-        keys,
-        first,
-        end,
-    )
+    let mut players = P::of(alloc, capacity)?;
+    difference_on(alloc, random, &mut players, keys, first, end)
 }
 
-// The first of so many calls that isn't answered alike, by as many caches as these take.
-fn difference_by(
+// The first of so many calls that isn't answered alike, by as many players as these take.
+fn difference_by<P: Players + Drop>(
     alloc: Global,
     random: &mut RandDraws,
     keys: &[CacheKey],
@@ -143,7 +105,7 @@ fn difference_by(
             break;
         }
         let end = count.min(first.saturating_add(MOST_CALLS));
-        let difference = difference_with(alloc, random, capacity, keys, first, end)?;
+        let difference = difference_with::<P>(alloc, random, capacity, keys, first, end)?;
         if difference.is_some() {
             return Ok(difference);
         }
@@ -153,13 +115,13 @@ fn difference_by(
     Ok(None)
 }
 
-/// The first of so many calls that the caches and the list answer otherwise, counted from 0; none where they answer all alike.
-pub(crate) fn first_difference(
+/// The first of so many calls that the players answer otherwise, counted from 0; none where they answer all alike.
+pub(crate) fn first_difference<P: Players + Drop>(
     alloc: Global,
     seed: u64,
     count: u32,
 ) -> Result<Option<u32>, NoMemory> {
     let keys = keys_of(alloc, u32::from(KEYS))?;
     let mut random = RandDraws::from_seed(seed);
-    difference_by(alloc, &mut random, &keys, count)
+    difference_by::<P>(alloc, &mut random, &keys, count)
 }

@@ -101,14 +101,7 @@ pub(crate) fn chain_of(alloc: Global, count: u32) -> Result<Chain, NoMemory> {
 
 /// An entry of a key with a chain, in memory of its own, which doesn't expire.
 pub(crate) fn secure_entry(key: &CacheKey, chain: &Chain) -> Result<Entry, NoMemory> {
-    let found = RrsetProof {
-        proof: Proof::Secure,
-        adjusted_ttl: Some(3600),
-        rrsig_index: Some(0),
-    };
-    let chain = chain.try_clone()?;
-    let key = key.try_clone()?;
-    Ok(Entry::new(key, u64::MAX, Ok(found), Some(chain)))
+    proved_entry(key, u64::MAX, 3600, chain)
 }
 
 /// An entry of a key without a chain; its value tells it from others.
@@ -120,6 +113,84 @@ pub(crate) fn plain_entry(key: &CacheKey, expires: u64, value: u32) -> Result<En
     };
     let key = key.try_clone()?;
     Ok(Entry::new(key, expires, Ok(found), None))
+}
+
+/// An entry that is Secure by a chain, of which it has a copy; its value tells it from others.
+pub(crate) fn proved_entry(
+    key: &CacheKey,
+    expires: u64,
+    value: u32,
+    chain: &Chain,
+) -> Result<Entry, NoMemory> {
+    let found = RrsetProof {
+        proof: Proof::Secure,
+        adjusted_ttl: Some(value),
+        rrsig_index: Some(0),
+    };
+    let chain = chain.try_clone()?;
+    let key = key.try_clone()?;
+    Ok(Entry::new(key, expires, Ok(found), Some(chain)))
+}
+
+/// A chain of one link, to a key. A verifier accepts it by itself exactly where the key can be read.
+pub(crate) fn chain_from_key(alloc: Global, key: &[u8]) -> Result<Chain, NoMemory>
+    requires { length key.now ≤ 65535 }
+{
+    let mut links = Vec::new(alloc);
+    links.push(Link::Anchored {
+        owner: Name::root(alloc)?,
+        class: DNSClass::IN,
+        key: Rdata::from_slice(alloc, key)?,
+    })?;
+    Ok(Chain {
+        section: Section::Answer,
+        links,
+    })
+}
+
+/// The rdata of a key of the root, whose tag is 44745, and that of a signature by it over an address of a name with two labels.
+const ROOT_KEY: &[u8; 6] = b"\x01\x01\x03\x0d\xaa\xbb";
+
+const ROOT_SIGNATURE: &[u8; 115] = b"\0\x01\x0d\x02\0\0\x0e\x10\0\0\x07\xd0\0\0\x03\x84\xae\xc9\0\
+    0123456789abcdef0123456789abcdef0123456789abcdef0123456789abcdef0123456789abcdef0123456789abcdef";
+
+// An address that is signed by the root's key, which the link before the last one shows.
+fn signed_link(alloc: Global) -> Result<Link, NoMemory> {
+    let mut rdatas = Vec::new(alloc);
+    rdatas.push(Rdata::from_slice(alloc, &[192, 0, 2, 1])?)?;
+    Ok(Link::Signed {
+        owner: owner(alloc)?,
+        class: DNSClass::IN,
+        record_type: RecordType::A,
+        rdatas,
+        sig: Rdata::from_slice(alloc, ROOT_SIGNATURE)?,
+        key_link: 1,
+        key: Rdata::from_slice(alloc, ROOT_KEY)?,
+    })
+}
+
+// The root's key set, which its anchored key shows.
+fn key_set_link(alloc: Global) -> Result<Link, NoMemory> {
+    let mut keys = Vec::new(alloc);
+    keys.push(Rdata::from_slice(alloc, ROOT_KEY)?)?;
+    let mut links = Vec::new(alloc);
+    links.push(0)?;
+    Ok(Link::KeySet {
+        owner: Name::root(alloc)?,
+        class: DNSClass::IN,
+        keys,
+        links,
+    })
+}
+
+/// A chain from a key over its set to so many signed addresses, which a verifier accepts that accepts each signature.
+pub(crate) fn signed_chain(alloc: Global, signatures: u32) -> Result<Chain, NoMemory> {
+    let mut chain = chain_from_key(alloc, ROOT_KEY)?;
+    chain.links.push(key_set_link(alloc)?)?;
+    for _ in 0..signatures {
+        chain.links.push(signed_link(alloc)?)?;
+    }
+    Ok(chain)
 }
 
 /// The value of an entry that was given.

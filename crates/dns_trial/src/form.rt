@@ -23,6 +23,16 @@ pub(crate) enum Work {
     MapGet,
     /// A key that isn't in the map takes the place of the least recently used.
     MapPut,
+    /// Each entry of a shared cache is got by so many threads at once, or, by none, of the default cache.
+    SharedGet,
+    /// So many lookups are served from one shared cache by each of so many threads.
+    SharedLookups,
+    /// An entry under six links is put into a shelf, whose verifier hashes so many bytes for a signature.
+    ShelfInsert,
+    /// Such an entry is made and dropped, and its chain tested.
+    ShelfTest,
+    /// Each entry of a shelf is got for another list of as many signatures.
+    ShelfFor,
     /// A link in memory with a hundred frames is made.
     Made,
     /// It is made, and they are read off as messages.
@@ -57,6 +67,11 @@ const KINDS: &[Kind] = &[
     Kind { name: b"copy", numbers: 3, work: Work::Copy },
     Kind { name: b"map-get", numbers: 2, work: Work::MapGet },
     Kind { name: b"map-put", numbers: 2, work: Work::MapPut },
+    Kind { name: b"shared-get", numbers: 3, work: Work::SharedGet },
+    Kind { name: b"shared-lookups", numbers: 2, work: Work::SharedLookups },
+    Kind { name: b"shelf-insert", numbers: 3, work: Work::ShelfInsert },
+    Kind { name: b"shelf-test", numbers: 3, work: Work::ShelfTest },
+    Kind { name: b"shelf-for", numbers: 3, work: Work::ShelfFor },
     Kind { name: b"made", numbers: 1, work: Work::Made },
     Kind { name: b"read", numbers: 1, work: Work::Read },
     Kind { name: b"copied", numbers: 1, work: Work::Copied },

@@ -5,6 +5,7 @@
 #![tactic(auto)]
 
 mod cache_load;
+mod caches_played;
 mod calls;
 mod carried;
 mod cuts;
@@ -18,8 +19,12 @@ mod plain_cache;
 mod plain_mux;
 mod program;
 mod server;
+mod shared_load;
+mod shared_lookups;
+mod shelf_played;
 mod sockets;
 mod texts;
+mod weighing;
 
 use dns_io::{OutputSink, status, words_of};
 use program::run;

@@ -5,10 +5,14 @@ ghost use Rattle.dns_io.specs.Runs.{KeepsSink};
 ghost use Rattle.dns_io.specs.Writing.{bad_words_text};
 
 use crate::cache_load::worked_on;
+use crate::caches_played::Caches;
 use crate::carried::carried;
 use crate::cuts::cut;
 use crate::form::{Form, Work, form_of};
 use crate::mux_load::{decoded, load};
+use crate::shared_load::shared_work;
+use crate::shared_lookups::shared_lookups;
+use crate::shelf_played::Shelved;
 use crate::sockets::answered;
 use crate::texts::push_line;
 use crate::{calls, events};
@@ -16,6 +20,7 @@ use dns_io::Sink;
 use dns_io::status::{self, refuse_words, write_text};
 use dns_record::NoMemory;
 use std::alloc::Global;
+use std::sync::Wait;
 use std::thread::Threads;
 
 // The line of what was played: how much was answered alike, or the number of the first difference.
@@ -30,12 +35,14 @@ fn push_played(text: &mut Vec<u8>, different: Option<u32>, count: u32) -> Result
 fn push_all(alloc: Global, text: &mut Vec<u8>, seed: u32, count: u32) -> Result<(), NoMemory> {
     let different = events::first_difference(alloc, u64::from(seed), count)?;
     push_played(text, different, count)?;
-    let different = calls::first_difference(alloc, u64::from(seed), count)?;
+    let different = calls::first_difference::<Caches>(alloc, u64::from(seed), count)?;
+    push_played(text, different, count)?;
+    let different = calls::first_difference::<Shelved>(alloc, u64::from(seed), count)?;
     push_played(text, different, count)
 }
 
 // Does what is asked for: how often it went well.
-fn done<T: Threads>(
+fn done<T: Threads + Wait + Copy + Send + Sync>(
     rt: &HostRuntime,
     threads: &T,
     alloc: Global,
@@ -51,13 +58,17 @@ fn done<T: Threads>(
         Work::Made | Work::Read | Work::Copied | Work::Written => carried(
             alloc, form.work, form.first,
         ),
+        Work::SharedGet | Work::ShelfInsert | Work::ShelfTest | Work::ShelfFor => shared_work(
+            *threads, alloc, form,
+        ),
+        Work::SharedLookups => shared_lookups(*threads, alloc, form.first, form.second),
         Work::Cut => cut(alloc, form.first),
         Work::Asked | Work::Plain => Ok(answered(rt, threads, alloc, form.work, form.first)),
     }
 }
 
 // Puts the lines of what is asked for behind a text.
-fn push_lines<T: Threads>(
+fn push_lines<T: Threads + Wait + Copy + Send + Sync>(
     rt: &HostRuntime,
     threads: &T,
     alloc: Global,
@@ -72,7 +83,7 @@ fn push_lines<T: Threads>(
 }
 
 // Does what is asked for, and writes its lines.
-fn answer<T: Threads, W: Sink>(
+fn answer<T: Threads + Wait + Copy + Send + Sync, W: Sink>(
     rt: &HostRuntime,
     threads: &T,
     alloc: Global,
@@ -99,6 +110,12 @@ fn answer<T: Threads, W: Sink>(
 /// each pass. `insert` puts as many into a cache with room for one fewer, and `copy` makes and lets go as many without a cache.
 /// `map-get ENTRIES PASSES` and `map-put` do the same with the map that the cache stands on.
 ///
+/// `shared-get ENTRIES PASSES THREADS` gets each entry of a shared cache in each pass of so many threads at once, or with 0 of the default cache; each has a
+/// chain of six links. `shelf-insert ENTRIES PASSES BYTES` puts such entries into a shelf, whose verifier hashes so many bytes for each of four
+/// signatures, and `shelf-test` makes and drops them and tests their chains. `shelf-for ENTRIES PASSES SIGNATURES` gets entries for a list of so many
+/// signatures, which is compared with the shelf's each time. `shared-lookups COUNT THREADS` makes so many lookups by each of so many threads over one shared
+/// cache.
+///
 /// `made COUNT` makes so many links in memory, each with a hundred messages of 510 bytes behind their lengths; `read COUNT` makes them and
 /// reads the messages, and `copied COUNT` reads their bytes plainly, a frame a read, and copies each frame. `written COUNT` writes as many
 /// messages to so many links. `cut COUNT` cuts the frame of one message of so many bytes, at most 65,535, before each of its bytes in turn and then
@@ -106,11 +123,11 @@ fn answer<T: Threads, W: Sink>(
 /// bytes by plain sockets.
 ///
 /// Each writes `done` and how often it went well. `all SEED COUNT SIZE` plays random events on a multiplexer and on a plain machine, and then
-/// random calls on both caches and on a plain list. Of each it writes `alike COUNT`, or `different` with the number of the first event or
+/// random calls on both caches and on a plain list, and then on a shelf and on a plain list. Of each it writes `alike COUNT`, or `different` with the number of the first event or
 /// call that they answer otherwise, counted from 0. Then it does what `cut SIZE` does.
 ///
 /// 0: the lines are written. 2: the words are no form. 5: a write failed after a prefix of the text. 6: memory ran out.
-pub(crate) fn run<T: Threads, W: Sink>(
+pub(crate) fn run<T: Threads + Wait + Copy + Send + Sync, W: Sink>(
     rt: &HostRuntime,
     threads: &T,
     alloc: Global,
