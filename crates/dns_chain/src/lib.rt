@@ -20,6 +20,7 @@ pub use dns_marks::{
 pub use dns_message::Message;
 pub use dns_model::{Denial, Proof};
 pub use dns_record::{DNSClass, Name, NoMemory, Octets, Query, Record, RecordSet, RecordType};
+pub use dns_shared_cache::{DefaultSharedCache, SharedCache, Shelf};
 pub use dns_trail::{check_trail, is_in_order};
 pub use dns_trust::{Judge, RrsigValidity, TrustAnchors};
 pub use dns_validation::{Asking, Validation, Wanted};

@@ -2,14 +2,17 @@
 
 use crate::parts::check_row;
 use dns_chain::{
-    DnssecDnsHandle, IterationLimits, Judge, TrustAnchors, TtlRanges, Validation, Verifier, Wanted,
+    DefaultSharedCache, DnssecDnsHandle, IterationLimits, Judge, SharedCache, TrustAnchors,
+    TtlRanges, Validation, Verifier, Wanted,
 };
 use dns_net::{
     DnsError, DnsHandle, DnsRequest, DnsRequestOptions, DnsResponse, Link, NetError, Trail,
 };
 use dns_wire::{DNSClass, Denial, Message, Name, Octets, Proof, Query, RecordType};
 use std::alloc::Global;
-use std::io;
+use std::sync::Wait;
+use std::thread::Threads;
+use std::{io, thread};
 
 /// The root's NS set with a signature that is good from 900 to 2000, as a message.
 const SERVERS: &[u8] =
@@ -191,6 +194,42 @@ fn is_secure_by_hand(alloc: Global, now: u64) -> Result<bool, NetError> {
     Ok(is_secure(&response))
 }
 
+/// Whether the root's name servers are Secure at a moment, by a validator of its own over one cache.
+fn is_secure_over<T: Wait + Copy>(
+    alloc: Global,
+    cache: &DefaultSharedCache<KeyItself, T>,
+    now: u64,
+) -> Result<bool, NetError> {
+    let mut anchors = TrustAnchors::empty(alloc);
+    let _ = trust_root(alloc, &mut anchors)?;
+    let holder = cache.share()?;
+    let mut validator = DnssecDnsHandle::with_cache(
+        Upstream::default(),
+        anchors,
+        KeyItself,
+        holder,
+    )?;
+    let query = query_of(alloc)?;
+    let response = validator.lookup(alloc, query, DnsRequestOptions::default(), now)?;
+    Ok(is_secure(&response))
+}
+
+/// The same in each of four threads at once.
+fn is_secure_in_threads<R: Threads + Wait + Copy + Send + Sync>(
+    rt: R,
+    alloc: Global,
+    now: u64,
+) -> Result<bool, NetError> {
+    let cache = SharedCache::new(rt, alloc, 1000, KeyItself)?;
+    let secure = thread::map_indices(
+        &rt,
+        alloc,
+        4,
+        &|_| { is_secure_over(alloc, &cache, now).unwrap_or(false) },
+    )?;
+    Ok(secure.iter().all(|secure| *secure))
+}
+
 fn main(rt: HostRuntime) -> io::Result<()> {
     let alloc = rt.alloc();
     let secure = is_secure_at(alloc, 1000).unwrap_or(false)
@@ -204,6 +243,8 @@ fn a_record_is_secure_by_its_chain_while_its_signature_holds(rt: HostRuntime) {
     check_row(&rt, "at 1000", looked_up);
     let by_hand = is_secure_by_hand(rt.alloc(), 1000).unwrap_or(false);
     check_row(&rt, "by hand", by_hand);
+    let in_threads = is_secure_in_threads(rt, rt.alloc(), 1000).unwrap_or(false);
+    check_row(&rt, "in four threads", in_threads);
 }
 
 fn is_bogus(alloc: Global) -> Result<bool, NetError> {
