@@ -115,8 +115,10 @@ all_more past (request ∷ requests) (own ∷ brought) id moment at = (at.0, all
 
 all_changed : (past : List Entry) (requests : List Request) (brought : List (List ℕ)) (number : ℕ)
     (change : Request → Request) (own_change : List ℕ → List ℕ)
-    → ((request : Request) (own : List ℕ) → AreAt past own request.waiting → AreAt past (own_change own) (change request).waiting)
-    → AllAt past requests brought → AllAt past (changed_at number change requests) (changed_at number own_change brought)
+    → ((request : Request) (own : List ℕ) → AreAt past own request.waiting
+    → AreAt past (own_change own) (change request).waiting)
+    → AllAt past requests brought → AllAt past (changed_at number change requests)
+    (changed_at number own_change brought)
 unfolding changed_at
 all_changed past [] [] number change own_change keeps at = tt
 all_changed past [] (own ∷ brought) number change own_change keeps at = absurd at
@@ -175,7 +177,8 @@ arrived-case past requests brought place (Err error) (Undecodable other) is unre
 arrived-case past requests brought place (Err error) Stranger is unread at = at
 arrived-case past requests brought place (Err error) Full is unread at = at
 
-arrival-read : (state : State) (read : Result MessageValue DecodeError) (reply : Arrival) → reply ≡ arrival_reply state read
+arrival-read : (state : State) (read : Result MessageValue DecodeError) (reply : Arrival)
+    → reply ≡ arrival_reply state read
     → (error : DecodeError) → read ≡ Err error → reply ≡ Undecodable error
 arrival-read state read reply is error unread = is ∙ ap (arrival_reply state) unread
 
@@ -186,20 +189,22 @@ sent-case past requests brought id moment (Ok number) at = all_more past request
 sent-case past requests brought id moment (Err error) at = at
 
 -- a send after a close changes nothing
-send-step : (about : Settings) (all before : List Entry) (state : State) (brought : List (List ℕ)) (request : Option (List ℕ))
-    (moment : ℕ) (drawn : List ℕ) (reply : Result ℕ ErrorValue) (b : Bool)
-    → IsRepliedSend about state b request moment drawn reply → AllAt all state.requests brought
-    → AllAt all (if b then state else after about state (mux.Send request moment drawn (is_ok reply) reply)).requests
-    (brought_by_send reply brought)
-send-step about all before state brought request moment drawn reply true replied at = rw replied.1 at
-send-step about all before state brought request moment drawn reply false replied at =
-    sent-case all state.requests brought (last_drawn drawn) moment reply at
+module _ (about : Settings) where
+  send-step : (all before : List Entry) (state : State) (brought : List (List ℕ)) (request : Option (List ℕ))
+      (moment : ℕ) (drawn : List ℕ) (reply : Result ℕ ErrorValue) (b : Bool)
+      → IsRepliedSend about state b request moment drawn reply → AllAt all state.requests brought
+      → AllAt all (if b then state else after about state (mux.Send request moment drawn (is_ok reply) reply)).requests
+      (brought_by_send reply brought)
+  send-step all before state brought request moment drawn reply true replied at = rw replied.1 at
+  send-step all before state brought request moment drawn reply false replied at =
+      sent-case all state.requests brought (last_drawn drawn) moment reply at
 
 step-at : (about : Settings) (past : List Entry) (e : Entry) (state : State) (brought : List (List ℕ))
     → state ≡ state_after about past → IsReplied about past e → AllAt (e ∷ past) state.requests brought
     → AllAt (e ∷ past) (stepped about state past e).requests (brought_by state (length past) e brought)
 step-at about past (Send request moment drawn reply) state brought is replied at =
-    send-step about (Send request moment drawn reply ∷ past) past state brought request moment drawn reply (is_closed past)
+    send-step about (Send request moment drawn reply ∷ past) past state brought request moment drawn reply
+    (is_closed past)
     (rw is replied) at
 step-at about past (Arrive bytes reply) state brought is replied at =
     arrived-case (Arrive bytes reply ∷ past) state.requests brought (length past) (message_at bytes) reply
@@ -222,7 +227,8 @@ pub all_placed : (about : Settings) (past : List Entry) → IsLegal about past
 unfolding IsLegal brought_after history replay
 all_placed about [] legal = tt
 all_placed about (e ∷ past) legal =
-    subst (λ (state : State). AllAt (e ∷ past) state.requests (brought_after about (e ∷ past))) (sym (state_more about past e))
+    subst (λ (state : State). AllAt (e ∷ past) state.requests (brought_after about (e ∷ past)))
+    (sym (state_more about past e))
     (step-at about past e (state_after about past) (brought_after about past) refl legal.1
     (all_grown e past (state_after about past).requests (brought_after about past) (all_placed about past legal.0)))
 
@@ -264,5 +270,6 @@ pub take_gives : (about : Settings) (past : List Entry) (number : ℕ) → IsLeg
     ≡ taken_at past (found_by (taken_from (slice_get (state_after about past).requests number))
     (slice_get (brought_at (brought_after about past) number) 0))
 take_gives about past number legal =
-    request-taken past (brought_at (brought_after about past) number) (slice_get (state_after about past).requests number)
+    request-taken past (brought_at (brought_after about past) number)
+    (slice_get (state_after about past).requests number)
     (at-number past (state_after about past).requests (brought_after about past) number (all_placed about past legal))

@@ -31,7 +31,8 @@ pop-case about before [] played none = played
 pop-case about before (m ∷ ms) played some =
     one-more about before (mux.Pop m) played (ap (λ (all : List SerialMessageValue). slice_get all 0) (sym some))
 
-pub played_history : (about : Settings) (past : List Entry) → IsLegal about past → IsPlayed about [] (history about past)
+pub played_history : (about : Settings) (past : List Entry) → IsLegal about past
+    → IsPlayed about [] (history about past)
 unfolding history IsLegal IsPlayed
 played_history about [] legal = tt
 played_history about (Send request moment drawn reply ∷ past) legal =

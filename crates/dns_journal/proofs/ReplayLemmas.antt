@@ -37,7 +37,8 @@ replay_more about journal e old new bytes sum before room told replied machine b
       brought = subst (λ (p : List Entry). new.brought ≡ brought_after about p) (sym past) (brought
           ∙ ap (λ (m : CoreValue). brought_by m.state (length (reverse journal)) e old.brought) told.machine
           ∙ ap (brought_by (state_after about (reverse journal)) (length (reverse journal)) e) told.brought);
-      counted = subst (λ (p : List Entry). sum ≡ bytes_in p) (sym past) (counted ∙ ap (λ n. n + bytes_by e) told.counted);
+      counted = subst (λ (p : List Entry). sum ≡ bytes_in p) (sym past)
+          (counted ∙ ap (λ n. n + bytes_by e) told.counted);
       light = light;
       kept = left;
       fits = omega (arith, fits, length-append journal (e ∷ []));
@@ -65,7 +66,8 @@ abbrev machine_with : Settings → State → Bool → CoreValue
 machine_with about state closed = record { settings = about; state = state; is_shutdown = closed }
 
 machine_more : (about : Settings) (past : List Entry) (e : Entry) (event : Event) (old new : CoreValue)
-    → old ≡ machine_after about past → stepped about (state_after about past) past e ≡ after about (state_after about past) event
+    → old ≡ machine_after about past → stepped about (state_after about past) past e ≡ after about
+    (state_after about past) event
     → is_closed (e ∷ past) ≡ is_closed past → new ≡ moved_by event old → new ≡ machine_after about (e ∷ past)
 machine_more about past e event old new machine step opens moved =
     moved
@@ -87,34 +89,39 @@ pub record IsPlayedEntry (e : Entry) (event : Event) (journal : List Entry) (old
   pub kept : new.machine ≡ record old.machine { state = new.machine.state }
   pub brought : new.brought ≡ brought_by old.machine.state (length (reverse journal)) e old.brought
 
-event_replay : (e : Entry) (event : Event) (old new : TracedCore) (journal items : List Entry) (bytes sum before room : ℕ)
-    → IsReplay old.machine.settings journal old bytes before → IsPlayedEntry e event journal old new
-    → sum ≡ bytes + bytes_by e → sum ≤ most_bytes → kept_in new.machine ≤ room
-    → length journal + 1 + kept_in new.machine ≤ most_entries → items ≡ journal ++ e ∷ []
-    → IsReplay new.machine.settings items new sum room
-event_replay e event old new journal items bytes sum before room told played counted light left fits is =
-    let about : Settings = old.machine.settings in
-    let moved : new.machine ≡ moved_by event old.machine = moved_machine old.machine new.machine event played.plays played.kept in
-    let machine : new.machine ≡ machine_after about (e ∷ reverse journal) =
-    machine_more about (reverse journal) e event old.machine new.machine told.machine played.step played.opens moved in
-    let replay : IsReplay about (journal ++ e ∷ []) new sum room =
-    replay_more about journal e old new bytes sum before room told played.replied machine played.brought counted light left
-    fits in
-    let same : about ≡ new.machine.settings = sym (ap (λ (m : CoreValue). m.settings) played.kept) in
-    subst (λ (s : Settings). IsReplay s items new sum room) same
-    (subst (λ (xs : List Entry). IsReplay about xs new sum room) (sym is) replay)
+module _ (e : Entry) where
+  event_replay : (event : Event) (old new : TracedCore) (journal items : List Entry) (bytes sum before room : ℕ)
+      → IsReplay old.machine.settings journal old bytes before → IsPlayedEntry e event journal old new
+      → sum ≡ bytes + bytes_by e → sum ≤ most_bytes → kept_in new.machine ≤ room
+      → length journal + 1 + kept_in new.machine ≤ most_entries → items ≡ journal ++ e ∷ []
+      → IsReplay new.machine.settings items new sum room
+  event_replay event old new journal items bytes sum before room told played counted light left fits is =
+      let about : Settings = old.machine.settings in
+      let moved : new.machine ≡ moved_by event old.machine = moved_machine old.machine new.machine event played.plays
+      played.kept in
+      let machine : new.machine ≡ machine_after about (e ∷ reverse journal) =
+      machine_more about (reverse journal) e event old.machine new.machine told.machine played.step played.opens moved
+      in
+      let replay : IsReplay about (journal ++ e ∷ []) new sum room =
+      replay_more about journal e old new bytes sum before room told played.replied machine played.brought counted light
+      left
+      fits in
+      let same : about ≡ new.machine.settings = sym (ap (λ (m : CoreValue). m.settings) played.kept) in
+      subst (λ (s : Settings). IsReplay s items new sum room) same
+      (subst (λ (xs : List Entry). IsReplay about xs new sum room) (sym is) replay)
 
 -- an event that leaves the queue and the flag, and keeps no byte
-quiet_replay : (e : Entry) (event : Event) (old new : TracedCore) (journal items : List Entry) (bytes before left room : ℕ)
-    → IsReplay old.machine.settings journal old bytes before → IsPlayedEntry e event journal old new
-    → bytes_by e ≡ 0 → kept_in (moved_by event old.machine) ≡ kept_in old.machine
-    → length journal + kept_in old.machine + 1 ≤ most_entries → kept_in old.machine + 1 ≤ left → room + 1 ≡ left
-    → items ≡ journal ++ e ∷ [] → IsReplay new.machine.settings items new bytes room
-quiet_replay e event old new journal items bytes before left room told played none still fits roomy less is =
-    let same : kept_in new.machine ≡ kept_in old.machine =
-    ap kept_in (moved_machine old.machine new.machine event played.plays played.kept) ∙ still in
-    event_replay e event old new journal items bytes bytes before room told played (omega (arith, none)) told.light
-    (omega (arith, same, roomy, less)) (omega (arith, same, fits)) is
+module _ (e : Entry) where
+  quiet_replay : (event : Event) (old new : TracedCore) (journal items : List Entry) (bytes before left room : ℕ)
+      → IsReplay old.machine.settings journal old bytes before → IsPlayedEntry e event journal old new
+      → bytes_by e ≡ 0 → kept_in (moved_by event old.machine) ≡ kept_in old.machine
+      → length journal + kept_in old.machine + 1 ≤ most_entries → kept_in old.machine + 1 ≤ left → room + 1 ≡ left
+      → items ≡ journal ++ e ∷ [] → IsReplay new.machine.settings items new bytes room
+  quiet_replay event old new journal items bytes before left room told played none still fits roomy less is =
+      let same : kept_in new.machine ≡ kept_in old.machine =
+      ap kept_in (moved_machine old.machine new.machine event played.plays played.kept) ∙ still in
+      event_replay e event old new journal items bytes bytes before room told played (omega (arith, none)) told.light
+      (omega (arith, same, roomy, less)) (omega (arith, same, fits)) is
 
 -- ---- the calls
 
@@ -132,7 +139,8 @@ tick_replay moment old new journal items bytes before left room told plays kept 
 pub cancel_replay : (number : ℕ) (old new : TracedCore) (journal items : List Entry) (bytes before left room : ℕ)
     → IsReplay old.machine.settings journal old bytes before
     → Plays old.machine.settings old.machine.state new.machine.state (mux.Cancel number)
-    → new.machine ≡ record old.machine { state = new.machine.state } → new.brought ≡ changed_at number (λ _. []) old.brought
+    → new.machine ≡ record old.machine { state = new.machine.state }
+    → new.brought ≡ changed_at number (λ _. []) old.brought
     → length journal + kept_in old.machine + 1 ≤ most_entries → kept_in old.machine + 1 ≤ left → room + 1 ≡ left
     → items ≡ journal ++ Cancel number ∷ [] → IsReplay new.machine.settings items new bytes room
 cancel_replay number old new journal items bytes before left room told plays kept brought fits roomy less is =
@@ -141,7 +149,8 @@ cancel_replay number old new journal items bytes before left room told plays kep
     refl refl fits roomy less is
 
 -- what the machine gives is what the entry at the place brought
-pub take_found : (number : ℕ) (old : TracedCore) (journal : List Entry) (bytes before : ℕ) (taken : TakenValue) (place : Option ℕ)
+pub take_found : (number : ℕ) (old : TracedCore) (journal : List Entry) (bytes before : ℕ) (taken : TakenValue)
+    (place : Option ℕ)
     → IsReplay old.machine.settings journal old bytes before
     → taken ≡ taken_from (slice_get old.machine.state.requests number)
     → place ≡ slice_get (brought_at old.brought number) 0
@@ -154,73 +163,80 @@ take_found number old journal bytes before taken place told is at =
     let from : place ≡ slice_get (brought_at (brought_after about past) number) 0 =
     at ∙ ap (λ (b : List (List ℕ)). slice_get (brought_at b number) 0) told.brought in
     given ∙ take_gives about past number told.legal
-    ∙ ap (λ (t : TakenValue). taken_at past (found_by t (slice_get (brought_at (brought_after about past) number) 0))) (sym given)
+    ∙ ap (λ (t : TakenValue). taken_at past (found_by t (slice_get (brought_at (brought_after about past) number) 0)))
+    (sym given)
     ∙ ap (λ (p : Option ℕ). taken_at past (found_by taken p)) (sym from)
 
-pub take_replay : (number : ℕ) (old new : TracedCore) (journal items : List Entry) (bytes before left room : ℕ)
-    (taken : TakenValue) (place : Option ℕ) (found : Found)
-    → IsReplay old.machine.settings journal old bytes before
-    → Plays old.machine.settings old.machine.state new.machine.state (mux.Take number taken)
-    → place ≡ slice_get (brought_at old.brought number) 0 → found ≡ found_by taken place
-    → new.machine ≡ record old.machine { state = new.machine.state } → new.brought ≡ changed_at number (drop 1) old.brought
-    → length journal + kept_in old.machine + 1 ≤ most_entries → kept_in old.machine + 1 ≤ left → room + 1 ≡ left
-    → items ≡ journal ++ Take number found ∷ [] → IsReplay new.machine.settings items new bytes room
-take_replay number old new journal items bytes before left room taken place found told plays at named kept brought fits roomy
-    less is =
-    let about : Settings = old.machine.settings in
-    let past : List Entry = reverse journal in
-    let gives : taken ≡ taken_at past found =
-    take_found number old journal bytes before taken place told plays.answered at
-    ∙ ap (taken_at past) (sym named) in
-    let named_place : place_in found ≡ slice_get (brought_at (brought_after about past) number) 0 =
-    ap place_in named ∙ place_found taken place ∙ at
-    ∙ ap (λ (b : List (List ℕ)). slice_get (brought_at b number) 0) told.brought in
-    let answered : taken_at past found ≡ taken_from (slice_get (state_after about past).requests number) =
-    sym gives ∙ plays.answered
-    ∙ ap (λ (m : CoreValue). taken_from (slice_get m.state.requests number)) told.machine in
-    quiet_replay (Take number found) (mux.Take number taken) old new journal items bytes before left room told
-    (record {
-      step = refl;
-      opens = refl;
-      replied = record { place = named_place; answered = answered };
-      plays = plays;
-      kept = kept;
-      brought = brought;
-    })
-    refl refl fits roomy less is
+module _ (number : ℕ) (old new : TracedCore) where
+  pub take_replay : (journal items : List Entry) (bytes before left room : ℕ)
+      (taken : TakenValue) (place : Option ℕ) (found : Found)
+      → IsReplay old.machine.settings journal old bytes before
+      → Plays old.machine.settings old.machine.state new.machine.state (mux.Take number taken)
+      → place ≡ slice_get (brought_at old.brought number) 0 → found ≡ found_by taken place
+      → new.machine ≡ record old.machine { state = new.machine.state }
+      → new.brought ≡ changed_at number (drop 1) old.brought
+      → length journal + kept_in old.machine + 1 ≤ most_entries → kept_in old.machine + 1 ≤ left → room + 1 ≡ left
+      → items ≡ journal ++ Take number found ∷ [] → IsReplay new.machine.settings items new bytes room
+  take_replay journal items bytes before left room taken place found told plays at named kept brought fits roomy
+      less is =
+      let about : Settings = old.machine.settings in
+      let past : List Entry = reverse journal in
+      let gives : taken ≡ taken_at past found =
+      take_found number old journal bytes before taken place told plays.answered at
+      ∙ ap (taken_at past) (sym named) in
+      let named_place : place_in found ≡ slice_get (brought_at (brought_after about past) number) 0 =
+      ap place_in named ∙ place_found taken place ∙ at
+      ∙ ap (λ (b : List (List ℕ)). slice_get (brought_at b number) 0) told.brought in
+      let answered : taken_at past found ≡ taken_from (slice_get (state_after about past).requests number) =
+      sym gives ∙ plays.answered
+      ∙ ap (λ (m : CoreValue). taken_from (slice_get m.state.requests number)) told.machine in
+      quiet_replay (Take number found) (mux.Take number taken) old new journal items bytes before left room told
+      (record {
+        step = refl;
+        opens = refl;
+        replied = record { place = named_place; answered = answered };
+        plays = plays;
+        kept = kept;
+        brought = brought;
+      })
+      refl refl fits roomy less is
 
-pub arrive_replay : (came : List ℕ) (reply : Arrival) (place : ℕ) (old new : TracedCore) (journal items : List Entry)
-    (bytes sum before left room : ℕ)
-    → IsReplay old.machine.settings journal old bytes before
-    → Plays old.machine.settings old.machine.state new.machine.state (mux.Arrive came reply)
-    → new.machine ≡ record old.machine { state = new.machine.state } → place ≡ length journal
-    → new.brought ≡ brought_by_arrival reply place old.brought → sum ≡ bytes + length came → sum ≤ most_bytes
-    → length journal + kept_in old.machine + 1 ≤ most_entries → kept_in old.machine + 1 ≤ left → room + 1 ≡ left
-    → items ≡ journal ++ Arrive came reply ∷ [] → IsReplay new.machine.settings items new sum room
-arrive_replay came reply place old new journal items bytes sum before left room told plays kept last brought counted light fits
-    roomy less is =
-    let same : kept_in new.machine ≡ kept_in old.machine =
-    ap kept_in (moved_machine old.machine new.machine (mux.Arrive came reply) plays kept) in
-    let here : place ≡ length (reverse journal) = last ∙ sym (length-reverse journal) in
-    event_replay (Arrive came reply) (mux.Arrive came reply) old new journal items bytes sum before room told
-    (record {
-      step = refl;
-      opens = refl;
-      replied = subst (λ (m : CoreValue). IsAnswered old.machine.settings m.state (mux.Arrive came reply)) told.machine plays.answered;
-      plays = plays;
-      kept = kept;
-      brought = brought ∙ ap (λ p. brought_by_arrival reply p old.brought) here;
-    })
-    counted light (omega (arith, same, roomy, less)) (omega (arith, same, fits)) is
+module _ (came : List ℕ) (reply : Arrival) (place : ℕ) where
+  pub arrive_replay : (old new : TracedCore) (journal items : List Entry)
+      (bytes sum before left room : ℕ)
+      → IsReplay old.machine.settings journal old bytes before
+      → Plays old.machine.settings old.machine.state new.machine.state (mux.Arrive came reply)
+      → new.machine ≡ record old.machine { state = new.machine.state } → place ≡ length journal
+      → new.brought ≡ brought_by_arrival reply place old.brought → sum ≡ bytes + length came → sum ≤ most_bytes
+      → length journal + kept_in old.machine + 1 ≤ most_entries → kept_in old.machine + 1 ≤ left → room + 1 ≡ left
+      → items ≡ journal ++ Arrive came reply ∷ [] → IsReplay new.machine.settings items new sum room
+  arrive_replay old new journal items bytes sum before left room told plays kept last brought counted light fits
+      roomy less is =
+      let same : kept_in new.machine ≡ kept_in old.machine =
+      ap kept_in (moved_machine old.machine new.machine (mux.Arrive came reply) plays kept) in
+      let here : place ≡ length (reverse journal) = last ∙ sym (length-reverse journal) in
+      event_replay (Arrive came reply) (mux.Arrive came reply) old new journal items bytes sum before room told
+      (record {
+        step = refl;
+        opens = refl;
+        replied = subst (λ (m : CoreValue). IsAnswered old.machine.settings m.state (mux.Arrive came reply))
+            told.machine plays.answered;
+        plays = plays;
+        kept = kept;
+        brought = brought ∙ ap (λ p. brought_by_arrival reply p old.brought) here;
+      })
+      counted light (omega (arith, same, roomy, less)) (omega (arith, same, fits)) is
 
 -- a message that is popped leaves its place
-pub pop_replay : (message : SerialMessageValue) (old new : TracedCore) (journal items : List Entry) (bytes before room : ℕ)
+pub pop_replay : (message : SerialMessageValue) (old new : TracedCore) (journal items : List Entry)
+    (bytes before room : ℕ)
     → IsReplay old.machine.settings journal old bytes before
     → Plays old.machine.settings old.machine.state new.machine.state (mux.Pop message)
     → new.machine ≡ record old.machine { state = new.machine.state } → new.brought ≡ old.brought
     → room + 1 ≡ before → items ≡ journal ++ Pop ∷ [] → IsReplay new.machine.settings items new bytes room
 pop_replay message old new journal items bytes before room told plays kept brought less is =
-    let first : (waiting : List SerialMessageValue) → Some message ≡ slice_get waiting 0 → length (drop 1 waiting) + 1 ≡ length waiting
+    let first : (waiting : List SerialMessageValue) → Some message ≡ slice_get waiting 0
+    → length (drop 1 waiting) + 1 ≡ length waiting
     = one_less in
     let moved : kept_in new.machine + 1 ≡ kept_in old.machine =
     let same = ap kept_in (moved_machine old.machine new.machine (mux.Pop message) plays kept) in
@@ -250,91 +266,100 @@ pop_replay message old new journal items bytes before room told plays kept broug
 -- ---- a send
 
 -- one that the multiplexer answered; an accepted one keeps a place for its pop
-pub send_replay : (request : Option (List ℕ)) (moment : ℕ) (drawn : List ℕ) (reply : Result ℕ ErrorValue)
-    (old new : TracedCore) (journal items : List Entry) (bytes sum before left room : ℕ)
-    → IsReplay old.machine.settings journal old bytes before → is_closed (reverse journal) ≡ false
-    → Plays old.machine.settings old.machine.state new.machine.state (mux.Send request moment drawn (is_ok reply) reply)
-    → new.machine ≡ record old.machine { state = new.machine.state } → new.brought ≡ brought_by_send reply old.brought
-    → kept_in (moved_by (mux.Send request moment drawn (is_ok reply) reply) old.machine) ≤ kept_in old.machine + 1
-    → sum ≡ bytes + bytes_by (Send request moment drawn reply) → sum ≤ most_bytes
-    → length journal + kept_in old.machine + 2 ≤ most_entries → kept_in old.machine + 2 ≤ left → room + 1 ≡ left
-    → items ≡ journal ++ Send request moment drawn reply ∷ [] → IsReplay new.machine.settings items new sum room
-send_replay request moment drawn reply old new journal items bytes sum before left room told opened plays kept brought grows
-    counted light fits roomy less is =
-    let event : Event = mux.Send request moment drawn (is_ok reply) reply in
-    let same : kept_in new.machine ≡ kept_in (moved_by event old.machine) =
-    ap kept_in (moved_machine old.machine new.machine event plays kept) in
-    let answered : IsAnswered old.machine.settings (state_after old.machine.settings (reverse journal)) event =
-    subst (λ (m : CoreValue). IsAnswered old.machine.settings m.state event) told.machine plays.answered in
-    event_replay (Send request moment drawn reply) event old new journal items bytes sum before room told
-    (record {
-      step = ap (λ (b : Bool). if b then state_after old.machine.settings (reverse journal)
-          else after old.machine.settings (state_after old.machine.settings (reverse journal)) event) opened;
-      opens = refl;
-      replied = subst (λ (b : Bool). IsRepliedSend old.machine.settings (state_after old.machine.settings (reverse journal)) b
-          request moment drawn reply) (sym opened) answered;
-      plays = plays;
-      kept = kept;
-      brought = brought;
-    })
-    counted light (omega (arith, same, grows, roomy, less)) (omega (arith, same, grows, fits)) is
+module _ (request : Option (List ℕ)) (moment : ℕ) (drawn : List ℕ) (reply : Result ℕ ErrorValue) where
+  pub send_replay : (old new : TracedCore) (journal items : List Entry) (bytes sum before left room : ℕ)
+      → IsReplay old.machine.settings journal old bytes before → is_closed (reverse journal) ≡ false
+      → Plays old.machine.settings old.machine.state new.machine.state
+      (mux.Send request moment drawn (is_ok reply) reply)
+      → new.machine ≡ record old.machine { state = new.machine.state } → new.brought ≡ brought_by_send reply old.brought
+      → kept_in (moved_by (mux.Send request moment drawn (is_ok reply) reply) old.machine) ≤ kept_in old.machine + 1
+      → sum ≡ bytes + bytes_by (Send request moment drawn reply) → sum ≤ most_bytes
+      → length journal + kept_in old.machine + 2 ≤ most_entries → kept_in old.machine + 2 ≤ left → room + 1 ≡ left
+      → items ≡ journal ++ Send request moment drawn reply ∷ [] → IsReplay new.machine.settings items new sum room
+  send_replay old new journal items bytes sum before left room told opened plays kept brought grows
+      counted light fits roomy less is =
+      let event : Event = mux.Send request moment drawn (is_ok reply) reply in
+      let same : kept_in new.machine ≡ kept_in (moved_by event old.machine) =
+      ap kept_in (moved_machine old.machine new.machine event plays kept) in
+      let answered : IsAnswered old.machine.settings (state_after old.machine.settings (reverse journal)) event =
+      subst (λ (m : CoreValue). IsAnswered old.machine.settings m.state event) told.machine plays.answered in
+      event_replay (Send request moment drawn reply) event old new journal items bytes sum before room told
+      (record {
+        step = ap (λ (b : Bool). if b then state_after old.machine.settings (reverse journal)
+            else after old.machine.settings (state_after old.machine.settings (reverse journal)) event) opened;
+        opens = refl;
+        replied = subst (λ (b : Bool). IsRepliedSend old.machine.settings
+            (state_after old.machine.settings (reverse journal)) b
+            request moment drawn reply) (sym opened) answered;
+        plays = plays;
+        kept = kept;
+        brought = brought;
+      })
+      counted light (omega (arith, same, grows, roomy, less)) (omega (arith, same, grows, fits)) is
 
 -- one after a close
-pub refused_replay : (request : Option (List ℕ)) (moment : ℕ) (core : TracedCore) (journal items : List Entry)
-    (bytes sum before left room : ℕ)
-    → IsReplay core.machine.settings journal core bytes before → is_closed (reverse journal) ≡ true
-    → sum ≡ bytes + bytes_by (Send request moment [] (Err NoConnections)) → sum ≤ most_bytes
-    → length journal + kept_in core.machine + 1 ≤ most_entries → kept_in core.machine + 1 ≤ left → room + 1 ≡ left
-    → items ≡ journal ++ Send request moment [] (Err NoConnections) ∷ [] → IsReplay core.machine.settings items core sum room
-refused_replay request moment core journal items bytes sum before left room told closed counted light fits roomy less is =
-    let about : Settings = core.machine.settings in
-    let past : List Entry = reverse journal in
-    let e : Entry = Send request moment [] (Err NoConnections) in
-    let event : Event = mux.Send request moment [] false (Err NoConnections) in
-    let replied : IsReplied about past e =
-    subst (λ (b : Bool). IsRepliedSend about (state_after about past) b request moment [] (Err NoConnections)) (sym closed)
-    (refl, refl) in
-    let stays : stepped about (state_after about past) past e ≡ state_after about past =
-    ap (λ (b : Bool). if b then state_after about past else after about (state_after about past) event) closed in
-    let machine : core.machine ≡ machine_after about (e ∷ past) =
-    told.machine ∙ ap (λ (s : State). machine_with about s (is_closed past)) (sym (state_more about past e ∙ stays)) in
-    subst (λ (xs : List Entry). IsReplay about xs core sum room) (sym is)
-    (replay_more about journal e core core bytes sum before room told replied machine refl counted light
-    (omega (arith, roomy, less)) (omega (arith, fits)))
+module _ (request : Option (List ℕ)) where
+  pub refused_replay : (moment : ℕ) (core : TracedCore) (journal items : List Entry)
+      (bytes sum before left room : ℕ)
+      → IsReplay core.machine.settings journal core bytes before → is_closed (reverse journal) ≡ true
+      → sum ≡ bytes + bytes_by (Send request moment [] (Err NoConnections)) → sum ≤ most_bytes
+      → length journal + kept_in core.machine + 1 ≤ most_entries → kept_in core.machine + 1 ≤ left → room + 1 ≡ left
+      → items ≡ journal ++ Send request moment [] (Err NoConnections) ∷ []
+      → IsReplay core.machine.settings items core sum room
+  refused_replay moment core journal items bytes sum before left room told closed counted light fits roomy less is =
+      let about : Settings = core.machine.settings in
+      let past : List Entry = reverse journal in
+      let e : Entry = Send request moment [] (Err NoConnections) in
+      let event : Event = mux.Send request moment [] false (Err NoConnections) in
+      let replied : IsReplied about past e =
+      subst (λ (b : Bool). IsRepliedSend about (state_after about past) b request moment [] (Err NoConnections))
+      (sym closed)
+      (refl, refl) in
+      let stays : stepped about (state_after about past) past e ≡ state_after about past =
+      ap (λ (b : Bool). if b then state_after about past else after about (state_after about past) event) closed in
+      let machine : core.machine ≡ machine_after about (e ∷ past) =
+      told.machine ∙ ap (λ (s : State). machine_with about s (is_closed past))
+      (sym (state_more about past e ∙ stays)) in
+      subst (λ (xs : List Entry). IsReplay about xs core sum room) (sym is)
+      (replay_more about journal e core core bytes sum before room told replied machine refl counted light
+      (omega (arith, roomy, less)) (omega (arith, fits)))
 
 -- ---- a close
 
-close_machine : (about : Settings) (past : List Entry) (fault : IoKind) (old new : CoreValue) → old ≡ machine_after about past
-    → new ≡ record (moved_by (mux.Close fault) old) { is_shutdown = true } → new ≡ machine_after about (Close fault ∷ past)
+close_machine : (about : Settings) (past : List Entry) (fault : IoKind) (old new : CoreValue)
+    → old ≡ machine_after about past
+    → new ≡ record (moved_by (mux.Close fault) old) { is_shutdown = true }
+    → new ≡ machine_after about (Close fault ∷ past)
 close_machine about past fault old new machine moved =
     moved
     ∙ ap (λ (m : CoreValue). record (moved_by (mux.Close fault) m) { is_shutdown = true }) machine
     ∙ ap (λ (s : State). machine_with about s true) (sym (state_more about past (Close fault)))
 
 -- the first one leaves its place
-pub close_replay : (fault : IoKind) (place : ℕ) (old new : TracedCore) (journal items : List Entry)
-    (bytes before left room : ℕ)
-    → IsReplay old.machine.settings journal old bytes before
-    → Plays old.machine.settings old.machine.state new.machine.state (mux.Close fault)
-    → new.machine ≡ record old.machine { state = new.machine.state; is_shutdown = true } → place ≡ length journal
-    → new.brought ≡ brought_by_close place old.machine.state.requests old.brought
-    → length journal + 1 + length old.machine.state.outbound ≤ most_entries
-    → length old.machine.state.outbound + 1 ≤ left → room + 1 ≡ left
-    → items ≡ journal ++ Close fault ∷ [] → IsReplay new.machine.settings items new bytes room
-close_replay fault place old new journal items bytes before left room told plays kept last brought fits roomy less is =
-    let about : Settings = old.machine.settings in
-    let moved : new.machine ≡ record (moved_by (mux.Close fault) old.machine) { is_shutdown = true } =
-    kept ∙ ap (λ (s : State). record old.machine { state = s; is_shutdown = true }) plays.moved in
-    let keeps : kept_in new.machine ≡ 0 + length old.machine.state.outbound = ap kept_in moved in
-    let machine : new.machine ≡ machine_after about (Close fault ∷ reverse journal) =
-    close_machine about (reverse journal) fault old.machine new.machine told.machine moved in
-    let here : place ≡ length (reverse journal) = last ∙ sym (length-reverse journal) in
-    let same : about ≡ new.machine.settings = sym (ap (λ (m : CoreValue). m.settings) kept) in
-    subst (λ (s : Settings). IsReplay s items new bytes room) same
-    (subst (λ (xs : List Entry). IsReplay about xs new bytes room) (sym is)
-    (replay_more about journal (Close fault) old new bytes bytes before room told tt machine
-    (brought ∙ ap (λ p. brought_by_close p old.machine.state.requests old.brought) here)
-    (omega arith) told.light (omega (arith, keeps, roomy, less)) (omega (arith, keeps, fits))))
+module _ (fault : IoKind) where
+  pub close_replay : (place : ℕ) (old new : TracedCore) (journal items : List Entry)
+      (bytes before left room : ℕ)
+      → IsReplay old.machine.settings journal old bytes before
+      → Plays old.machine.settings old.machine.state new.machine.state (mux.Close fault)
+      → new.machine ≡ record old.machine { state = new.machine.state; is_shutdown = true } → place ≡ length journal
+      → new.brought ≡ brought_by_close place old.machine.state.requests old.brought
+      → length journal + 1 + length old.machine.state.outbound ≤ most_entries
+      → length old.machine.state.outbound + 1 ≤ left → room + 1 ≡ left
+      → items ≡ journal ++ Close fault ∷ [] → IsReplay new.machine.settings items new bytes room
+  close_replay place old new journal items bytes before left room told plays kept last brought fits roomy less is =
+      let about : Settings = old.machine.settings in
+      let moved : new.machine ≡ record (moved_by (mux.Close fault) old.machine) { is_shutdown = true } =
+      kept ∙ ap (λ (s : State). record old.machine { state = s; is_shutdown = true }) plays.moved in
+      let keeps : kept_in new.machine ≡ 0 + length old.machine.state.outbound = ap kept_in moved in
+      let machine : new.machine ≡ machine_after about (Close fault ∷ reverse journal) =
+      close_machine about (reverse journal) fault old.machine new.machine told.machine moved in
+      let here : place ≡ length (reverse journal) = last ∙ sym (length-reverse journal) in
+      let same : about ≡ new.machine.settings = sym (ap (λ (m : CoreValue). m.settings) kept) in
+      subst (λ (s : Settings). IsReplay s items new bytes room) same
+      (subst (λ (xs : List Entry). IsReplay about xs new bytes room) (sym is)
+      (replay_more about journal (Close fault) old new bytes bytes before room told tt machine
+      (brought ∙ ap (λ p. brought_by_close p old.machine.state.requests old.brought) here)
+      (omega arith) told.light (omega (arith, keeps, roomy, less)) (omega (arith, keeps, fits))))
 
 -- ---- the first state
 

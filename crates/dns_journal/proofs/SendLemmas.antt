@@ -1,4 +1,5 @@
--- A send that the multiplexer answers: the ids that are kept are those that it drew, and its refusals are those of a multiplexer.
+-- A send that the multiplexer answers: the ids that are kept are those that it drew, and its refusals are those of a
+-- multiplexer.
 use Rattle.std.proofs.Common.{◌≡◌, ℕ, zero, suc, ◌+◌, ◌≤◌, ◌<◌, Bool, true, false, List, [], ◌∷◌, ◌++◌, length, append-nil, append_assoc, length-append, Option, None, Some, Result, Ok, Err, refl, sym, ap, ◌∙◌, subst, arith, if◌then◌else◌, inl, inr, ◌⊎◌, ⊎_elim}
 use Rattle.std.specs.Prelude.{is_ok, nat_le, nat_lt}
 use Rattle.std.proofs.lemmas.Bool.{false≢true, leb-true}
@@ -98,7 +99,8 @@ notice-is notices.TransferIsIncremental refusal is = cc
 notice-is notices.HistoryFull refusal is = cc
 
 -- an error is the refusal that it is seen as
-pub refusal_is : (error : ErrorValue) (refusal : SendRefusal) → refusal_in error ≡ Some refusal → refusal_of refusal ≡ error
+pub refusal_is : (error : ErrorValue) (refusal : SendRefusal) → refusal_in error ≡ Some refusal
+    → refusal_of refusal ≡ error
 refusal_is seen.Busy refusal is = ap refusal_of (same-refusal refusal Busy (sym is))
 refusal_is (seen.Message notice) refusal is = notice-is notice refusal is
 refusal_is (seen.Proto proto.TooLong) refusal is = ap refusal_of (same-refusal refusal TooLong (sym is))
@@ -140,7 +142,8 @@ busy-refused settings state request drawn error false is none =
     taken-refused settings state request error (is_taken_id state.requests (last_drawn drawn)) is none
 
 -- each refusal of a multiplexer's send is one of these
-pub known_refusal : (settings : Settings) (state : State) (request : Option (List ℕ)) (drawn : List ℕ) (error : ErrorValue)
+pub known_refusal : (settings : Settings) (state : State) (request : Option (List ℕ)) (drawn : List ℕ)
+    (error : ErrorValue)
     → Err error ≡ send_reply settings state request drawn → refusal_in error ≡ None → ⊥
 known_refusal settings state request drawn error is none =
     busy-refused settings state request drawn error (is_busy settings state) is none
@@ -154,57 +157,66 @@ put-few server (Some bytes) moment drawn true reply = omega arith
 put-few server (Some bytes) moment drawn false reply = omega arith
 
 -- a send keeps one place more at most
-pub send_grows : (request : Option (List ℕ)) (moment : ℕ) (drawn : List ℕ) (reply : Result ℕ ErrorValue) (old : CoreValue)
+pub send_grows : (request : Option (List ℕ)) (moment : ℕ) (drawn : List ℕ) (reply : Result ℕ ErrorValue)
+    (old : CoreValue)
     → kept_in (moved_by (mux.Send request moment drawn (is_ok reply) reply) old) ≤ kept_in old + 1
 send_grows request moment drawn reply old =
     let put = put-few old.settings.server request moment drawn (is_ok reply) reply in
-    let all = length-append old.state.outbound (put_out old.settings.server (mux.Send request moment drawn (is_ok reply) reply)) in
+    let all = length-append old.state.outbound (put_out old.settings.server
+    (mux.Send request moment drawn (is_ok reply) reply)) in
     omega (arith, put, all)
 
 -- ---- a send that is played
 
 -- what a core's send did with a generator that keeps its ids, as a send with the generator inside
-pub played_send : {R : Type 0} (draw : R → ℕ → R → Type 0) (before from to : RecordedDraws R) (old new : TracedCore)
-    (request : Option (List ℕ)) (moment : ℕ) (drawn ids : List ℕ) (reply : Result ℕ ErrorValue)
-    → from.draws ≡ before.draws → from.ids.ids ≡ [] → 100 ≤ from.ids.capacity
-    → Drawn (RecordedDraw draw) from drawn to
-    → Plays old.machine.settings old.machine.state new.machine.state (mux.Send request moment drawn (is_ok reply) reply)
-    → ids ≡ to.ids.ids → new.machine ≡ record old.machine { state = new.machine.state }
-    → new.brought ≡ brought_by_send reply old.brought
-    → IsPlayedSend (λ xs. Drawn draw before.draws xs to.draws) old new request moment ids reply
-played_send {R} draw before from to old new request moment drawn ids reply began none room walked plays kept_ids kept brought =
-    let few : length drawn ≤ 100 =
-    hundred_drawn old.machine.settings old.machine.state drawn plays.answered.0 in
-    let all : to.ids.ids ≡ drawn =
-    ids_kept draw from to drawn walked
-    (omega (arith, few, room, ap (λ (xs : List ℕ). length xs) none))
-    ∙ ap (λ (xs : List ℕ). xs ++ drawn) none in
-    let same : ids ≡ drawn = kept_ids ∙ all in
-    record {
-      walked = subst (λ (xs : List ℕ). Drawn draw before.draws xs to.draws) (sym same)
-          (subst (λ (r : R). Drawn draw r drawn to.draws) began (walk_inside draw from to drawn walked));
-      played = subst
-          (λ (xs : List ℕ). Plays old.machine.settings old.machine.state new.machine.state (mux.Send request moment xs (is_ok reply) reply))
-          (sym same) plays;
-      kept = kept;
-      brought = brought;
-    }
+module _ {R : Type 0} (draw : R → ℕ → R → Type 0) (before from to : RecordedDraws R) where
+  pub played_send : (old new : TracedCore)
+      (request : Option (List ℕ)) (moment : ℕ) (drawn ids : List ℕ) (reply : Result ℕ ErrorValue)
+      → from.draws ≡ before.draws → from.ids.ids ≡ [] → 100 ≤ from.ids.capacity
+      → Drawn (RecordedDraw draw) from drawn to
+      → Plays old.machine.settings old.machine.state new.machine.state
+      (mux.Send request moment drawn (is_ok reply) reply)
+      → ids ≡ to.ids.ids → new.machine ≡ record old.machine { state = new.machine.state }
+      → new.brought ≡ brought_by_send reply old.brought
+      → IsPlayedSend (λ xs. Drawn draw before.draws xs to.draws) old new request moment ids reply
+  played_send old new request moment drawn ids reply began none room walked plays kept_ids kept brought =
+      let few : length drawn ≤ 100 =
+      hundred_drawn old.machine.settings old.machine.state drawn plays.answered.0 in
+      let all : to.ids.ids ≡ drawn =
+      ids_kept draw from to drawn walked
+      (omega (arith, few, room, ap (λ (xs : List ℕ). length xs) none))
+      ∙ ap (λ (xs : List ℕ). xs ++ drawn) none in
+      let same : ids ≡ drawn = kept_ids ∙ all in
+      record {
+        walked = subst (λ (xs : List ℕ). Drawn draw before.draws xs to.draws) (sym same)
+            (subst (λ (r : R). Drawn draw r drawn to.draws) began (walk_inside draw from to drawn walked));
+        played = subst
+            (λ (xs : List ℕ). Plays old.machine.settings old.machine.state new.machine.state
+            (mux.Send request moment xs (is_ok reply) reply))
+            (sym same) plays;
+        kept = kept;
+        brought = brought;
+      }
 
 -- a send that memory didn't refuse was played
-pub sent_played : {R : Type 0} (draw : R → ℕ → R → Type 0) (before from to after : RecordedDraws R) (old new : TracedCore)
-    (request : Option (List ℕ)) (moment : ℕ) (ids : List ℕ) (reply : Result ℕ ErrorValue)
-    → from.draws ≡ before.draws → from.ids.ids ≡ [] → 100 ≤ from.ids.capacity
-    → IsSend (λ xs. Drawn (RecordedDraw draw) from xs to) old.machine.settings old.machine.state new.machine.state request moment reply
-    → (reply ≡ Err seen.NoMemory → ⊥) → ids ≡ to.ids.ids → after.draws ≡ to.draws
-    → new.machine ≡ record old.machine { state = new.machine.state } → new.brought ≡ brought_by_send reply old.brought
-    → IsPlayedSend (λ xs. Drawn draw before.draws xs after.draws) old new request moment ids reply
-sent_played {R} draw before from to after old new request moment ids reply began none room sent some kept_ids same kept brought =
-    ⊎_elim
-    (λ (out : (reply ≡ Err seen.NoMemory) × (new.machine.state ≡ old.machine.state)). absurd (some out.0))
-    (λ (plays : Plays old.machine.settings old.machine.state new.machine.state (mux.Send request moment sent.drawn (is_ok reply) reply)).
-    subst (λ (r : R). IsPlayedSend (λ xs. Drawn draw before.draws xs r) old new request moment ids reply) (sym same)
-    (played_send draw before from to old new request moment sent.drawn ids reply began none room sent.walked plays kept_ids kept brought))
-    sent.played
+module _ {R : Type 0} (draw : R → ℕ → R → Type 0) (before from to after : RecordedDraws R) where
+  pub sent_played : (old new : TracedCore)
+      (request : Option (List ℕ)) (moment : ℕ) (ids : List ℕ) (reply : Result ℕ ErrorValue)
+      → from.draws ≡ before.draws → from.ids.ids ≡ [] → 100 ≤ from.ids.capacity
+      → IsSend (λ xs. Drawn (RecordedDraw draw) from xs to) old.machine.settings old.machine.state new.machine.state
+      request moment reply
+      → (reply ≡ Err seen.NoMemory → ⊥) → ids ≡ to.ids.ids → after.draws ≡ to.draws
+      → new.machine ≡ record old.machine { state = new.machine.state } → new.brought ≡ brought_by_send reply old.brought
+      → IsPlayedSend (λ xs. Drawn draw before.draws xs after.draws) old new request moment ids reply
+  sent_played old new request moment ids reply began none room sent some kept_ids same kept brought =
+      ⊎_elim
+      (λ (out : (reply ≡ Err seen.NoMemory) × (new.machine.state ≡ old.machine.state)). absurd (some out.0))
+      (λ (plays : Plays old.machine.settings old.machine.state new.machine.state
+      (mux.Send request moment sent.drawn (is_ok reply) reply)).
+      subst (λ (r : R). IsPlayedSend (λ xs. Drawn draw before.draws xs r) old new request moment ids reply) (sym same)
+      (played_send draw before from to old new request moment sent.drawn ids reply began none room sent.walked plays
+      kept_ids kept brought))
+      sent.played
 
 same-error : (reply : Result ℕ ErrorValue) (one other : ErrorValue) → reply ≡ Err one → reply ≡ Err other → one ≡ other
 same-error reply one other is are = cc
@@ -213,38 +225,46 @@ not-memory : (error : ErrorValue) (refusal : SendRefusal) → Some refusal ≡ r
 not-memory error refusal is out = let none : Some refusal ≡ None = is ∙ ap refusal_in out in cc
 
 -- a send that the multiplexer refused, by the refusal that its error is seen as
-pub sent_refused : {R : Type 0} (draw : R → ℕ → R → Type 0) (before from to after : RecordedDraws R) (old new : TracedCore)
-    (request : Option (List ℕ)) (moment : ℕ) (ids : List ℕ) (error : ErrorValue) (refusal : SendRefusal)
-    → from.draws ≡ before.draws → from.ids.ids ≡ [] → 100 ≤ from.ids.capacity
-    → IsSend (λ xs. Drawn (RecordedDraw draw) from xs to) old.machine.settings old.machine.state new.machine.state request moment
-    (Err error) → Some refusal ≡ refusal_in error → ids ≡ to.ids.ids → after.draws ≡ to.draws
-    → new.machine ≡ record old.machine { state = new.machine.state } → new.brought ≡ old.brought
-    → IsPlayedSend (λ xs. Drawn draw before.draws xs after.draws) old new request moment ids (Err (refusal_of refusal))
-sent_refused {R} draw before from to after old new request moment ids error refusal began none room sent is kept_ids same kept
-    brought =
-    subst (λ (e : ErrorValue). IsPlayedSend (λ xs. Drawn draw before.draws xs after.draws) old new request moment ids (Err e))
-    (sym (refusal_is error refusal (sym is)))
-    (sent_played draw before from to after old new request moment ids (Err error) began none room sent
-    (λ out. not-memory error refusal is (same-error (Err error) error seen.NoMemory refl out)) kept_ids same kept brought)
+module _ {R : Type 0} (draw : R → ℕ → R → Type 0) (before from to after : RecordedDraws R) where
+  pub sent_refused : (old new : TracedCore)
+      (request : Option (List ℕ)) (moment : ℕ) (ids : List ℕ) (error : ErrorValue) (refusal : SendRefusal)
+      → from.draws ≡ before.draws → from.ids.ids ≡ [] → 100 ≤ from.ids.capacity
+      → IsSend (λ xs. Drawn (RecordedDraw draw) from xs to) old.machine.settings old.machine.state new.machine.state
+      request moment
+      (Err error) → Some refusal ≡ refusal_in error → ids ≡ to.ids.ids → after.draws ≡ to.draws
+      → new.machine ≡ record old.machine { state = new.machine.state } → new.brought ≡ old.brought
+      → IsPlayedSend (λ xs. Drawn draw before.draws xs after.draws) old new request moment ids
+      (Err (refusal_of refusal))
+  sent_refused old new request moment ids error refusal began none room sent is kept_ids same kept
+      brought =
+      subst (λ (e : ErrorValue). IsPlayedSend (λ xs. Drawn draw before.draws xs after.draws) old new request moment ids
+      (Err e))
+      (sym (refusal_is error refusal (sym is)))
+      (sent_played draw before from to after old new request moment ids (Err error) began none room sent
+      (λ out. not-memory error refusal is (same-error (Err error) error seen.NoMemory refl out)) kept_ids same kept
+      brought)
 
 -- one that memory refused left the core
-pub sent_out : {R : Type 0} (draw : R → ℕ → R → Type 0) (before from to : RecordedDraws R) (old new : TracedCore)
-    (request : Option (List ℕ)) (moment : ℕ) (error : ErrorValue) → from.draws ≡ before.draws
-    → IsSend (λ xs. Drawn (RecordedDraw draw) from xs to) old.machine.settings old.machine.state new.machine.state request moment
-    (Err error) → refusal_in error ≡ None → new.machine ≡ record old.machine { state = new.machine.state }
-    → new.brought ≡ old.brought → IsUnplayedSend (λ xs. Drawn draw before.draws xs to.draws) old new
-sent_out {R} draw before from to old new request moment error began sent none kept brought =
-    let state : new.machine.state ≡ old.machine.state =
-    ⊎_elim
-    (λ (out : (Err error ≡ Err seen.NoMemory) × (new.machine.state ≡ old.machine.state)). out.1)
-    (λ (plays : Plays old.machine.settings old.machine.state new.machine.state
-    (mux.Send request moment sent.drawn false (Err error))).
-    absurd (known_refusal old.machine.settings old.machine.state request sent.drawn error plays.answered.2 none))
-    sent.played in
-    let machine : new.machine ≡ old.machine = kept ∙ ap (λ (st : State). record old.machine { state = st }) state in
-    record {
-      drawn = sent.drawn;
-      walked = subst (λ (r : R). Drawn draw r sent.drawn to.draws) began (walk_inside draw from to sent.drawn sent.walked);
-      same = ap (λ (m : CoreValue). record new { machine = m }) machine
-          ∙ ap (λ (b : List (List ℕ)). record old { brought = b }) brought;
-    }
+module _ {R : Type 0} where
+  pub sent_out : (draw : R → ℕ → R → Type 0) (before from to : RecordedDraws R) (old new : TracedCore)
+      (request : Option (List ℕ)) (moment : ℕ) (error : ErrorValue) → from.draws ≡ before.draws
+      → IsSend (λ xs. Drawn (RecordedDraw draw) from xs to) old.machine.settings old.machine.state new.machine.state
+      request moment
+      (Err error) → refusal_in error ≡ None → new.machine ≡ record old.machine { state = new.machine.state }
+      → new.brought ≡ old.brought → IsUnplayedSend (λ xs. Drawn draw before.draws xs to.draws) old new
+  sent_out draw before from to old new request moment error began sent none kept brought =
+      let state : new.machine.state ≡ old.machine.state =
+      ⊎_elim
+      (λ (out : (Err error ≡ Err seen.NoMemory) × (new.machine.state ≡ old.machine.state)). out.1)
+      (λ (plays : Plays old.machine.settings old.machine.state new.machine.state
+      (mux.Send request moment sent.drawn false (Err error))).
+      absurd (known_refusal old.machine.settings old.machine.state request sent.drawn error plays.answered.2 none))
+      sent.played in
+      let machine : new.machine ≡ old.machine = kept ∙ ap (λ (st : State). record old.machine { state = st }) state in
+      record {
+        drawn = sent.drawn;
+        walked = subst (λ (r : R). Drawn draw r sent.drawn to.draws) began
+            (walk_inside draw from to sent.drawn sent.walked);
+        same = ap (λ (m : CoreValue). record new { machine = m }) machine
+            ∙ ap (λ (b : List (List ℕ)). record old { brought = b }) brought;
+      }

@@ -36,7 +36,8 @@ pop-case : (about : Settings) (before : List Event) (state : State) (waiting : L
     → state ≡ replay about [] before → state.outbound ≡ waiting
     → played_on about (map mux.Pop (take 1 waiting)) before ≡ record state { outbound = drop 1 waiting }
 unfolding replay
-pop-case about before state [] is none = sym is ∙ ap (λ (ms : List SerialMessageValue). record state { outbound = ms }) none
+pop-case about before state [] is none = sym is ∙ ap (λ (ms : List SerialMessageValue). record state { outbound = ms })
+    none
 pop-case about before state (m ∷ ms) is some =
     ap (λ (s : State). record s { outbound = drop 1 s.outbound }) (sym is)
     ∙ ap (λ (all : List SerialMessageValue). record state { outbound = drop 1 all }) some

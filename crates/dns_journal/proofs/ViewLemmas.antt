@@ -41,7 +41,8 @@ module _ (about : Settings) (journal : List Entry) (core : TracedCore) (bytes ro
       (omega (arith, misses, ap kept_in told.machine, length-reverse journal))
 
   pub bytes_fit : (more sum : ℕ) → sum ≡ bytes + more → sum ≤ most_bytes → has_bytes more (held about journal) ≡ true
-  bytes_fit more sum is fits = le-leb (bytes_in (reverse journal) + more) most_bytes (omega (arith, fits, is, told.counted))
+  bytes_fit more sum is fits = le-leb (bytes_in (reverse journal) + more) most_bytes
+      (omega (arith, fits, is, told.counted))
 
   pub bytes_miss : (more : ℕ) → most_bytes < bytes + more → has_bytes more (held about journal) ≡ false
   bytes_miss more misses = lt-leb (bytes_in (reverse journal) + more) most_bytes (omega (arith, misses, told.counted))
@@ -60,9 +61,11 @@ entry_added fits about now journal items e fitted same is =
 -- ---- by what contracts saw before
 
 -- a call that asks for one place, and finds none
-pub call_refused : (old : Held Settings Entry) (about : Settings) (journal items : List Entry) (core : TracedCore) (bytes room : ℕ)
+pub call_refused : (old : Held Settings Entry) (about : Settings) (journal items : List Entry) (core : TracedCore)
+    (bytes room : ℕ)
     (refusal : Refusal) → IsReplay about journal core bytes room → held about journal ≡ old → items ≡ journal
-    → IsNoRoom (length journal + kept_in core.machine + 1) refusal → IsRefused (call_fits old) old (held about items) refusal
+    → IsNoRoom (length journal + kept_in core.machine + 1) refusal
+    → IsRefused (call_fits old) old (held about items) refusal
 call_refused old about journal items core bytes room refusal told was same why =
     subst (λ (xs : List Entry). IsRefused (call_fits old) old (held about xs) refusal) (sym same)
     (subst (λ (o : Held Settings Entry). IsRefused (call_fits o) o (held about journal) refusal) was
@@ -75,7 +78,8 @@ pub call_added : (old : Held Settings Entry) (about now : Settings) (journal ite
     → IsAdded (call_fits old) old e (held now items)
 call_added old about now journal items core bytes room e told was same fits is =
     subst (λ (o : Held Settings Entry). IsAdded (call_fits o) o e (held now items)) was
-    (entry_added (call_fits (held about journal)) about now journal items e (places_fit about journal core bytes room told 1 fits)
+    (entry_added (call_fits (held about journal)) about now journal items e
+    (places_fit about journal core bytes room told 1 fits)
     same is)
 
 -- ---- calls that keep bytes
@@ -96,16 +100,19 @@ second_no false b is = refl
 abbrev pub weighs : ℕ → ℕ → Held Settings Entry → Bool
 weighs len more old = has_bytes len old && has_places more old
 
-pub heavy_refused : (old : Held Settings Entry) (about : Settings) (journal : List Entry) (core : TracedCore) (bytes room len more : ℕ)
+pub heavy_refused : (old : Held Settings Entry) (about : Settings) (journal : List Entry) (core : TracedCore)
+    (bytes room len more : ℕ)
     (refusal : Refusal) → IsReplay about journal core bytes room → held about journal ≡ old → most_bytes < bytes + len
     → refusal ≡ HistoryFull → IsRefused (weighs len more old) old old refusal
 heavy_refused old about journal core bytes room len more refusal told was misses is =
     let heavy : has_bytes len old ≡ false =
-    subst (λ (o : Held Settings Entry). has_bytes len o ≡ false) was (bytes_miss about journal core bytes room told len misses) in
+    subst (λ (o : Held Settings Entry). has_bytes len o ≡ false) was
+    (bytes_miss about journal core bytes room told len misses) in
     subst (λ (r : Refusal). IsRefused (weighs len more old) old old r) (sym is)
     (first_no (has_bytes len old) (has_places more old) heavy, refl)
 
-weighed-case : (old : Held Settings Entry) (about : Settings) (journal : List Entry) (core : TracedCore) (bytes room len more : ℕ)
+weighed-case : (old : Held Settings Entry) (about : Settings) (journal : List Entry) (core : TracedCore)
+    (bytes room len more : ℕ)
     (refusal : Refusal) → IsReplay about journal core bytes room → held about journal ≡ old → has_bytes len old ≡ true
     → IsNoRoom (length journal + kept_in core.machine + more) refusal → IsRefused (weighs len more old) old old refusal
 weighed-case old about journal core bytes room len more HistoryFull told was light why = (
@@ -122,7 +129,8 @@ weighed-case old about journal core bytes room len more NoMemory told was light 
 )
 
 pub weighed_fits : (old : Held Settings Entry) (about : Settings) (journal : List Entry) (core : TracedCore)
-    (bytes sum room len more : ℕ) → IsReplay about journal core bytes room → held about journal ≡ old → sum ≡ bytes + len
+    (bytes sum room len more : ℕ) → IsReplay about journal core bytes room → held about journal ≡ old
+    → sum ≡ bytes + len
     → sum ≤ most_bytes → length journal + kept_in core.machine + more ≤ most_entries → weighs len more old ≡ true
 weighed_fits old about journal core bytes sum room len more told was counted light fits =
     both (has_bytes len old) (has_places more old)
@@ -131,30 +139,34 @@ weighed_fits old about journal core bytes sum room len more told was counted lig
     (subst (λ (o : Held Settings Entry). has_places more o ≡ true) was
     (places_fit about journal core bytes room told more fits))
 
-pub weighed_refused : (old : Held Settings Entry) (about : Settings) (journal items : List Entry) (core : TracedCore)
-    (bytes sum room len more : ℕ) (refusal : Refusal) → IsReplay about journal core bytes room → held about journal ≡ old
-    → items ≡ journal → sum ≡ bytes + len → sum ≤ most_bytes
-    → IsNoRoom (length journal + kept_in core.machine + more) refusal
-    → IsRefused (weighs len more old) old (held about items) refusal
-weighed_refused old about journal items core bytes sum room len more refusal told was same counted light why =
-    let now : held about items ≡ old = ap (held about) same ∙ was in
-    subst (λ (n : Held Settings Entry). IsRefused (weighs len more old) old n refusal) (sym now)
-    (weighed-case old about journal core bytes room len more refusal told was
-    (subst (λ (o : Held Settings Entry). has_bytes len o ≡ true) was
-    (bytes_fit about journal core bytes room told len sum counted light)) why)
+module _ (old : Held Settings Entry) (about : Settings) where
+  pub weighed_refused : (journal items : List Entry) (core : TracedCore)
+      (bytes sum room len more : ℕ) (refusal : Refusal) → IsReplay about journal core bytes room
+      → held about journal ≡ old
+      → items ≡ journal → sum ≡ bytes + len → sum ≤ most_bytes
+      → IsNoRoom (length journal + kept_in core.machine + more) refusal
+      → IsRefused (weighs len more old) old (held about items) refusal
+  weighed_refused journal items core bytes sum room len more refusal told was same counted light why =
+      let now : held about items ≡ old = ap (held about) same ∙ was in
+      subst (λ (n : Held Settings Entry). IsRefused (weighs len more old) old n refusal) (sym now)
+      (weighed-case old about journal core bytes room len more refusal told was
+      (subst (λ (o : Held Settings Entry). has_bytes len o ≡ true) was
+      (bytes_fit about journal core bytes room told len sum counted light)) why)
 
 -- the entry of such a call
-pub weighed_added : (old : Held Settings Entry) (about now : Settings) (journal items : List Entry) (core : TracedCore)
-    (bytes sum room len more : ℕ) (e : Entry) → IsReplay about journal core bytes room → held about journal ≡ old → now ≡ about
-    → sum ≡ bytes + len → sum ≤ most_bytes → length journal + kept_in core.machine + more ≤ most_entries
-    → items ≡ journal ++ e ∷ [] → IsAdded (weighs len more old) old e (held now items)
-weighed_added old about now journal items core bytes sum room len more e told was same counted light fits is =
-    let fitted : weighs len more old ≡ true =
-    weighed_fits old about journal core bytes sum room len more told was counted light fits in
-    record {
-      fitted = fitted;
-      added = ap (λ (s : Settings). held s items) same ∙ ap (held about) is ∙ ap (with_entry e) was;
-    }
+module _ (old : Held Settings Entry) (about now : Settings) where
+  pub weighed_added : (journal items : List Entry) (core : TracedCore)
+      (bytes sum room len more : ℕ) (e : Entry) → IsReplay about journal core bytes room → held about journal ≡ old
+      → now ≡ about
+      → sum ≡ bytes + len → sum ≤ most_bytes → length journal + kept_in core.machine + more ≤ most_entries
+      → items ≡ journal ++ e ∷ [] → IsAdded (weighs len more old) old e (held now items)
+  weighed_added journal items core bytes sum room len more e told was same counted light fits is =
+      let fitted : weighs len more old ≡ true =
+      weighed_fits old about journal core bytes sum room len more told was counted light fits in
+      record {
+        fitted = fitted;
+        added = ap (λ (s : Settings). held s items) same ∙ ap (held about) is ∙ ap (with_entry e) was;
+      }
 
 -- what a send asks for, by whether a close came before it
 pub send_weighs : (old : Held Settings Entry) (request : Option (List ℕ)) (closed : Bool) → was_closed old ≡ closed
@@ -162,7 +174,8 @@ pub send_weighs : (old : Held Settings Entry) (request : Option (List ℕ)) (clo
 send_weighs old request closed is =
     ap (λ (b : Bool). weighs (request_len request) (if b then 1 else 2) old) is
 
-pub closed_before : (old : Held Settings Entry) (about : Settings) (journal : List Entry) (core : TracedCore) (bytes room : ℕ)
+pub closed_before : (old : Held Settings Entry) (about : Settings) (journal : List Entry) (core : TracedCore)
+    (bytes room : ℕ)
     → IsReplay about journal core bytes room → held about journal ≡ old → was_closed old ≡ core.machine.is_shutdown
 closed_before old about journal core bytes room told was =
     subst (λ (o : Held Settings Entry). was_closed o ≡ core.machine.is_shutdown) was

@@ -12,13 +12,16 @@ pub invariant_of-self-2 : goal.invariant_of-self-2
 invariant_of-self-2 c =
     (cancel_replay c.args.id.0 c.self.inside.core c.cancel.new.self c.self.inside.entries.items c.push.new.self.items
     c.self.inside.bytes c.self.inside.entries.room c.make_room.new.entries.room c.push.new.self.room
-    c.self.invariant c.cancel.ensures.cancelled c.cancel.ensures.kept c.cancel.ensures.brought c.in_ok-make_room.ensures.ok c.in_ok-make_room.ensures.room c.push.ensures.room
+    c.self.invariant c.cancel.ensures.cancelled c.cancel.ensures.kept c.cancel.ensures.brought
+    c.in_ok-make_room.ensures.ok c.in_ok-make_room.ensures.room c.push.ensures.room
     (c.push.ensures.items ∙ ap (λ (xs : List Entry). xs ++ (Cancel c.args.id.0) ∷ []) c.make_room.ensures.items))
 
 pub returns-clause-journal : goal.returns-clause-journal
 returns-clause-journal c =
-    is_journal c.cancel.new.self.machine.settings c.push.new.self.items c.cancel.new.self c.self.inside.bytes c.push.new.self.room
+    is_journal c.cancel.new.self.machine.settings c.push.new.self.items c.cancel.new.self c.self.inside.bytes
+    c.push.new.self.room
     (cancel_replay c.args.id.0 c.self.inside.core c.cancel.new.self c.self.inside.entries.items c.push.new.self.items
     c.self.inside.bytes c.self.inside.entries.room c.make_room.new.entries.room c.push.new.self.room
-    c.self.invariant c.cancel.ensures.cancelled c.cancel.ensures.kept c.cancel.ensures.brought c.in_ok-make_room.ensures.ok c.in_ok-make_room.ensures.room c.push.ensures.room
+    c.self.invariant c.cancel.ensures.cancelled c.cancel.ensures.kept c.cancel.ensures.brought
+    c.in_ok-make_room.ensures.ok c.in_ok-make_room.ensures.room c.push.ensures.room
     (c.push.ensures.items ∙ ap (λ (xs : List Entry). xs ++ (Cancel c.args.id.0) ∷ []) c.make_room.ensures.items))

@@ -10,11 +10,14 @@ use Rattle.dns_journal.proofs.journaled_core.JournaledCore.close.Goals as goal
 
 pub invariant_of-self-2 : goal.invariant_of-self-2
 invariant_of-self-2 c =
-    (close_replay c.args.fault c.len.result c.self.inside.core c.close.new.self c.self.inside.entries.items c.push.new.self.items
+    (close_replay c.args.fault c.len.result c.self.inside.core c.close.new.self c.self.inside.entries.items
+    c.push.new.self.items
     c.self.inside.bytes c.self.inside.entries.room c.make_close_room.new.entries.room c.push.new.self.room
-    c.self.invariant c.close.ensures.closed c.close.ensures.kept (c.len.ensures ∙ ap (λ (xs : List Entry). length xs) c.make_close_room.ensures.items)
+    c.self.invariant c.close.ensures.closed c.close.ensures.kept
+    (c.len.ensures ∙ ap (λ (xs : List Entry). length xs) c.make_close_room.ensures.items)
     c.close.ensures.brought
-    (let fits = c.in_ok-make_close_room.ensures.ok in omega arith) c.in_ok-make_close_room.ensures.room c.push.ensures.room
+    (let fits = c.in_ok-make_close_room.ensures.ok in omega arith) c.in_ok-make_close_room.ensures.room
+    c.push.ensures.room
     (c.push.ensures.items ∙ ap (λ (xs : List Entry). xs ++ Close c.args.fault ∷ []) c.make_close_room.ensures.items))
 
 pub returns-clause-ok : goal.returns-clause-ok
@@ -27,10 +30,14 @@ returns-clause-ok c =
 
 pub returns-clause-journal : goal.returns-clause-journal
 returns-clause-journal c =
-    is_journal c.close.new.self.machine.settings c.push.new.self.items c.close.new.self c.self.inside.bytes c.push.new.self.room
-    (close_replay c.args.fault c.len.result c.self.inside.core c.close.new.self c.self.inside.entries.items c.push.new.self.items
+    is_journal c.close.new.self.machine.settings c.push.new.self.items c.close.new.self c.self.inside.bytes
+    c.push.new.self.room
+    (close_replay c.args.fault c.len.result c.self.inside.core c.close.new.self c.self.inside.entries.items
+    c.push.new.self.items
     c.self.inside.bytes c.self.inside.entries.room c.make_close_room.new.entries.room c.push.new.self.room
-    c.self.invariant c.close.ensures.closed c.close.ensures.kept (c.len.ensures ∙ ap (λ (xs : List Entry). length xs) c.make_close_room.ensures.items)
+    c.self.invariant c.close.ensures.closed c.close.ensures.kept
+    (c.len.ensures ∙ ap (λ (xs : List Entry). length xs) c.make_close_room.ensures.items)
     c.close.ensures.brought
-    (let fits = c.in_ok-make_close_room.ensures.ok in omega arith) c.in_ok-make_close_room.ensures.room c.push.ensures.room
+    (let fits = c.in_ok-make_close_room.ensures.ok in omega arith) c.in_ok-make_close_room.ensures.room
+    c.push.ensures.room
     (c.push.ensures.items ∙ ap (λ (xs : List Entry). xs ++ Close c.args.fault ∷ []) c.make_close_room.ensures.items))

@@ -8,7 +8,8 @@ pub invariant_of-result : goal.invariant_of-result
 invariant_of-result c =
     new_replay c.args.core c.in_ok-new.field-0.items c.in_ok-new.field-0.room c.requires.requests c.requires.outbound
     c.requires.open
-    (sym c.accepted.ensures.brought ∙ c.accepted.ensures.requests ∙ ap (λ (rs : List Request). length rs) c.requires.requests)
+    (sym c.accepted.ensures.brought ∙ c.accepted.ensures.requests
+    ∙ ap (λ (rs : List Request). length rs) c.requires.requests)
     c.in_ok-new.ensures.items (let room = c.in_ok-new.ensures.room in omega arith)
 
 pub returns-clause-journal : goal.returns-clause-journal
@@ -16,5 +17,6 @@ returns-clause-journal c =
     is_journal c.args.core.machine.settings c.in_ok-new.field-0.items c.args.core 0 c.in_ok-new.field-0.room
     (new_replay c.args.core c.in_ok-new.field-0.items c.in_ok-new.field-0.room c.requires.requests c.requires.outbound
     c.requires.open
-    (sym c.accepted.ensures.brought ∙ c.accepted.ensures.requests ∙ ap (λ (rs : List Request). length rs) c.requires.requests)
+    (sym c.accepted.ensures.brought ∙ c.accepted.ensures.requests
+    ∙ ap (λ (rs : List Request). length rs) c.requires.requests)
     c.in_ok-new.ensures.items (let room = c.in_ok-new.ensures.room in omega arith))

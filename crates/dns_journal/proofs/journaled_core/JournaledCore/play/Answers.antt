@@ -22,12 +22,14 @@ invariant_of-self-2 g c =
     (c.push.ensures.items
     ∙ ap (λ (xs : List Entry). xs ++ Send c.in_ok-kept.kept c.args.now_ms (drawn_of c.in_ok-sent.sent.drawn)
     (reply_of c.in_ok-sent.sent.reply) ∷ []) c.make_room.ensures.items
-    ∙ ap (λ (r : Option (List ℕ)). c.self.inside.entries.items ++ Send r c.args.now_ms (drawn_of c.in_ok-sent.sent.drawn)
+    ∙ ap (λ (r : Option (List ℕ)). c.self.inside.entries.items ++ Send r c.args.now_ms
+    (drawn_of c.in_ok-sent.sent.drawn)
     (reply_of c.in_ok-sent.sent.reply) ∷ []) c.in_ok-kept.ensures)
 
 pub returns-clause-journal : goal.returns-clause-journal
 returns-clause-journal g c =
-    is_journal c.play_send.new.core.machine.settings c.push.new.self.items c.play_send.new.core c.in_ok-bytes.bytes c.push.new.self.room
+    is_journal c.play_send.new.core.machine.settings c.push.new.self.items c.play_send.new.core c.in_ok-bytes.bytes
+    c.push.new.self.room
     (send_replay c.args.request c.args.now_ms (drawn_of c.in_ok-sent.sent.drawn) (reply_of c.in_ok-sent.sent.reply)
     c.self.inside.core c.play_send.new.core c.self.inside.entries.items c.push.new.self.items
     c.self.inside.bytes c.in_ok-bytes.bytes c.self.inside.entries.room c.make_room.new.entries.room c.push.new.self.room
@@ -40,5 +42,6 @@ returns-clause-journal g c =
     (c.push.ensures.items
     ∙ ap (λ (xs : List Entry). xs ++ Send c.in_ok-kept.kept c.args.now_ms (drawn_of c.in_ok-sent.sent.drawn)
     (reply_of c.in_ok-sent.sent.reply) ∷ []) c.make_room.ensures.items
-    ∙ ap (λ (r : Option (List ℕ)). c.self.inside.entries.items ++ Send r c.args.now_ms (drawn_of c.in_ok-sent.sent.drawn)
+    ∙ ap (λ (r : Option (List ℕ)). c.self.inside.entries.items ++ Send r c.args.now_ms
+    (drawn_of c.in_ok-sent.sent.drawn)
     (reply_of c.in_ok-sent.sent.reply) ∷ []) c.in_ok-kept.ensures))

@@ -16,7 +16,8 @@ invariant_of-self-2 c =
 
 pub returns-clause-journal : goal.returns-clause-journal
 returns-clause-journal c =
-    is_journal c.pop_outbound.new.self.machine.settings c.push.new.self.items c.pop_outbound.new.self c.self.inside.bytes c.push.new.self.room
+    is_journal c.pop_outbound.new.self.machine.settings c.push.new.self.items c.pop_outbound.new.self
+    c.self.inside.bytes c.push.new.self.room
     (pop_replay c.in_ok-message.message c.self.inside.core c.pop_outbound.new.self c.self.inside.entries.items
     c.push.new.self.items c.self.inside.bytes c.self.inside.entries.room c.push.new.self.room c.self.invariant
     c.in_ok-message.ensures.popped c.pop_outbound.ensures.kept c.pop_outbound.ensures.brought c.push.ensures.room

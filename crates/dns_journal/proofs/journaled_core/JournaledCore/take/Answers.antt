@@ -19,27 +19,32 @@ invariant_of-self-2 c =
     (taken_of c.take-taken.result.0) c.take-taken.result.1 c.found.result
     c.self.invariant c.take-taken.ensures.taken c.take-taken.ensures.event c.found.ensures c.take-taken.ensures.kept
     c.take-taken.ensures.brought c.in_ok-make_room.ensures.ok c.in_ok-make_room.ensures.room c.push.ensures.room
-    (c.push.ensures.items ∙ ap (λ (xs : List Entry). xs ++ Take c.args.id.0 c.found.result ∷ []) c.make_room.ensures.items))
+    (c.push.ensures.items ∙ ap (λ (xs : List Entry). xs ++ Take c.args.id.0 c.found.result ∷ [])
+    c.make_room.ensures.items))
 
 pub returns-clause-journal : goal.returns-clause-journal
 returns-clause-journal c =
-    is_journal c.take-taken.new.self.machine.settings c.push.new.self.items c.take-taken.new.self c.self.inside.bytes c.push.new.self.room
+    is_journal c.take-taken.new.self.machine.settings c.push.new.self.items c.take-taken.new.self c.self.inside.bytes
+    c.push.new.self.room
     (take_replay c.args.id.0 c.self.inside.core c.take-taken.new.self c.self.inside.entries.items c.push.new.self.items
     c.self.inside.bytes c.self.inside.entries.room c.make_room.new.entries.room c.push.new.self.room
     (taken_of c.take-taken.result.0) c.take-taken.result.1 c.found.result
     c.self.invariant c.take-taken.ensures.taken c.take-taken.ensures.event c.found.ensures c.take-taken.ensures.kept
     c.take-taken.ensures.brought c.in_ok-make_room.ensures.ok c.in_ok-make_room.ensures.room c.push.ensures.room
-    (c.push.ensures.items ∙ ap (λ (xs : List Entry). xs ++ Take c.args.id.0 c.found.result ∷ []) c.make_room.ensures.items))
+    (c.push.ensures.items ∙ ap (λ (xs : List Entry). xs ++ Take c.args.id.0 c.found.result ∷ [])
+    c.make_room.ensures.items))
 
 pub returns-clause-ok : goal.returns-clause-ok
 returns-clause-ok c =
     record {
       found = c.found.result;
       added = call_added c.args.self.now c.self.inside.core.machine.settings c.take-taken.new.self.machine.settings
-          c.self.inside.entries.items c.push.new.self.items c.self.inside.core c.self.inside.bytes c.self.inside.entries.room
+          c.self.inside.entries.items c.push.new.self.items c.self.inside.core c.self.inside.bytes
+          c.self.inside.entries.room
           (Take c.args.id.0 c.found.result) c.self.invariant c.self.view_is
           (ap (λ (m : CoreValue). m.settings) c.take-taken.ensures.kept) c.in_ok-make_room.ensures.ok
-          (c.push.ensures.items ∙ ap (λ (xs : List Entry). xs ++ Take c.args.id.0 c.found.result ∷ []) c.make_room.ensures.items);
+          (c.push.ensures.items ∙ ap (λ (xs : List Entry). xs ++ Take c.args.id.0 c.found.result ∷ [])
+          c.make_room.ensures.items);
       gives = take_found c.args.id.0 c.self.inside.core c.self.inside.entries.items c.self.inside.bytes
           c.self.inside.entries.room (taken_of c.take-taken.result.0) c.take-taken.result.1 c.self.invariant
           c.take-taken.ensures.taken.answered c.take-taken.ensures.event
