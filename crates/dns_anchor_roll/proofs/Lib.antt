@@ -1,0 +1,11 @@
+pub mod Lists
+pub mod Keys
+pub mod Steps
+pub mod Trusting
+pub mod Alike
+pub mod Examined
+pub mod Stretches
+pub mod Records
+pub mod Tables
+pub mod Rolls
+pub mod Anchors

@@ -1,0 +1,9 @@
+pub mod FollowedKeys
+pub mod Sightings
+pub mod Facts
+pub mod Trust
+pub mod States
+pub mod Tables
+pub mod Findings
+pub mod After
+pub mod Laws
