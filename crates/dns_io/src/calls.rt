@@ -20,6 +20,7 @@ impl Model for Calls {
 }
 
 impl Calls {
+    // No call was made yet. Those of the given numbers, from 0, will fail.
     pub(crate) fn new(fails: Vec<u64>) -> Calls
         ensures { result ≡ no_calls fails.items }
     {
