@@ -23,11 +23,10 @@ use dns_evidence::Verifier;
 use dns_rdata::{Dnskey, Rrsig};
 use dns_record::{DNSClass, Name, NoMemory, Octets, Record, RecordSet, RecordType};
 use dns_trust::{
-    Judge, SetSignature, TrustAnchors, accepts_signature, first_signatures, is_good_by,
+    Judge, SetSignature, TrustAnchors, accepts_signature, each_once, first_signatures, is_good_by,
     is_usable_but_for_revoke, is_valid, signed_data_once,
 };
 use std::alloc::Global;
-use std::collections::BTreeSet;
 
 /// For what the verifier is asked.
 #[derive(Clone, Copy, Debug, Drop)]
@@ -158,22 +157,6 @@ fn asked_once<'a>(
         }
     }
     each_once(alloc, &all)
-}
-
-// Of records with one rdata the first alone.
-fn each_once<'a>(alloc: Global, records: &[&'a Record]) -> Result<Vec<&'a Record>, NoMemory>
-    ensures { IfOk result (λ v. AreOnce (shown v.items) (shown records.now)) }
-{
-    let mut seen = BTreeSet::new(alloc);
-    let mut once = Vec::new(alloc);
-    for next in records {
-        let next = *next;
-        let rdata = next.rdata.as_slice();
-        if seen.insert(rdata)? {
-            once.push(next)?;
-        }
-    }
-    Ok(once)
 }
 
 // A signature is good by one of some keys.

@@ -35,7 +35,7 @@ pub use searching::{
     set_start,
 };
 pub use set_signature::SetSignature;
-pub use signers::{SignedBy, first_signatures};
+pub use signers::{SignedBy, each_once, first_signatures};
 pub use unsigned::{shows_unsigned_cut, unsigned_set, zone_mark};
 pub use usable::{KeyFault, is_usable, is_usable_but_for_revoke, key_fault};
 pub use validity::RrsigValidity;

@@ -40,8 +40,10 @@ pub fn first_signatures(set: &RecordSet) -> &[Record]
     &signatures[..signatures.len().min(MOST_SIGNATURES)]
 }
 
-/// Of keys with one rdata the first alone, since a signature that isn't good by it is good by none of them.
-pub(crate) fn each_once<'a>(alloc: Global, keys: &[&'a Record]) -> Result<Vec<&'a Record>, NoMemory>
+/// Of records with one rdata the first alone. A signature that isn't good by one key is good by none with that rdata.
+///
+/// The only error is that memory ran out.
+pub fn each_once<'a>(alloc: Global, keys: &[&'a Record]) -> Result<Vec<&'a Record>, NoMemory>
     ensures { IfOk result (λ v. AreOnce (shown v.items) (shown keys.now)) }
 {
     let mut seen = BTreeSet::new(alloc);
