@@ -8,7 +8,7 @@ use dns_record::NoMemory;
 use std::alloc::Global;
 
 /// What a line of one form says.
-pub(crate) trait LineForm: Sized + Drop {
+pub trait LineForm: Sized + Drop {
     /// What a line says, where it has the form.
     ghost form: { List ℕ → Option Self };
 
@@ -19,7 +19,7 @@ pub(crate) trait LineForm: Sized + Drop {
 }
 
 /// As many lines of a form as there are, and what follows.
-pub(crate) fn many<'a, F: LineForm>(
+pub fn many<'a, F: LineForm>(
     alloc: Global,
     lines: Lines<'a>,
 ) -> Result<(Vec<F>, Lines<'a>), NoMemory>

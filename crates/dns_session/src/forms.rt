@@ -58,7 +58,7 @@ fn bytes_of(alloc: Global, rest: Option<&[u8]>) -> Result<Option<Vec<u8>>, NoMem
 }
 
 /// The numbers of an `algorithms` line.
-pub(crate) fn algorithms_of(alloc: Global, line: &[u8]) -> Result<Option<Vec<u8>>, NoMemory>
+pub fn algorithms_of(alloc: Global, line: &[u8]) -> Result<Option<Vec<u8>>, NoMemory>
     ensures { IfOk result (λ all. option_map (λ v. v.items) all ≡ algorithms_line line.now) }
 {
     match after(line, b"algorithms") {

@@ -14,6 +14,8 @@ mod session;
 mod stop;
 mod words;
 
+pub use form::{LineForm, many};
+pub use forms::algorithms_of;
 pub use lines::Lines;
 pub use named_forms::question_of;
 pub use reading::{read_front, read_session};
