@@ -14,7 +14,7 @@ use Rattle.dns_model.specs.Views.{DsValue, dnskey_in, ds_in}
 use Rattle.dns_model.specs.Records.{RrSet, Question}
 use Rattle.dns_model.specs.Sections.{leaders, sets_of}
 use Rattle.dns_model.specs.Signing.{key_tag_of, ds_digest}
-use Rattle.dns_model.specs.Keys.{matches}
+use Rattle.dns_model.specs.Keys.{ds_covers_key}
 use Rattle.dns_model.specs.SoundAnswers.{Told, PlacedSet, in_section}
 use Rattle.dns_model.proofs.ChainLemmas.{bytes_refl}
 use Rattle.dns_model.proofs.SetLemmas.{name_refl, number_refl}
@@ -167,7 +167,7 @@ ds_supported n k = rw (ds_read k) refl
 ds_counts : (k : ℕ) → is_ds_for (zone_name k) (key_record k) (ds_record k) ≡ true
 ds_counts k = rw (name_refl (zone_name k), key_read k, ds_read k, number_refl (key_tag_of (key_rdata k))) refl
 
-ds_matches : (n k : ℕ) → matches (judge_of_zones n).answers (zone_name k) (key_rdata k) (ds_rdata k) ≡ true
+ds_matches : (n k : ℕ) → ds_covers_key (judge_of_zones n).answers (zone_name k) (key_rdata k) (ds_rdata k) ≡ true
 unfolding ds_digest
 ds_matches n k =
     rw (

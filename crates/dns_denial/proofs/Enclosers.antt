@@ -10,7 +10,7 @@ use Rattle.dns_model.specs.Owned.{OwnedNsec}
 use Rattle.dns_model.proofs.OrderLemmas.{name_total}
 use Rattle.dns_model.proofs.NamesInOrder.{above_is_first, order_if_alike}
 use Rattle.dns_model.proofs.WildcardLemmas.{star_of_common}
-use Rattle.dns_rules.specs.Covering.{leads_back, spans, is_nearest, counts_for, is_silent_on, unless_silent, covering}
+use Rattle.dns_rules.specs.Covering.{leads_back, nsec_spans, is_nearest, counts_for, is_silent_on, unless_silent, nsec_covering}
 use Rattle.dns_rules.specs.NsecVerdict.{closest_encloser}
 
 -- ---- what a record that spans a name says of it
@@ -20,14 +20,14 @@ not_less Less h = cc
 not_less Equal h = cc
 not_less Greater h = refl
 
-owner_is_not_below : (name : Labels) (nsec : OwnedNsec) → spans name nsec ≡ true → at_or_above name nsec.owner ≡ false
+owner_is_not_below : (name : Labels) (nsec : OwnedNsec) → nsec_spans name nsec ≡ true → at_or_above name nsec.owner ≡ false
 owner_is_not_below name nsec h =
     let parts = and_parts (before nsec.owner name)
     (before name nsec.fields.next || (leads_back nsec && at_or_above nsec.fields.next name)) h in
     false_from_ne_true (at_or_above name nsec.owner)
     (λ above. both_ways (before nsec.owner name) (above_is_first name nsec.owner above) parts.0)
 
-next_is_not : (name : Labels) (nsec : OwnedNsec) → spans name nsec ≡ true → name_eq name nsec.fields.next ≡ false
+next_is_not : (name : Labels) (nsec : OwnedNsec) → nsec_spans name nsec ≡ true → name_eq name nsec.fields.next ≡ false
 next_is_not name nsec h =
     let parts = and_parts (before nsec.owner name)
     (before name nsec.fields.next || (leads_back nsec && at_or_above nsec.fields.next name)) h in
@@ -42,7 +42,7 @@ next_is_not name nsec h =
     (or_cases (before name nsec.fields.next) (leads_back nsec && at_or_above nsec.fields.next name) parts.1))
 
 -- the wildcard below the closest encloser is a name
-pub wildcard_is_name : (name : Labels) (nsec : OwnedNsec) → is_name name ≡ true → spans name nsec ≡ true
+pub wildcard_is_name : (name : Labels) (nsec : OwnedNsec) → is_name name ≡ true → nsec_spans name nsec ≡ true
     → strictly_above name nsec.fields.next ≡ false
     → is_name (star (closest_encloser name nsec)) ≡ true
 unfolding closest_encloser
@@ -77,10 +77,10 @@ loud name (Some one) nsec is = loud_by (is_silent_on name one) one nsec is
     loud_by false one nsec is = is
 
 pub covering_spans : (name : Labels) (nsecs : List OwnedNsec) (nsec : OwnedNsec)
-    → covering name nsecs ≡ Some nsec → spans name nsec ≡ true
-unfolding covering
+    → nsec_covering name nsecs ≡ Some nsec → nsec_spans name nsec ≡ true
+unfolding nsec_covering
 covering_spans name nsecs nsec is =
     let passed = find_passes (counts_for name nsecs) nsecs nsec
     (loud name (find (counts_for name nsecs) nsecs) nsec is) in
-    let parts = and_parts (spans name nsec) (is_nearest name nsecs nsec) passed in
+    let parts = and_parts (nsec_spans name nsec) (is_nearest name nsecs nsec) passed in
     parts.0

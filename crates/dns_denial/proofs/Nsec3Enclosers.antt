@@ -6,7 +6,7 @@ use Rattle.dns_model.specs.Names.{Label, Labels, at_or_above, is_name, is_wildca
 use Rattle.dns_model.specs.Owned.{OwnedNsec3}
 use Rattle.dns_model.proofs.LabelSteps.{parent-drop, is_name-above}
 use Rattle.dns_model.proofs.WildcardLemmas.{star_fits}
-use Rattle.dns_rules.specs.Nsec3Covering.{matches}
+use Rattle.dns_rules.specs.Nsec3Covering.{nsec3_matches}
 use Rattle.dns_rules.specs.Nsec3Verdict.{Parameters, hashed, nearest_match}
 use Rattle.dns_denial.specs.Enclosers.{IsEncloserOf}
 
@@ -25,14 +25,14 @@ match_outside by zone nsec3s label above h = rw h refl
 
 pub match_here : (by : Parameters) (zone : Labels) (nsec3s : List OwnedNsec3) (label : Label) (above : Labels)
     (nsec3 : OwnedNsec3) → at_or_above zone above ≡ true
-    → find (matches (hashed by above)) nsec3s ≡ Some nsec3
+    → find (nsec3_matches (hashed by above)) nsec3s ≡ Some nsec3
     → nearest_match by zone nsec3s (label ∷ above) ≡ Some (above, nsec3)
 unfolding nearest_match
 match_here by zone nsec3s label above nsec3 h found = rw (h, found) refl
 
 pub match_further : (by : Parameters) (zone : Labels) (nsec3s : List OwnedNsec3) (label : Label) (above : Labels)
     → at_or_above zone above ≡ true
-    → find (matches (hashed by above)) nsec3s ≡ None
+    → find (nsec3_matches (hashed by above)) nsec3s ≡ None
     → nearest_match by zone nsec3s (label ∷ above) ≡ nearest_match by zone nsec3s above
 unfolding nearest_match
 match_further by zone nsec3s label above h none = rw (h, none) refl
@@ -65,7 +65,7 @@ last_above name label above is =
 pub left_more : (by : Parameters) (zone : Labels) (nsec3s : List OwnedNsec3) (name left : Labels) (label : Label)
     (above : Labels) (hash higher : List ℕ)
     → IsLeft by zone nsec3s name left hash → left ≡ label ∷ above → at_or_above zone above ≡ true
-    → find (matches (hashed by above)) nsec3s ≡ None
+    → find (nsec3_matches (hashed by above)) nsec3s ≡ None
     → higher ≡ hashed by above → IsLeft by zone nsec3s name above higher
 left_more by zone nsec3s name left label above hash higher is split h none e =
     let last : label ∷ above ≡ last_labels (length (label ∷ above)) name = sym split ∙ is.last

@@ -5,7 +5,7 @@ ghost use Rattle.std.specs.Option.{option_copied};
 ghost use Rattle.std.specs.Ordering.{is_le};
 ghost use Rattle.dns_model.specs.Names.{name_cmp, before};
 ghost use Rattle.dns_rules.specs.DenialInZones.{IsOwnerless};
-ghost use Rattle.dns_rules.specs.Covering.{spans as spans_in, counts_for, is_silent_on as is_silent_in, covering as covering_in, covering_number};
+ghost use Rattle.dns_rules.specs.Covering.{nsec_spans as spans_in, counts_for, is_silent_on as is_silent_in, nsec_covering as covering_in, covering_number};
 ghost use Rattle.dns_denial.specs.Best.{owned_before, is_better, next_best};
 
 use crate::listed_types::ends_zone;
@@ -25,7 +25,7 @@ pub fn nsec_covering(name: &Name, nsecs: &[NsecRecord]) -> Option<u32>
 }
 
 // The number of that record.
-#[tactic(auto, unfolding(dns_rules::specs::Covering::covering, dns_rules::specs::Covering::covering_number))]
+#[tactic(auto, unfolding(dns_rules::specs::Covering::nsec_covering, dns_rules::specs::Covering::covering_number))]
 fn covering_place(name: &Name, nsecs: &[NsecRecord]) -> Option<u32>
     requires { length nsecs.now < 2 ^ 32 }
     ensures { result ≡ covering_number name.now nsecs.now }
@@ -39,7 +39,7 @@ fn covering_place(name: &Name, nsecs: &[NsecRecord]) -> Option<u32>
 }
 
 // The record that covers a name.
-#[tactic(auto, unfolding(dns_rules::specs::Covering::covering))]
+#[tactic(auto, unfolding(dns_rules::specs::Covering::nsec_covering))]
 pub(crate) fn covering_nsec<'a>(
     name: &NameRef<'_>,
     nsecs: &'a [NsecRecord],

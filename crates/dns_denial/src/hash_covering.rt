@@ -2,7 +2,7 @@
 ghost use Rattle.std.specs.Prelude.{◌≡◌, ◌<◌, ◌^◌, ℕ, Some, true, length, option_map, position};
 ghost use Rattle.std.specs.List.{find};
 ghost use Rattle.std.specs.Option.{option_copied};
-ghost use Rattle.dns_rules.specs.Nsec3Covering.{counts_for, covering as covering_in, covering_number, is_farther as is_farther_in, is_considered as is_considered_in, lies_between as lies_between_in, owner_hash as owner_hash_in, spans as spans_in};
+ghost use Rattle.dns_rules.specs.Nsec3Covering.{counts_for, nsec3_covering as covering_in, covering_number, is_farther as is_farther_in, is_considered as is_considered_in, lies_between as lies_between_in, owner_hash as owner_hash_in, nsec3_spans as spans_in};
 ghost use Rattle.dns_denial.specs.Best.{is_better, next_best, passes_if_there};
 
 use crate::hash_text::{HashText, lies_between};
@@ -24,7 +24,7 @@ pub fn nsec3_covering(hash: &[u8; 20], nsec3s: &[Nsec3Record]) -> Option<u32>
 }
 
 /// The record that covers a hash.
-#[tactic(auto, unfolding(dns_rules::specs::Nsec3Covering::covering))]
+#[tactic(auto, unfolding(dns_rules::specs::Nsec3Covering::nsec3_covering))]
 pub(crate) fn covering_nsec3<'a>(
     hash: &HashText,
     nsec3s: &'a [Nsec3Record],

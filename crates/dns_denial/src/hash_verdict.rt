@@ -4,7 +4,7 @@ ghost use Rattle.std.specs.List.{find};
 ghost use Rattle.dns_model.specs.Names.{last_labels};
 ghost use Rattle.dns_model.specs.declared.answered.Answered.TheVariants.{No, Expanded};
 ghost use Rattle.dns_model.specs.declared.proof.Proof.TheVariants.{Secure};
-ghost use Rattle.dns_rules.specs.Nsec3Covering.{matches as matches_in};
+ghost use Rattle.dns_rules.specs.Nsec3Covering.{nsec3_matches as matches_in};
 ghost use Rattle.dns_rules.specs.NsecVerdict.{is_plain};
 ghost use Rattle.dns_rules.specs.Nsec3Verdict.{covering_name, hashed, name_error as name_error_in, no_closer_name as no_closer_name_in, no_data as no_data_in, next_closer, no_data_below as no_data_below_in, nsec3_verdict, parameters_of as parameters_of_in, provable_encloser as provable_encloser_in, unmatched_verdict as unmatched_verdict_in, verdict_at_name as verdict_at_name_in, verdict_by as verdict_by_in};
 ghost use Rattle.dns_hashed_denial.specs.HashedDenial.{IsDeniedByHashes, IsExpandedByHashes};

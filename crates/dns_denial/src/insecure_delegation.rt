@@ -1,7 +1,7 @@
 //! A delegation to a zone that isn't signed, shown by NSEC3 records (RFC 5155, 8.9).
 ghost use Rattle.std.specs.Prelude.{◌≡◌, true};
 ghost use Rattle.std.specs.List.{find};
-ghost use Rattle.dns_rules.specs.Nsec3Covering.{matches as matches_in};
+ghost use Rattle.dns_rules.specs.Nsec3Covering.{nsec3_matches as matches_in};
 ghost use Rattle.dns_rules.specs.Nsec3Verdict.{hashed, is_unsigned_at as is_unsigned_at_in, is_unsigned_by as is_unsigned_by_in, is_unsigned_in as is_unsigned_in_zone, may_be_unsigned as may_be_unsigned_in, parameters_of as parameters_of_in, provable_encloser as provable_encloser_in, shows_insecure_delegation};
 ghost use Rattle.dns_hashed_denial.specs.HashedDenial.{IsInsecureByHashes};
 

@@ -1,7 +1,7 @@
 //! What the fields of one NSEC3 record say: whether it counts, its hashes, its zone (RFC 5155, 3, 8.1 and 8.2).
 ghost use Rattle.std.specs.Prelude.{◌≡◌, Some, length};
 ghost use Rattle.dns_model.specs.Nsec3Hash.{base32hex_decode as decoded};
-ghost use Rattle.dns_rules.specs.Nsec3Covering.{first_label as first_label_of, is_opt_out as is_opt_out_in, is_considered as is_considered_in, matches as matches_in};
+ghost use Rattle.dns_rules.specs.Nsec3Covering.{first_label as first_label_of, is_opt_out as is_opt_out_in, is_considered as is_considered_in, nsec3_matches as matches_in};
 ghost use Rattle.dns_rules.specs.Nsec3Verdict.{is_of_zone as is_of_zone_in};
 
 use crate::hash_text::HashText;

@@ -3,7 +3,7 @@ ghost use Rattle.std.specs.Prelude.{◌≡◌, ◌+◌, ◌≤◌, ◌&&◌};
 ghost use Rattle.std.specs.List.{find, list_all, list_any};
 ghost use Rattle.std.specs.Option.{option_copied};
 ghost use Rattle.dns_rules.specs.ListedTypes.{wildcard_lacks as wildcard_lacks_in};
-ghost use Rattle.dns_rules.specs.Nsec3Covering.{covering as covering_in, matches as matches_in};
+ghost use Rattle.dns_rules.specs.Nsec3Covering.{nsec3_covering as covering_in, nsec3_matches as matches_in};
 ghost use Rattle.dns_rules.specs.Nsec3Verdict.{hashed, is_of_zone as is_of_zone_in, parameters_of as parameters_of_in};
 
 use crate::hash_covering::covering_nsec3;

@@ -2,7 +2,7 @@
 ghost use Rattle.std.specs.Prelude.{◌≡◌, ◌+◌, ◌≤◌, ◌&&◌, None};
 ghost use Rattle.std.specs.List.{find};
 ghost use Rattle.std.specs.Option.{option_copied};
-ghost use Rattle.dns_rules.specs.Covering.{covering as covering_in};
+ghost use Rattle.dns_rules.specs.Covering.{nsec_covering as covering_in};
 ghost use Rattle.dns_rules.specs.ListedTypes.{wildcard_lacks as wildcard_lacks_in};
 ghost use Rattle.dns_rules.specs.NsecVerdict.{is_owned_by as is_owned_by_in, wildcard_denies};
 ghost use Rattle.dns_denial.specs.NsecFinds.{owned, covered};

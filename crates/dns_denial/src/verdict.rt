@@ -5,7 +5,7 @@ ghost use Rattle.dns_model.specs.Names.{is_name, star};
 ghost use Rattle.dns_model.specs.declared.answered.Answered.TheVariants.{No, Expanded};
 ghost use Rattle.dns_model.specs.declared.proof.Proof.TheVariants.{Secure};
 ghost use Rattle.dns_rules.specs.DenialInZones.{IsDeniedIn, IsExpandedIn};
-ghost use Rattle.dns_rules.specs.Covering.{covering as covering_in};
+ghost use Rattle.dns_rules.specs.Covering.{nsec_covering as covering_in};
 ghost use Rattle.dns_rules.specs.NsecVerdict.{nsec_verdict, secure_if as secure_if_in, code_nx_domain, holds_query as holds_query_in, is_owned_by as is_owned_by_in, wildcard_denies as wildcard_denies_in, missing_name as missing_name_in, proved_by_covering as proved_by_covering_in, proved_at_name as proved_at_name_in, closest_encloser as closest_encloser_of};
 
 use crate::encloser::{closest_encloser, wildcard_below};

@@ -10,7 +10,7 @@ use Rattle.dns_model.specs.Nsec3Hash.{iterated_hash}
 use Rattle.dns_model.specs.Owned.{OwnedNsec3}
 use Rattle.dns_model.proofs.NameLemmas.{name_eq-Decides}
 use Rattle.dns_rules.specs.ListedTypes.{ends_zone}
-use Rattle.dns_rules.specs.Nsec3Covering.{matches, covering}
+use Rattle.dns_rules.specs.Nsec3Covering.{nsec3_matches, nsec3_covering}
 use Rattle.dns_rules.specs.Nsec3Verdict.{Parameters, parameters_of, hashed, or_further, nearest_match, unless_ended, provable_encloser, covering_name, is_of_zone, is_covered_opt_out, may_be_unsigned, is_unsigned_at, is_unsigned_by, is_unsigned_in, shows_insecure_delegation}
 
 -- ---- names whose lower-cased labels are the same
@@ -63,12 +63,12 @@ match_alike by zone nsec3s [] (m ∷ two) same = cc
 match_alike by zone nsec3s (l ∷ one) [] same = cc
 match_alike by zone nsec3s (l ∷ one) (m ∷ two) same =
     let rest : folded one ≡ folded two = cc in
-    let found = λ (name : Labels). find (matches (hashed by name)) nsec3s in
+    let found = λ (name : Labels). find (nsec3_matches (hashed by name)) nsec3s in
     let further = λ (name : Labels). nearest_match by zone nsec3s name in
     within_alike (at_or_above zone one) (or_further one (found one) (further one)) (or_further two (found one) (further two))
     (nearer_alike one two (found one) (further one) (further two) rest (match_alike by zone nsec3s one two rest))
     ∙ ap (λ b. folded_match (if not b then None else or_further two (found one) (further two))) (above_alike zone one two rest)
-    ∙ ap (λ h. folded_match (if not (at_or_above zone two) then None else or_further two (find (matches h) nsec3s) (further two)))
+    ∙ ap (λ h. folded_match (if not (at_or_above zone two) then None else or_further two (find (nsec3_matches h) nsec3s) (further two)))
     (hash_alike by one two rest)
 
 -- ---- an opt-out span over the next closer name
@@ -96,7 +96,7 @@ child_alike : (by : Parameters) (nsec3s : List OwnedNsec3) (one two : Labels) (f
 child_alike by nsec3s one two None same = refl
 child_alike by nsec3s one two (Some found) same =
     let n = length found.0 + 1 in
-    ap (λ h. if ends_zone found.1.fields.types then false else is_covered_opt_out (covering h nsec3s))
+    ap (λ h. if ends_zone found.1.fields.types then false else is_covered_opt_out (nsec3_covering h nsec3s))
     (hash_alike by (last_labels n one) (last_labels n two) (last_alike n one two same))
 
 hidden_alike : (by : Parameters) (zone : Labels) (nsec3s : List OwnedNsec3) (one two : Labels) → folded one ≡ folded two
@@ -119,8 +119,8 @@ by_alike : (zone : Labels) (nsec3s : List OwnedNsec3) (one two : Labels) (o : Op
     → is_unsigned_by zone nsec3s one o ≡ is_unsigned_by zone nsec3s two o
 by_alike zone nsec3s one two None same = refl
 by_alike zone nsec3s one two (Some by) same =
-    ap (λ h. is_unsigned_at by zone nsec3s one (find (matches h) nsec3s)) (hash_alike by one two same)
-    ∙ at_alike by zone nsec3s one two (find (matches (hashed by two)) nsec3s) same
+    ap (λ h. is_unsigned_at by zone nsec3s one (find (nsec3_matches h) nsec3s)) (hash_alike by one two same)
+    ∙ at_alike by zone nsec3s one two (find (nsec3_matches (hashed by two)) nsec3s) same
 
 in_alike : (zone : Labels) (nsec3s : List OwnedNsec3) (one two : Labels) → folded one ≡ folded two
     → is_unsigned_in zone nsec3s one ≡ is_unsigned_in zone nsec3s two

@@ -15,7 +15,7 @@ use Rattle.dns_model.specs.declared.answered.Answered.{Answered}
 use Rattle.dns_model.specs.declared.answered.Answered.TheVariants.{Expanded}
 use Rattle.dns_model.proofs.AboveLemmas.{Ends, above_itself, above_nested, above_one_more, above_is_shorter, below_alike}
 use Rattle.dns_model.proofs.CommonAncestors.{ends_above}
-use Rattle.dns_rules.specs.Nsec3Covering.{matches}
+use Rattle.dns_rules.specs.Nsec3Covering.{nsec3_matches}
 use Rattle.dns_rules.specs.Nsec3Verdict.{Parameters, hashed, covering_name, no_closer_name, verdict_at_name, nsec3_verdict}
 use Rattle.dns_rules.specs.Zones.{Zone}
 use Rattle.dns_hashed_denial.specs.HashedDenial.{IsMissingWithWildcard, HasNoneCloserByHashes, IsExpandedByHashes}
@@ -84,7 +84,7 @@ expansion_holds query apex code labels nsec3s soft hard h =
     let j = judged query apex code (Expanded labels) nsec3s soft hard h in
     λ plain zone shown.
     let same = apex_is nsec3s query.owner apex zone j.by shown j.parameters j.of_zone in
-    expanded_by j.by query apex code labels nsec3s zone (find (matches (hashed j.by query.owner)) nsec3s)
+    expanded_by j.by query apex code labels nsec3s zone (find (nsec3_matches (hashed j.by query.owner)) nsec3s)
     (hashed_by nsec3s query.owner zone j.by shown j.parameters) same
     (held_inside zone.apex query (holds_in zone apex query same j.holds)) j.secure
 

@@ -15,7 +15,7 @@ use Rattle.dns_model.specs.declared.answered.Answered.TheVariants.{No}
 use Rattle.dns_model.proofs.AboveLemmas.{above_itself, above_trans, above_one_more}
 use Rattle.dns_rules.specs.ListedTypes.{has_type, lacks_data, is_right_side, denies_at_owner, wildcard_lacks}
 use Rattle.dns_rules.specs.NsecVerdict.{holds_query, secure_if}
-use Rattle.dns_rules.specs.Nsec3Covering.{is_considered, is_opt_out, matches}
+use Rattle.dns_rules.specs.Nsec3Covering.{is_considered, is_opt_out, nsec3_matches}
 use Rattle.dns_rules.specs.Nsec3Verdict.{Parameters, parameters_of, hashed, provable_encloser, next_closer, covering_name, both_covered, name_error, wildcard_denies, no_data_below, no_data, verdict_at_name, nsec3_verdict, is_covered_opt_out, may_be_unsigned}
 use Rattle.dns_rules.specs.Zones.{Zone, has_set, exists_in, is_zone, has_data, from_wildcard, NoData, NxDomain}
 use Rattle.dns_rules.proofs.Members.{picked_known}
@@ -170,9 +170,9 @@ listed_wildcard : (nsec3s : List OwnedNsec3) (about wildcard : Labels) (zone : Z
     → is_concerned zone about wildcard ≡ true → wildcard_denies by rtype nsec3s wildcard ≡ true
     → from_wildcard zone wildcard rtype ≡ NoData
 listed_wildcard nsec3s about wildcard zone by rtype s concerned h =
-    let k = picked_known (λ r. matches (hashed by wildcard) r && wildcard_lacks rtype r.fields.types)
+    let k = picked_known (λ r. nsec3_matches (hashed by wildcard) r && wildcard_lacks rtype r.fields.types)
     (λ r. is_considered r ≡ true → IsTrueFor zone about by r) nsec3s s.each h in
-    let parts = and_parts (matches (hashed by wildcard) k.it) (wildcard_lacks rtype k.it.fields.types) k.passes in
+    let parts = and_parts (nsec3_matches (hashed by wildcard) k.it) (wildcard_lacks rtype k.it.fields.types) k.passes in
     let counts = (and_parts (is_considered k.it) _ parts.0).0 in
     let l = matched nsec3s about wildcard zone by k.it s concerned (k.known counts) parts.0 in
     let types = k.it.fields.types in
@@ -265,7 +265,7 @@ no_data_by : (by : Parameters) (query : Question) (apex : Labels) (code : ℕ) (
     (encloser : Labels) (o : Option OwnedNsec3)
     → IsHashedBy nsec3s query.owner zone by → holds_query zone.apex query ≡ true
     → IsProvedEncloser by zone nsec3s query.owner encloser
-    → parameters_of nsec3s ≡ Some by → find (matches (hashed by query.owner)) nsec3s ≡ None
+    → parameters_of nsec3s ≡ Some by → find (nsec3_matches (hashed by query.owner)) nsec3s ≡ None
     → provable_encloser by apex nsec3s query.owner ≡ Some encloser
     → code ≡ code_no_error → covering_name by nsec3s (next_closer encloser query.owner) ≡ o
     → no_data_below by query.rtype nsec3s encloser o ≡ true → HasNoneByHashes query apex code nsec3s zone
@@ -298,7 +298,7 @@ no_data_by by query apex code nsec3s zone encloser (Some nsec3) s holds p parame
 no_data_holds : (by : Parameters) (query : Question) (apex : Labels) (code : ℕ) (nsec3s : List OwnedNsec3)
     (zone : Zone) (o : Option Labels)
     → IsHashedBy nsec3s query.owner zone by → name_eq zone.apex apex ≡ true → holds_query zone.apex query ≡ true
-    → parameters_of nsec3s ≡ Some by → find (matches (hashed by query.owner)) nsec3s ≡ None → code ≡ code_no_error
+    → parameters_of nsec3s ≡ Some by → find (nsec3_matches (hashed by query.owner)) nsec3s ≡ None → code ≡ code_no_error
     → provable_encloser by apex nsec3s query.owner ≡ o → no_data by query nsec3s o ≡ true
     → HasNoneByHashes query apex code nsec3s zone
 no_data_holds by query apex code nsec3s zone None s same holds parameters none plain e h = absurd (true≢false (sym h))
@@ -312,7 +312,7 @@ no_data_holds by query apex code nsec3s zone (Some encloser) s same holds parame
 unmatched_holds : (by : Parameters) (query : Question) (apex : Labels) (code : ℕ) (nsec3s : List OwnedNsec3)
     (zone : Zone) (b : Bool)
     → IsHashedBy nsec3s query.owner zone by → name_eq zone.apex apex ≡ true → holds_query zone.apex query ≡ true
-    → parameters_of nsec3s ≡ Some by → find (matches (hashed by query.owner)) nsec3s ≡ None → can_deny code ≡ true
+    → parameters_of nsec3s ≡ Some by → find (nsec3_matches (hashed by query.owner)) nsec3s ≡ None → can_deny code ≡ true
     → (code == code_nx_domain) ≡ b
     → cond b (name_error by nsec3s query.owner (provable_encloser by apex nsec3s query.owner))
     (secure_if (no_data by query nsec3s (provable_encloser by apex nsec3s query.owner))) ≡ Secure
@@ -327,7 +327,7 @@ unmatched_holds by query apex code nsec3s zone false s same holds parameters non
 denied_by : (by : Parameters) (query : Question) (apex : Labels) (code : ℕ) (nsec3s : List OwnedNsec3) (zone : Zone)
     (o : Option OwnedNsec3)
     → IsHashedBy nsec3s query.owner zone by → name_eq zone.apex apex ≡ true → holds_query zone.apex query ≡ true
-    → parameters_of nsec3s ≡ Some by → can_deny code ≡ true → find (matches (hashed by query.owner)) nsec3s ≡ o
+    → parameters_of nsec3s ≡ Some by → can_deny code ≡ true → find (nsec3_matches (hashed by query.owner)) nsec3s ≡ o
     → verdict_at_name by query apex code No nsec3s o ≡ Secure → HasNoneByHashes query apex code nsec3s zone
 denied_by by query apex code nsec3s zone None s same holds parameters deny e h =
     unmatched_holds by query apex code nsec3s zone (code == code_nx_domain) s same holds parameters e deny refl h
@@ -345,7 +345,7 @@ denial_holds query apex code nsec3s soft hard h =
     let j = judged query apex code No nsec3s soft hard h in
     λ plain zone shown.
     let same = apex_is nsec3s query.owner apex zone j.by shown j.parameters j.of_zone in
-    denied_by j.by query apex code nsec3s zone (find (matches (hashed j.by query.owner)) nsec3s)
+    denied_by j.by query apex code nsec3s zone (find (nsec3_matches (hashed j.by query.owner)) nsec3s)
     (hashed_by nsec3s query.owner zone j.by shown j.parameters)
     same (holds_in zone apex query same j.holds) j.parameters j.deny refl j.secure
 

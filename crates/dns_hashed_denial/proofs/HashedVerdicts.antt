@@ -22,7 +22,7 @@ use Rattle.dns_model.proofs.CommonAncestors.{ends_above}
 use Rattle.dns_model.proofs.TestLemmas.{if_some}
 use Rattle.dns_rules.specs.ListedTypes.{is_unanswered, ends_zone}
 use Rattle.dns_rules.specs.NsecVerdict.{holds_query, is_plain}
-use Rattle.dns_rules.specs.Nsec3Covering.{is_considered, is_opt_out, owner_hash, matches, spans, is_nearest, counts_for, covering}
+use Rattle.dns_rules.specs.Nsec3Covering.{is_considered, is_opt_out, owner_hash, nsec3_matches, nsec3_spans, is_nearest, counts_for, nsec3_covering}
 use Rattle.dns_rules.specs.Nsec3Verdict.{Parameters, parameters_in, has_parameters, is_shared, if_shared, parameters_of, is_of_zone, hashed, or_further, nearest_match, unless_ended, provable_encloser, next_closer, covering_name, verdict_at_name, verdict_by, nsec3_verdict}
 use Rattle.dns_rules.specs.Zones.{Zone, exists_in, is_zone}
 use Rattle.dns_rules.proofs.Members.{after_not}
@@ -108,7 +108,7 @@ apex_is nsec3s about apex zone by shown h all =
 
 pub matched : (nsec3s : List OwnedNsec3) (about name : Labels) (zone : Zone) (by : Parameters) (nsec3 : OwnedNsec3)
     → IsHashedBy nsec3s about zone by
-    → is_concerned zone about name ≡ true → IsTrueFor zone about by nsec3 → matches (hashed by name) nsec3 ≡ true
+    → is_concerned zone about name ≡ true → IsTrueFor zone about by nsec3 → nsec3_matches (hashed by name) nsec3 ≡ true
     → IsListed zone name nsec3.fields.types
 matched nsec3s about name zone by nsec3 s concerned t matching =
     let parts = and_parts (is_considered nsec3) (pointwise nat_eq (owner_hash nsec3) (hashed by name)) matching in
@@ -119,10 +119,10 @@ matched nsec3s about name zone by nsec3 s concerned t matching =
 pub first_matched : (nsec3s : List OwnedNsec3) (about name : Labels) (zone : Zone) (by : Parameters)
     (nsec3 : OwnedNsec3)
     → IsHashedBy nsec3s about zone by → is_concerned zone about name ≡ true
-    → find (matches (hashed by name)) nsec3s ≡ Some nsec3
+    → find (nsec3_matches (hashed by name)) nsec3s ≡ Some nsec3
     → IsListed zone name nsec3.fields.types
 first_matched nsec3s about name zone by nsec3 s concerned h =
-    let f = find_known (matches (hashed by name)) (λ r. is_considered r ≡ true
+    let f = find_known (nsec3_matches (hashed by name)) (λ r. is_considered r ≡ true
     → IsTrueFor zone about by r) nsec3s nsec3 s.each h in
     let counts = (and_parts (is_considered nsec3) (pointwise nat_eq (owner_hash nsec3) (hashed by name)) f.passes).0 in
     matched nsec3s about name zone by nsec3 s concerned (f.known counts) f.passes
@@ -137,21 +137,21 @@ pub record IsCoveredIn (nsec3s : List OwnedNsec3) (zone : Zone) (name : Labels) 
 pub covered : (nsec3s : List OwnedNsec3) (about name : Labels) (zone : Zone) (by : Parameters) (nsec3 : OwnedNsec3)
     → IsHashedBy nsec3s about zone by
     → covering_name by nsec3s name ≡ Some nsec3 → IsCoveredIn nsec3s zone name nsec3
-unfolding covering
+unfolding nsec3_covering
 covered nsec3s about name zone by nsec3 s h =
     let hash = hashed by name in
     let f = find_known (counts_for hash nsec3s) (λ r. is_considered r ≡ true
     → IsTrueFor zone about by r) nsec3s nsec3 s.each h in
     let member = (found (counts_for hash nsec3s) nsec3s nsec3 h).known in
-    let spanned = (and_parts (spans hash nsec3) (is_nearest hash nsec3s nsec3) f.passes).0 in
+    let spanned = (and_parts (nsec3_spans hash nsec3) (is_nearest hash nsec3s nsec3) f.passes).0 in
     let counts = (and_parts (is_considered nsec3) _ spanned).0 in
     let own = parameters_are by nsec3 (after_not (is_considered nsec3) (has_parameters by nsec3) counts
     (member.all (λ r. not (is_considered r) || has_parameters by r) s.shared)) in
     record {
       light = λ there. covers_light_alone (hashed by) zone nsec3 name (f.known counts).is_true there spanned;
-      opted_out = λ flag. member.any (λ r. is_opt_out r && spans (hashed (parameters_in r) name) r)
-          (and_from (is_opt_out nsec3) (spans (hashed (parameters_in nsec3) name) nsec3) flag
-          (ap (λ p. spans (hashed p name) nsec3) own ∙ spanned));
+      opted_out = λ flag. member.any (λ r. is_opt_out r && nsec3_spans (hashed (parameters_in r) name) r)
+          (and_from (is_opt_out nsec3) (nsec3_spans (hashed (parameters_in nsec3) name) nsec3) flag
+          (ap (λ p. nsec3_spans (hashed p name) nsec3) own ∙ spanned));
     }
 
 -- ---- the closest encloser
@@ -161,11 +161,11 @@ record IsNearest (by : Parameters) (apex : Labels) (nsec3s : List OwnedNsec3) (n
   pub label : Label
   pub ends : Ends (label ∷ above) name
   pub inside : at_or_above apex above ≡ true
-  pub is_first : find (matches (hashed by above)) nsec3s ≡ Some nsec3
+  pub is_first : find (nsec3_matches (hashed by above)) nsec3s ≡ Some nsec3
 
 nearest_step : (by : Parameters) (apex : Labels) (nsec3s : List OwnedNsec3) (label : Label) (rest above : Labels)
     (nsec3 : OwnedNsec3) (b : Bool)
-    (o : Option OwnedNsec3) → at_or_above apex rest ≡ b → find (matches (hashed by rest)) nsec3s ≡ o
+    (o : Option OwnedNsec3) → at_or_above apex rest ≡ b → find (nsec3_matches (hashed by rest)) nsec3s ≡ o
     → (nearest_match by apex nsec3s rest ≡ Some (above, nsec3) → IsNearest by apex nsec3s rest above nsec3)
     → cond (not b) None (or_further rest o (nearest_match by apex nsec3s rest)) ≡ Some (above, nsec3)
     → IsNearest by apex nsec3s (label ∷ rest) above nsec3
@@ -186,7 +186,7 @@ nearest_step by apex nsec3s label rest above nsec3 true (Some first) inside e la
       label = label;
       ends = record { front = []; whole = ap (λ (l : Labels). label ∷ l) same };
       inside = ap (at_or_above apex) (sym same) ∙ inside;
-      is_first = ap (λ (l : Labels). find (matches (hashed by l)) nsec3s) (sym same) ∙ e ∙ ap Some own;
+      is_first = ap (λ (l : Labels). find (nsec3_matches (hashed by l)) nsec3s) (sym same) ∙ e ∙ ap Some own;
     }
 
 nearest : (by : Parameters) (apex : Labels) (nsec3s : List OwnedNsec3) (name above : Labels) (nsec3 : OwnedNsec3)
@@ -195,7 +195,7 @@ unfolding nearest_match
 nearest by apex nsec3s [] above nsec3 h = cc
 nearest by apex nsec3s (label ∷ rest) above nsec3 h =
     nearest_step by apex nsec3s label rest above nsec3 (at_or_above apex rest)
-    (find (matches (hashed by rest)) nsec3s) refl refl
+    (find (nsec3_matches (hashed by rest)) nsec3s) refl refl
     (nearest by apex nsec3s rest above nsec3) h
 
 record IsProvable (by : Parameters) (apex : Labels) (nsec3s : List OwnedNsec3) (name encloser : Labels) : Type 0 where
@@ -322,7 +322,7 @@ pub record IsJudged (query : Question) (apex : Labels) (code : ℕ) (answered : 
   pub holds : holds_query apex query ≡ true
   pub of_zone : list_all (is_of_zone apex) nsec3s ≡ true
   pub deny : can_deny code ≡ true
-  pub secure : verdict_at_name by query apex code answered nsec3s (find (matches (hashed by query.owner)) nsec3s)
+  pub secure : verdict_at_name by query apex code answered nsec3s (find (nsec3_matches (hashed by query.owner)) nsec3s)
       ≡ Secure
 
 judged_by : (query : Question) (apex : Labels) (code : ℕ) (answered : Answered) (nsec3s : List OwnedNsec3)
@@ -331,7 +331,7 @@ judged_by : (query : Question) (apex : Labels) (code : ℕ) (answered : Answered
     → verdict_by query apex code answered nsec3s soft hard o ≡ Secure → IsJudged query apex code answered nsec3s
 judged_by query apex code answered nsec3s soft hard None e holds all h = cc
 judged_by query apex code answered nsec3s soft hard (Some by) e holds all h =
-    let last = verdict_at_name by query apex code answered nsec3s (find (matches (hashed by query.owner)) nsec3s) in
+    let last = verdict_at_name by query apex code answered nsec3s (find (nsec3_matches (hashed by query.owner)) nsec3s) in
     let named = cond ((code == code_nx_domain) && not (is_unanswered answered)) Bogus last in
     let plain = cond (is_plain answered) Bogus named in
     let coded = cond (not (can_deny code)) Bogus plain in

@@ -10,7 +10,7 @@ use Rattle.dns_model.specs.Owned.{OwnedNsec3}
 use Rattle.dns_model.proofs.NameLemmas.{name_equiv}
 use Rattle.dns_model.proofs.AboveLemmas.{strictly_parts}
 use Rattle.dns_rules.specs.ListedTypes.{has_type, is_cut, ends_zone, is_unsigned_cut, lacks_data, is_right_side}
-use Rattle.dns_rules.specs.Nsec3Covering.{is_considered, is_opt_out, owner_hash, lies_between, spans}
+use Rattle.dns_rules.specs.Nsec3Covering.{is_considered, is_opt_out, owner_hash, lies_between, nsec3_spans}
 use Rattle.dns_rules.specs.Zones.{Zone, has_set, is_delegation, exists_in, zone_ends_at, fits_in, is_zone, is_signing_type, has_data}
 use Rattle.dns_rules.proofs.Members.{picked}
 use Rattle.dns_rules.proofs.ZoneLemmas.{has_set_alike, is_delegation_alike, soa_at_apex}
@@ -23,7 +23,7 @@ use Rattle.dns_hashed_denial.proofs.ExistingNames.{exists_alike, none_exists_bel
 -- a true record covers the hash of no name that exists, but of light names where its flag Opt-Out is set
 pub covers_light_alone : (hash : Hashing) (zone : Zone) (nsec3 : OwnedNsec3) (name : Labels)
     → IsTrueNsec3 hash zone nsec3
-    → exists_in zone name ≡ true → spans (hash name) nsec3 ≡ true
+    → exists_in zone name ≡ true → nsec3_spans (hash name) nsec3 ≡ true
     → (is_opt_out nsec3 ≡ true) × (is_light zone name ≡ true)
 covers_light_alone hash zone nsec3 name t there spanned =
     and_parts (is_opt_out nsec3) (is_light zone name)

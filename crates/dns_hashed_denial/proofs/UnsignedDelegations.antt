@@ -11,7 +11,7 @@ use Rattle.dns_model.proofs.NameLemmas.{name_equiv}
 use Rattle.dns_model.proofs.AboveLemmas.{above_alike, below_alike, above_itself, strictly_parts, strictly_made}
 use Rattle.dns_model.proofs.SetLemmas.{name_back}
 use Rattle.dns_rules.specs.ListedTypes.{is_unsigned_cut}
-use Rattle.dns_rules.specs.Nsec3Covering.{is_opt_out, matches}
+use Rattle.dns_rules.specs.Nsec3Covering.{is_opt_out, nsec3_matches}
 use Rattle.dns_rules.specs.Nsec3Verdict.{Parameters, parameters_of, is_of_zone, hashed, provable_encloser, next_closer, covering_name, is_covered_opt_out, may_be_unsigned, is_unsigned_at, is_unsigned_by, is_unsigned_in, shows_insecure_delegation}
 use Rattle.dns_rules.specs.Zones.{Zone, has_set, is_delegation, exists_in, is_zone}
 use Rattle.dns_rules.proofs.ZoneLemmas.{has_set_alike}
@@ -111,7 +111,7 @@ unmatched_child by nsec3s child apex zone (Some encloser) s same holds e h =
 child_by : (by : Parameters) (nsec3s : List OwnedNsec3) (child apex : Labels) (zone : Zone) (o : Option OwnedNsec3)
     → IsHashedBy nsec3s child zone by
     → name_eq zone.apex apex ≡ true → strictly_above zone.apex child ≡ true
-    → find (matches (hashed by child)) nsec3s ≡ o
+    → find (nsec3_matches (hashed by child)) nsec3s ≡ o
     → is_unsigned_at by apex nsec3s child o ≡ true → IsUnsignedByHashes nsec3s child zone
 child_by by nsec3s child apex zone None s same holds e h =
     unmatched_child by nsec3s child apex zone (provable_encloser by apex nsec3s child) s same holds refl h
@@ -127,7 +127,7 @@ child_with : (nsec3s : List OwnedNsec3) (child apex : Labels) (zone : Zone) (o :
 child_with nsec3s child apex zone None shown above all e h = absurd (true≢false (sym h))
 child_with nsec3s child apex zone (Some by) shown above all e h =
     let same = apex_is nsec3s child apex zone by shown e all in
-    child_by by nsec3s child apex zone (find (matches (hashed by child)) nsec3s)
+    child_by by nsec3s child apex zone (find (nsec3_matches (hashed by child)) nsec3s)
     (hashed_by nsec3s child zone by shown e) same
     (strictly_alike zone.apex apex child same above) refl h
 

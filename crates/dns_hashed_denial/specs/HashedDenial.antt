@@ -8,7 +8,7 @@ use Rattle.dns_model.specs.Records.{Question}
 use Rattle.dns_model.specs.Owned.{OwnedNsec3}
 use Rattle.dns_rules.specs.DenialInZones.{is_data_type}
 use Rattle.dns_rules.specs.NsecVerdict.{holds_query}
-use Rattle.dns_rules.specs.Nsec3Covering.{is_considered, is_opt_out, matches, spans}
+use Rattle.dns_rules.specs.Nsec3Covering.{is_considered, is_opt_out, nsec3_matches, nsec3_spans}
 use Rattle.dns_rules.specs.Nsec3Verdict.{Parameters, parameters_in, parameters_of, hashed, provable_encloser, may_be_unsigned}
 use Rattle.dns_rules.specs.Zones.{Zone, has_set, is_delegation, exists_in, is_zone, lookup, Referral, NoData, NxDomain}
 use Rattle.dns_hashed_denial.specs.HashedZones.{Hashing, is_unsigned_delegation, is_light, IsTrueNsec3, IsCollisionFree}
@@ -36,7 +36,7 @@ pub record IsShownByHashes (nsec3s : List OwnedNsec3) (name : Labels) (zone : Zo
 
 -- one of the records covers the name, and its flag Opt-Out is set (RFC 5155, 6)
 abbrev pub is_opted_out : List OwnedNsec3 → Labels → Bool
-is_opted_out nsec3s name = list_any (λ nsec3. is_opt_out nsec3 && spans (hash_of nsec3 name) nsec3) nsec3s
+is_opted_out nsec3s name = list_any (λ nsec3. is_opt_out nsec3 && nsec3_spans (hash_of nsec3 name) nsec3) nsec3s
 
 -- the name is at or below one of the zone that is opted out
 pub record IsBelowOptOut (nsec3s : List OwnedNsec3) (zone : Zone) (name : Labels) : Type 0 where
@@ -63,7 +63,7 @@ pub data IsUnanswered (query : Question) (code : ℕ) (nsec3s : List OwnedNsec3)
 abbrev pub is_by_opt_out_with : Question → Labels → List OwnedNsec3 → Option Parameters → Bool
 is_by_opt_out_with query apex nsec3s None = false
 is_by_opt_out_with query apex nsec3s (Some by) =
-    is_none (find (matches (hashed by query.owner)) nsec3s)
+    is_none (find (nsec3_matches (hashed by query.owner)) nsec3s)
     && may_be_unsigned by nsec3s query.owner (provable_encloser by apex nsec3s query.owner)
 
 -- a DS is denied by opt-out alone: no record matches the name, and one with the flag covers the next closer name

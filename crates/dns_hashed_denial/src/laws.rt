@@ -6,7 +6,7 @@ ghost use Rattle.dns_model.specs.Records.{Question};
 ghost use Rattle.dns_model.specs.Owned.{OwnedNsec3};
 ghost use Rattle.dns_model.specs.declared.proof.Proof.TheVariants.{Secure};
 ghost use Rattle.dns_model.specs.declared.answered.Answered.TheVariants.{No, Expanded};
-ghost use Rattle.dns_rules.specs.Nsec3Covering.{is_opt_out, spans};
+ghost use Rattle.dns_rules.specs.Nsec3Covering.{is_opt_out, nsec3_spans};
 ghost use Rattle.dns_rules.specs.Nsec3Verdict.{nsec3_verdict, shows_insecure_delegation};
 ghost use Rattle.dns_rules.specs.Zones.{Zone, exists_in};
 ghost use Rattle.dns_hashed_denial.specs.HashedZones.{Hashing, is_light, IsTrueNsec3};
@@ -16,7 +16,7 @@ ghost use Rattle.dns_hashed_denial.specs.HashedDenial.{IsDeniedByHashes, IsExpan
 /// (RFC 5155, 6 and 7.1). This is so of any hash.
 pub fn true_records_cover_light_names_alone()
     ensures { (hash : Hashing) (zone : Zone) (nsec3 : OwnedNsec3) (name : Labels) → IsTrueNsec3 hash zone nsec3
-        → exists_in zone name ≡ true → spans (hash name) nsec3 ≡ true
+        → exists_in zone name ≡ true → nsec3_spans (hash name) nsec3 ≡ true
         → (is_opt_out nsec3 ≡ true) × (is_light zone name ≡ true) }
 {}
 

@@ -20,13 +20,13 @@ use Rattle.dns_journal.specs.declared.entry.SendRefusal.{SendRefusal}
 use Rattle.dns_journal.specs.declared.entry.SendRefusal.TheVariants.{Busy, IdSpaceExhausted, TooLong, QueueFull, NoConnections}
 use Rattle.dns_journal.specs.Entries.{refusal_of}
 use Rattle.dns_journal.specs.Limits.{kept_in}
-use Rattle.dns_journal.specs.Replays.{IdListValue, IsKept, IsPlayedSend, IsUnplayedSend, refusal_in}
+use Rattle.dns_journal.specs.Replays.{IdListValue, IsDrawKept, IsPlayedSend, IsUnplayedSend, refusal_in}
 use Rattle.dns_journal.proofs.ReplayLemmas.{moved_by}
 
 -- ---- the ids
 
 abbrev pub RecordedDraw : {R : Type 0} → (R → ℕ → R → Type 0) → RecordedDraws R → ℕ → RecordedDraws R → Type 0
-RecordedDraw draw old id new = draw old.draws id new.draws × IsKept old.ids id new.ids
+RecordedDraw draw old id new = draw old.draws id new.draws × IsDrawKept old.ids id new.ids
 
 -- the generator inside drew the same
 pub walk_inside : {R : Type 0} (draw : R → ℕ → R → Type 0) (from to : RecordedDraws R) (drawn : List ℕ)

@@ -78,8 +78,8 @@ pub record IdListValue : Type 0 where
   pub capacity : ℕ
 
 -- an id is kept where there is memory for it
-abbrev pub IsKept : IdListValue → ℕ → IdListValue → Type 0
-IsKept old id new = length old.ids < old.capacity → new ≡ record old { ids = old.ids ++ id ∷ [] }
+abbrev pub IsDrawKept : IdListValue → ℕ → IdListValue → Type 0
+IsDrawKept old id new = length old.ids < old.capacity → new ≡ record old { ids = old.ids ++ id ∷ [] }
 
 -- ---- a send
 

@@ -1,7 +1,7 @@
 //! A generator that keeps the ids which it draws for one request.
 ghost use Rattle.std.specs.Prelude.{◌≡◌, ◌≤◌, [], OnOk};
 ghost use Rattle.dns_journal.specs.Entries.{drawn_of};
-ghost use Rattle.dns_journal.specs.Replays.{IsKept};
+ghost use Rattle.dns_journal.specs.Replays.{IsDrawKept};
 
 use crate::drawn_ids::{DrawnIds, IdList};
 use dns_multiplexer::Draws;
@@ -50,9 +50,9 @@ impl<R: Draws + Drop> RecordedDraws<R> {
 }
 
 impl<R: Draws + Drop> Draws for RecordedDraws<R> {
-    ghost use Rattle.dns_journal.specs.Replays.{IsKept};
+    ghost use Rattle.dns_journal.specs.Replays.{IsDrawKept};
 
-    ghost draws_id = { λ old id new. R.draws_id old.draws id new.draws × IsKept old.ids id new.ids };
+    ghost draws_id = { λ old id new. R.draws_id old.draws id new.draws × IsDrawKept old.ids id new.ids };
 
     ghost draws_port = { λ old port new. R.draws_port old.draws port new.draws × (new.ids ≡ old.ids) };
 

@@ -16,7 +16,7 @@ use Rattle.dns_message.specs.declared.step.Step.{Step}
 use Rattle.dns_message.specs.declared.step.Step.TheVariants as step
 use Rattle.dns_message.specs.NameAt.{step_of, after_step, labels_from, labels_at, name_at}
 use Rattle.dns_message.specs.Readable.{ending_at, steps_left}
-use Rattle.dns_message.specs.KnownNames.{AreKept, HasPassed, IsKept, IsKnown, IsPassed, part_of}
+use Rattle.dns_message.specs.KnownNames.{AreKept, HasPassed, IsPartKept, IsKnown, IsPassed, part_of}
 use Rattle.dns_message.specs.Fitting.{IsSpelled, ending_or}
 use Rattle.dns_message.proofs.NameReading.{Row, row_wire, with_label, with_labels, finish, label_step, label_at, enough, one_step, row_wire-append, wire-row}
 
@@ -303,7 +303,7 @@ kept_more bytes spelled more starts sizes all = record {
 }
 
 pub kept_put : (bytes spelled starts sizes : List ℕ) (place start size : ℕ) → AreKept bytes spelled starts sizes
-    → place < length sizes → IsKept bytes spelled place start size
+    → place < length sizes → IsPartKept bytes spelled place start size
     → AreKept bytes spelled (slice_set starts place start) (slice_set sizes place size)
 kept_put bytes spelled starts sizes place start size all lt one = record {
   long = length-set starts place start ∙ all.long ∙ sym (length-set sizes place size);
@@ -314,7 +314,7 @@ kept_put bytes spelled starts sizes place start size all lt one = record {
             get_or-set_at starts place other start 0 same (omega (arith, lt, all.long)) in
             let b : slice_index (slice_set sizes place size) other ≡ size =
             get_or-set_at sizes place other size 0 same lt in
-            rw (a, b) (subst (λ (p : ℕ). IsKept bytes spelled p start size) (sym same) one)
+            rw (a, b) (subst (λ (p : ℕ). IsPartKept bytes spelled p start size) (sym same) one)
         | inr apart ↦
             let a : slice_index (slice_set starts place start) other ≡ slice_index starts other =
             get_or-set_other starts place other start 0 apart in
@@ -340,7 +340,7 @@ part_behind spelled name base size is fits =
 
 pub put_kept : (bytes spelled name : List ℕ) (base : ℕ) (one : Passed) → part_of spelled base (length name) ≡ name
     → base + length name ≤ length spelled → IsPassed bytes name one
-    → IsKept bytes spelled one.place (base + one.size) (length name - one.size)
+    → IsPartKept bytes spelled one.place (base + one.size) (length name - one.size)
 put_kept bytes spelled name base one is inside p = record {
   inside = λ some. omega (arith, inside, p.inside);
   known = λ some. subst (IsKnown bytes one.place) (sym (part_behind spelled name base one.size is (omega (arith, p.inside)))) p.known;

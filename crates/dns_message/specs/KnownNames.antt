@@ -18,14 +18,14 @@ abbrev pub part_of : List ℕ → ℕ → ℕ → List ℕ
 part_of spelled start size = slice_range spelled start (start + size)
 
 -- a place has no name, or its own, which lies among the spelled bytes
-pub record IsKept (bytes spelled : List ℕ) (place start size : ℕ) : Type 0 where
+pub record IsPartKept (bytes spelled : List ℕ) (place start size : ℕ) : Type 0 where
   pub inside : 0 < size → start + size ≤ length spelled
   pub known : 0 < size → IsKnown bytes place (part_of spelled start size)
 
 -- the table's rows are those of names
 pub record AreKept (bytes spelled starts sizes : List ℕ) : Type 0 where
   pub long : length starts ≡ length sizes
-  pub each : (place : ℕ) → place < length sizes → IsKept bytes spelled place (slice_index starts place) (slice_index sizes place)
+  pub each : (place : ℕ) → place < length sizes → IsPartKept bytes spelled place (slice_index starts place) (slice_index sizes place)
 
 -- the names that are kept are those at their places
 abbrev pub AreKnown : List ℕ → KnownNames → Type 0

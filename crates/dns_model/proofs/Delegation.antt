@@ -6,7 +6,7 @@ use Rattle.dns_model.specs.Names.{Labels, wire}
 use Rattle.dns_model.specs.NameForm.{label_in, labels_in, name_in}
 use Rattle.dns_model.specs.Signing.{ds_digest, tag_sum}
 use Rattle.dns_model.specs.Views.{rrsig_in, dnskey_in, ds_in}
-use Rattle.dns_model.specs.Keys.{VerifierAnswers, matches}
+use Rattle.dns_model.specs.Keys.{VerifierAnswers, ds_covers_key}
 use Rattle.dns_model.specs.Chains.{LinkValue, Anchored, Matched, KeySet, Signed, judge, justified, links_hold, link_holds, all_shown}
 use Rattle.dns_model.proofs.Worked.{example, upper_example, letter_a, key, anchors}
 
@@ -20,15 +20,15 @@ ds_of_key =
     174 ∷ 201 ∷ 13 ∷ 2 ∷ 154 ∷ 119 ∷ 17 ∷ 57 ∷ 140 ∷ 248 ∷ 156 ∷ 111 ∷ 234 ∷ 132 ∷ 81 ∷ 83 ∷ 142 ∷ 28
     ∷ 96 ∷ 92 ∷ 163 ∷ 74 ∷ 222 ∷ 215 ∷ 116 ∷ 44 ∷ 40 ∷ 238 ∷ 81 ∷ 68 ∷ 213 ∷ 187 ∷ 235 ∷ 70 ∷ 255 ∷ 41 ∷ []
 
-pub ds_matches : matches trusting (example ∷ []) key ds_of_key ≡ true
+pub ds_matches : ds_covers_key trusting (example ∷ []) key ds_of_key ≡ true
 unfolding dnskey_in ds_in tag_sum ds_digest sha256 first_words schedule rounds compress hash_after digest_bytes
 ds_matches = refl
 
-pub ds_matches_in_upper_case : matches trusting (upper_example ∷ []) key ds_of_key ≡ true
+pub ds_matches_in_upper_case : ds_covers_key trusting (upper_example ∷ []) key ds_of_key ≡ true
 unfolding dnskey_in ds_in tag_sum ds_digest sha256 first_words schedule rounds compress hash_after digest_bytes
 ds_matches_in_upper_case = refl
 
-pub ds_matches_no_other_owner : matches trusting (letter_a ∷ example ∷ []) key ds_of_key ≡ false
+pub ds_matches_no_other_owner : ds_covers_key trusting (letter_a ∷ example ∷ []) key ds_of_key ≡ false
 unfolding dnskey_in ds_in tag_sum ds_digest sha256 first_words schedule rounds compress hash_after digest_bytes
 ds_matches_no_other_owner = refl
 

@@ -6,7 +6,7 @@ use Rattle.dns_model.specs.Types.{type_ds, type_rrsig, type_nsec, type_dnskey, t
 use Rattle.dns_model.specs.Views.{RrsigValue, DnskeyValue, rrsig_in, dnskey_in}
 use Rattle.dns_model.specs.Serial.{timely}
 use Rattle.dns_model.specs.Signing.{signed_bytes, key_tag_of}
-use Rattle.dns_model.specs.Keys.{VerifierAnswers, AnchorValue, bytes_eq, anchored, matches, usable_key}
+use Rattle.dns_model.specs.Keys.{VerifierAnswers, AnchorValue, bytes_eq, anchored, ds_covers_key, usable_key}
 use Rattle.dns_model.specs.Records.{Rr, RrSet}
 use Rattle.std.specs.Cmp.Lexicographic.{pointwise}
 
@@ -109,7 +109,7 @@ is_signed j earlier owner class rtype rdatas key_link key (Some sig) =
 unfoldable pub link_holds : Judge → List LinkValue → LinkValue → Bool
 link_holds j earlier (Anchored owner class key) = j.is_anchored owner key
 link_holds j earlier (Matched owner class key ds_link ds) =
-    shows_ds owner class ds (slice_get earlier ds_link) && matches j.answers owner key ds
+    shows_ds owner class ds (slice_get earlier ds_link) && ds_covers_key j.answers owner key ds
 link_holds j earlier (KeySet owner class keys links) = is_nonempty keys && all_shown earlier owner class keys links
 link_holds j earlier (Signed owner class rtype rdatas sig key_link key) =
     not (rtype == type_rrsig) && (is_nonempty rdatas && is_signed j earlier owner class rtype rdatas key_link key (rrsig_in sig))

@@ -51,8 +51,8 @@ matches_read answers owner rdata (Some key) (Some ds) =
 matches_read answers owner rdata _ _ = false
 
 -- a DS rdata matches a key rdata of that owner
-abbrev pub matches : VerifierAnswers → Labels → List ℕ → List ℕ → Bool
-matches answers owner key ds = matches_read answers owner key (dnskey_in key) (ds_in ds)
+abbrev pub ds_covers_key : VerifierAnswers → Labels → List ℕ → List ℕ → Bool
+ds_covers_key answers owner key ds = matches_read answers owner key (dnskey_in key) (ds_in ds)
 
 -- a key that may sign records
 abbrev pub usable_key : VerifierAnswers → DnskeyValue → Bool

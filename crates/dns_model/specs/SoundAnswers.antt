@@ -130,7 +130,7 @@ IsSecureTtl now section t r (Some (Signed owner class rtype rdatas sig key_link 
 IsSecureTtl now section t r _ = ⊥
 
 -- a record of an answer beside the record as it was told
-pub record IsKept (now : ℕ) (chains : List ChainValue) (section : Section) (told : List Rr) (t r : Rr) : Type 0 where
+pub record IsRecordKept (now : ℕ) (chains : List ChainValue) (section : Section) (told : List Rr) (t r : Rr) : Type 0 where
   pub owner : r.owner ≡ t.owner
   pub rtype : r.rtype ≡ t.rtype
   pub class : r.class ≡ t.class
@@ -142,9 +142,9 @@ pub record IsKept (now : ℕ) (chains : List ChainValue) (section : Section) (to
 -- Secure set with one justified chain
 pub record Sound (j : Judge) (now : ℕ) (told : Told) (a : ResponseValue) : Type 0 where
   pub code : a.message.response_code ≡ told.code
-  pub answers : ArePaired (IsKept now a.chains Answer told.answers) told.answers a.message.answers
-  pub authorities : ArePaired (IsKept now a.chains Authority told.authorities) told.authorities a.message.authorities
-  pub additionals : ArePaired (IsKept now a.chains Additional told.additionals) told.additionals a.message.additionals
+  pub answers : ArePaired (IsRecordKept now a.chains Answer told.answers) told.answers a.message.answers
+  pub authorities : ArePaired (IsRecordKept now a.chains Authority told.authorities) told.authorities a.message.authorities
+  pub additionals : ArePaired (IsRecordKept now a.chains Additional told.additionals) told.additionals a.message.additionals
   pub marks_of_answers : HaveOneMark a.message.answers
   pub marks_of_authorities : HaveOneMark a.message.authorities
   pub marks_of_additionals : HaveOneMark a.message.additionals

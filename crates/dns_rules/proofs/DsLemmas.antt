@@ -10,7 +10,7 @@ use Rattle.dns_model.specs.declared.section.Section.TheVariants.{Answer}
 use Rattle.dns_model.specs.Names.{Labels, name_eq}
 use Rattle.dns_model.specs.Types.{type_ds, type_dnskey}
 use Rattle.dns_model.specs.Records.{Rr, RrSet}
-use Rattle.dns_model.specs.Keys.{VerifierAnswers, matches}
+use Rattle.dns_model.specs.Keys.{VerifierAnswers, ds_covers_key}
 use Rattle.dns_model.specs.Chains.{LinkValue, Anchored, Matched, KeySet, Signed, Judge, has_bytes, rdatas_of, same_rdatas, shows_key, shows_ds, link_holds, links_hold, is_nonempty, last_link, link_is_for}
 use Rattle.dns_model.specs.SoundAnswers.{is_secure, section_eq}
 use Rattle.dns_model.proofs.EachLemmas.{each_filter, each_more, find-map, find_known}
@@ -83,7 +83,7 @@ unfolding link_holds
 matched_step j set front ds key None shows is h = cc
 matched_step j set front ds key (Some d) shows is h =
     let last = length front - 1 in
-    let test = λ (r : Rr). matches j.answers set.owner key.rdata r.rdata in
+    let test = λ (r : Rr). ds_covers_key j.answers set.owner key.rdata r.rdata in
     record {
       holds = λ more.
           let Shown = λ (r : Rr). shows_ds set.owner set.class r.rdata (slice_get (front ++ more) last) ≡ true in

@@ -13,7 +13,7 @@ use Rattle.dns_model.proofs.NamesInOrder.{le_from_Less, le_trans, above_comes_fi
 use Rattle.dns_model.proofs.AboveLemmas.{above_alike, below_alike, above_itself, above_trans, above_is_shorter, above_one_more, strictly_made, strictly_parts, alike_if_not_strictly, Ends}
 use Rattle.dns_model.proofs.CommonAncestors.{common_ends, common_above, common_below, ends_above, longer_below}
 use Rattle.dns_rules.specs.ListedTypes.{has_type, is_cut, ends_zone}
-use Rattle.dns_rules.specs.Covering.{spans, is_silent_on}
+use Rattle.dns_rules.specs.Covering.{nsec_spans, is_silent_on}
 use Rattle.dns_rules.specs.NsecVerdict.{closest_encloser}
 use Rattle.dns_rules.specs.Zones.{SetKey, Zone, has_set, is_owner, is_delegation, exists_in, zone_ends_at, is_zone, encloser, IsTrueNsec}
 use Rattle.dns_rules.proofs.Members.{IsMember, IsPicked, picked}
@@ -81,7 +81,7 @@ unfolding exists_in
 existing zone name h = picked (λ set. at_or_above name set.owner) zone.sets (and_parts (at_or_above zone.apex name) _ h).1
 
 -- a name that is spanned and isn't above the next one doesn't exist
-pub spanned_is_missing : (zone : Zone) (nsec : OwnedNsec) (name : Labels) → IsTrueNsec zone nsec → spans name nsec ≡ true
+pub spanned_is_missing : (zone : Zone) (nsec : OwnedNsec) (name : Labels) → IsTrueNsec zone nsec → nsec_spans name nsec ≡ true
     → strictly_above name nsec.fields.next ≡ false → exists_in zone name ≡ false
 spanned_is_missing zone nsec name t spanned leaf = false_from_ne_true (exists_in zone name) (λ h.
     let k = existing zone name h in
@@ -106,7 +106,7 @@ no_wildcard zone name inside gone = false_from_ne_true (exists_in zone (star nam
     true≢false (sym (and_from (at_or_above zone.apex name) (list_any (λ set. at_or_above name set.owner) zone.sets) inside there) ∙ gone))
 
 -- what exists at or above a spanned name is above the closest encloser
-pub existing_encloses : (zone : Zone) (nsec : OwnedNsec) (name above : Labels) → IsTrueNsec zone nsec → spans name nsec ≡ true
+pub existing_encloses : (zone : Zone) (nsec : OwnedNsec) (name above : Labels) → IsTrueNsec zone nsec → nsec_spans name nsec ≡ true
     → at_or_above above name ≡ true → exists_in zone above ≡ true → at_or_above above (closest_encloser name nsec) ≡ true
 existing_encloses zone nsec name above t spanned h there =
     let k = existing zone above there in
@@ -163,7 +163,7 @@ encloser_of zone (label ∷ front) last there only =
 -- the zone's closest encloser of a spanned name is the one that the record tells
 pub same_encloser : (zone : Zone) (nsec : OwnedNsec) (name : Labels) → is_zone zone ≡ true → IsTrueNsec zone nsec
     → at_or_above zone.apex name ≡ true
-    → spans name nsec ≡ true → encloser zone name ≡ closest_encloser name nsec
+    → nsec_spans name nsec ≡ true → encloser zone name ≡ closest_encloser name nsec
 same_encloser zone nsec name formed t h spanned =
     let e = encloser_ends name nsec in
     ap (encloser zone) e.whole
@@ -211,7 +211,7 @@ end_is_owner zone set owner formed m ends own above =
 
 -- where a true record spans a name and isn't silent on it, the zone goes on above the name
 pub no_end_above : (zone : Zone) (nsec : OwnedNsec) (name : Labels) (set : SetKey) → is_zone zone ≡ true → IsTrueNsec zone nsec
-    → spans name nsec ≡ true
+    → nsec_spans name nsec ≡ true
     → is_silent_on name nsec ≡ false → IsMember set zone.sets → zone_ends_at zone set.owner ≡ true
     → strictly_above set.owner name ≡ true → ⊥
 no_end_above zone nsec name set formed t spanned speaks m ends above = by (sided zone nsec name set t spanned m)

@@ -12,7 +12,7 @@ use Rattle.dns_model.specs.Records.{Question}
 use Rattle.dns_model.specs.Owned.{OwnedNsec}
 use Rattle.dns_model.specs.declared.proof.Proof.TheVariants.{Secure, Bogus}
 use Rattle.dns_model.specs.declared.answered.Answered.TheVariants.{No, Expanded}
-use Rattle.dns_rules.specs.Covering.{covering}
+use Rattle.dns_rules.specs.Covering.{nsec_covering}
 use Rattle.dns_rules.specs.NsecVerdict.{closest_encloser, nsec_verdict}
 use Rattle.dns_rules.specs.Zones.{has_set, is_owner, is_delegation, exists_in, encloser, from_wildcard, lookup, Data, is_last, none_between, is_next, IsTrueNsec}
 use Rattle.dns_rules.specs.DenialInZones.{IsShownBy, HasNone}
@@ -129,7 +129,7 @@ abbrev pub query : Question
 query = record { owner = below 118; rtype = type_a; class = 1 }
 
 pub name_error : nsec_verdict query apex 3 No (first_record ∷ later_record ∷ []) ≡ Secure
-unfolding nsec_verdict covering closest_encloser common_ancestor bitmap_has windows_in window_in
+unfolding nsec_verdict nsec_covering closest_encloser common_ancestor bitmap_has windows_in window_in
 name_error = refl
 
 -- so the zone has no such name
@@ -138,12 +138,12 @@ no_such_name = denial_holds query apex 3 (first_record ∷ later_record ∷ []) 
 
 -- one record that covers the name says nothing of the wildcard
 pub wildcard_uncovered : nsec_verdict query apex 3 No (later_record ∷ []) ≡ Bogus
-unfolding nsec_verdict covering closest_encloser common_ancestor bitmap_has windows_in window_in
+unfolding nsec_verdict nsec_covering closest_encloser common_ancestor bitmap_has windows_in window_in
 wildcard_uncovered = refl
 
 -- answered from `*.example.`, it has nothing closer
 pub expanded : nsec_verdict query apex 0 (Expanded 1) (later_record ∷ []) ≡ Secure
-unfolding nsec_verdict covering closest_encloser common_ancestor bitmap_has windows_in window_in
+unfolding nsec_verdict nsec_covering closest_encloser common_ancestor bitmap_has windows_in window_in
 expanded = refl
 
 -- the last owner is the wildcard below `w`, and it has an address
@@ -151,8 +151,8 @@ abbrev pub last_record : OwnedNsec
 last_record = record { owner = star (below 119); fields = record { next = apex; types = 0 ∷ 6 ∷ 64 ∷ 0 ∷ 0 ∷ 0 ∷ 0 ∷ 3 ∷ [] } }
 
 -- it covers a name to which that wildcard answers, so it denies nothing of it
-pub covered : covering (letter 98 ∷ below 119) (last_record ∷ []) ≡ Some last_record
-unfolding covering bitmap_has windows_in window_in
+pub covered : nsec_covering (letter 98 ∷ below 119) (last_record ∷ []) ≡ Some last_record
+unfolding nsec_covering bitmap_has windows_in window_in
 covered = refl
 
 pub answered : lookup zone (letter 98 ∷ below 119) type_a ≡ Data
@@ -160,9 +160,9 @@ unfolding lookup from_wildcard encloser has_set is_delegation exists_in
 answered = refl
 
 pub no_name_error : nsec_verdict (record { owner = letter 98 ∷ below 119; rtype = type_a; class = 1 }) apex 3 No (last_record ∷ []) ≡ Bogus
-unfolding nsec_verdict covering closest_encloser common_ancestor bitmap_has windows_in window_in
+unfolding nsec_verdict nsec_covering closest_encloser common_ancestor bitmap_has windows_in window_in
 no_name_error = refl
 
 pub no_denial : nsec_verdict (record { owner = letter 98 ∷ below 119; rtype = type_a; class = 1 }) apex 0 No (last_record ∷ []) ≡ Bogus
-unfolding nsec_verdict covering closest_encloser common_ancestor bitmap_has windows_in window_in
+unfolding nsec_verdict nsec_covering closest_encloser common_ancestor bitmap_has windows_in window_in
 no_denial = refl

@@ -15,7 +15,7 @@ use Rattle.dns_model.proofs.AboveLemmas.{above_alike, above_itself, above_is_sho
 use Rattle.dns_model.specs.declared.answered.Answered.{Answered}
 use Rattle.dns_model.specs.declared.answered.Answered.TheVariants.{No, Expanded}
 use Rattle.dns_rules.specs.ListedTypes.{has_type, lacks_data, is_right_side, denies_at_owner, wildcard_lacks}
-use Rattle.dns_rules.specs.Covering.{counts_for, covering, number_if_covered, covering_number}
+use Rattle.dns_rules.specs.Covering.{counts_for, nsec_covering, number_if_covered, covering_number}
 use Rattle.dns_rules.specs.NsecVerdict.{can_deny, holds_query, code_nx_domain, code_no_error, is_plain, is_owned_by, closest_encloser, wildcard_denies, missing_name, proved_by_covering, proved_at_name, nsec_verdict}
 use Rattle.dns_rules.specs.Zones.{Zone, has_set, is_delegation, exists_in, is_zone, encloser, has_data, from_wildcard, lookup, Referral, Data, NoData, NxDomain, IsTrueNsec}
 use Rattle.dns_rules.specs.DenialInZones.{HasNone, IsAbsent, HasNoneCloser, IsDeniedIn, IsExpandedIn, IsOwnerless}
@@ -111,7 +111,7 @@ missing_without zone name rtype e r gone same m =
 -- a wildcard that a record covers
 mute_covered : (zone : Zone) (nsecs : List OwnedNsec) (wildcard : Labels) (rtype : ℕ) (found : Option OwnedNsec)
     → AllByRecursion (IsTrueNsec zone) nsecs
-    → covering wildcard nsecs ≡ found → is_some found ≡ true → IsMute zone wildcard rtype
+    → nsec_covering wildcard nsecs ≡ found → is_some found ≡ true → IsMute zone wildcard rtype
 mute_covered zone nsecs wildcard rtype None each e h = absurd (true≢false (sym h))
 mute_covered zone nsecs wildcard rtype (Some nsec) each e h =
     let c = covered zone wildcard nsecs nsec each e in
@@ -193,15 +193,15 @@ denied_missing zone query code nsecs nsec formed holds each c leaf h =
       name = λ is. gone;
     }
   where
-    by : (b : Bool) → cond b (is_some (covering (star (closest_encloser query.owner nsec)) nsecs))
+    by : (b : Bool) → cond b (is_some (nsec_covering (star (closest_encloser query.owner nsec)) nsecs))
         (wildcard_denies query.rtype (star (closest_encloser query.owner nsec)) nsecs) ≡ true
         → IsMute zone (star (closest_encloser query.owner nsec)) query.rtype
     by true h = mute_covered zone nsecs (star (closest_encloser query.owner nsec)) query.rtype
-        (covering (star (closest_encloser query.owner nsec)) nsecs) each refl h
+        (nsec_covering (star (closest_encloser query.owner nsec)) nsecs) each refl h
     by false h = mute_listed zone nsecs (star (closest_encloser query.owner nsec)) query.rtype each h
 
 denied_by : (zone : Zone) (query : Question) (code : ℕ) (nsecs : List OwnedNsec) (found : Option OwnedNsec) → is_zone zone ≡ true
-    → holds_query zone.apex query ≡ true → AllByRecursion (IsTrueNsec zone) nsecs → covering query.owner nsecs ≡ found
+    → holds_query zone.apex query ≡ true → AllByRecursion (IsTrueNsec zone) nsecs → nsec_covering query.owner nsecs ≡ found
     → proved_by_covering query code No nsecs found ≡ true → HasNone query code zone
 denied_by zone query code nsecs None formed holds each e h = absurd (true≢false (sym h))
 denied_by zone query code nsecs (Some nsec) formed holds each e h =
@@ -217,7 +217,7 @@ denied : (zone : Zone) (query : Question) (code : ℕ) (nsecs : List OwnedNsec) 
     → holds_query zone.apex query ≡ true → AllByRecursion (IsTrueNsec zone) nsecs → find (is_owned_by query.owner) nsecs ≡ found
     → proved_at_name query code No nsecs found ≡ true → HasNone query code zone
 denied zone query code nsecs None formed holds each e h =
-    denied_by zone query code nsecs (covering query.owner nsecs) formed holds each refl h
+    denied_by zone query code nsecs (nsec_covering query.owner nsecs) formed holds each refl h
 denied zone query code nsecs (Some nsec) formed holds each e h =
     let f = find_known (is_owned_by query.owner) (IsTrueNsec zone) nsecs nsec each e in
     denied_at zone zone.apex query code nsec formed holds f.known f.passes h
@@ -256,7 +256,7 @@ none_closer zone name labels nsec formed within c leaf h =
     }
 
 expanded_by : (zone : Zone) (query : Question) (code labels : ℕ) (nsecs : List OwnedNsec) (found : Option OwnedNsec) → is_zone zone ≡ true
-    → at_or_above zone.apex query.owner ≡ true → AllByRecursion (IsTrueNsec zone) nsecs → covering query.owner nsecs ≡ found
+    → at_or_above zone.apex query.owner ≡ true → AllByRecursion (IsTrueNsec zone) nsecs → nsec_covering query.owner nsecs ≡ found
     → proved_by_covering query code (Expanded labels) nsecs found ≡ true
     → HasNoneCloser query.owner labels zone
 expanded_by zone query code labels nsecs None formed within each e h = absurd (true≢false (sym h))
@@ -275,7 +275,7 @@ expanded : (zone : Zone) (query : Question) (code labels : ℕ) (nsecs : List Ow
     → at_or_above zone.apex query.owner ≡ true → AllByRecursion (IsTrueNsec zone) nsecs
     → proved_at_name query code (Expanded labels) nsecs found ≡ true → HasNoneCloser query.owner labels zone
 expanded zone query code labels nsecs None formed within each h =
-    expanded_by zone query code labels nsecs (covering query.owner nsecs) formed within each refl h
+    expanded_by zone query code labels nsecs (nsec_covering query.owner nsecs) formed within each refl h
 expanded zone query code labels nsecs (Some nsec) formed within each h = absurd (true≢false (sym h))
 
 -- a Secure verdict on an expanded answer holds in each zone
@@ -306,13 +306,13 @@ expansion_of query apex code answered nsecs proof labels is secure expanded =
 -- ---- covered names
 
 -- a name that a record covers owns no RRset
-covered_is_ownerless : (name : Labels) (nsecs : List OwnedNsec) (nsec : OwnedNsec) → covering name nsecs ≡ Some nsec
+covered_is_ownerless : (name : Labels) (nsecs : List OwnedNsec) (nsec : OwnedNsec) → nsec_covering name nsecs ≡ Some nsec
     → IsOwnerless name nsecs
 covered_is_ownerless name nsecs nsec h =
     λ zone each. let c = covered zone name nsecs nsec each h in spans_no_owner zone nsec name c.is_true c.spanned
 
 numbered_by : (name : Labels) (nsecs : List OwnedNsec) (number : ℕ) (found : Option OwnedNsec) (place : Option ℕ)
-    → covering name nsecs ≡ found
+    → nsec_covering name nsecs ≡ found
     → number_if_covered place found ≡ Some number → IsOwnerless name nsecs
 numbered_by name nsecs number None place e h = let none : None ≡ Some number = h in cc
 numbered_by name nsecs number (Some nsec) place e h = covered_is_ownerless name nsecs nsec e
@@ -322,4 +322,4 @@ pub ownerless_of : (name : Labels) (nsecs : List OwnedNsec) (result : Option ℕ
     → IsOwnerless name nsecs
 unfolding covering_number
 ownerless_of name nsecs result number is found =
-    numbered_by name nsecs number (covering name nsecs) (position (counts_for name nsecs) nsecs) refl (sym is ∙ found)
+    numbered_by name nsecs number (nsec_covering name nsecs) (position (counts_for name nsecs) nsecs) refl (sym is ∙ found)

@@ -11,7 +11,7 @@ use Rattle.dns_model.proofs.EachLemmas.{find_known, find_none}
 use Rattle.dns_model.proofs.NameLemmas.{name_equiv}
 use Rattle.dns_model.proofs.AboveLemmas.{strictly_parts}
 use Rattle.dns_rules.specs.ListedTypes.{has_type, is_cut, lacks_data, is_right_side}
-use Rattle.dns_rules.specs.Covering.{spans, is_nearest, counts_for, is_silent_on, unless_silent, covering}
+use Rattle.dns_rules.specs.Covering.{nsec_spans, is_nearest, counts_for, is_silent_on, unless_silent, nsec_covering}
 use Rattle.dns_rules.specs.Zones.{SetKey, Zone, has_set, is_owner, is_delegation, exists_in, zone_ends_at, is_zone, encloser, is_cut_over, is_dname_over, has_data, from_wildcard, below_cut, lookup, Data, NoData, IsTrueNsec}
 use Rattle.dns_rules.proofs.Members.{IsMember, picked}
 use Rattle.dns_rules.proofs.ZoneLemmas.{has_set_alike, is_owner_alike, is_delegation_alike, has_owner, spans_no_owner}
@@ -20,7 +20,7 @@ use Rattle.dns_rules.proofs.EncloserLemmas.{delegation_is_cut, end_is_owner, no_
 -- ---- the record that covers a name
 
 pub record IsCovering (zone : Zone) (name : Labels) (nsec : OwnedNsec) : Type 0 where
-  pub spanned : spans name nsec ≡ true
+  pub spanned : nsec_spans name nsec ≡ true
   pub speaks : is_silent_on name nsec ≡ false
   pub is_true : IsTrueNsec zone nsec
 
@@ -37,14 +37,14 @@ covered_by zone name nsecs nsec (Some one) each e h =
     let s = covering_speaks name one nsec (is_silent_on name one) refl h in
     let f = find_known (counts_for name nsecs) (IsTrueNsec zone) nsecs one each e in
     record {
-      spanned = ap (spans name) (sym s.0) ∙ (and_parts (spans name one) (is_nearest name nsecs one) f.passes).0;
+      spanned = ap (nsec_spans name) (sym s.0) ∙ (and_parts (nsec_spans name one) (is_nearest name nsecs one) f.passes).0;
       speaks = ap (is_silent_on name) (sym s.0) ∙ s.1;
       is_true = subst (IsTrueNsec zone) s.0 f.known;
     }
 
 pub covered : (zone : Zone) (name : Labels) (nsecs : List OwnedNsec) (nsec : OwnedNsec) → AllByRecursion (IsTrueNsec zone) nsecs
-    → covering name nsecs ≡ Some nsec → IsCovering zone name nsec
-unfolding covering
+    → nsec_covering name nsecs ≡ Some nsec → IsCovering zone name nsec
+unfolding nsec_covering
 covered zone name nsecs nsec each h = covered_by zone name nsecs nsec (find (counts_for name nsecs) nsecs) each refl h
 
 -- ---- the zone's own way to the name

@@ -10,7 +10,7 @@ use Rattle.dns_model.specs.Views.{RrsigValue, DnskeyValue, dnskey_in, is_zone_ke
 use Rattle.dns_model.specs.RecordViews.{rrsig_of, dnskey_of}
 use Rattle.dns_model.specs.Signing.{key_tag_of}
 use Rattle.dns_model.specs.Records.{Rr, RrSet}
-use Rattle.dns_model.specs.Keys.{matches}
+use Rattle.dns_model.specs.Keys.{ds_covers_key}
 use Rattle.dns_model.specs.Chains.{Judge}
 use Rattle.dns_model.proofs.NameLemmas.{name_equiv}
 use Rattle.dns_model.proofs.EachLemmas.{each_more, each_passes, find_agree_each, find_known}
@@ -61,7 +61,7 @@ matched_step j set ds key None is h = cc
 matched_step j set ds key (Some d) is h =
     let For = λ (r : Rr). is_ds_for set.owner key r ≡ true in
     let counted = each_taken For 2 (filter (is_ds_for set.owner key) ds) (each_passes (is_ds_for set.owner key) ds) in
-    let found = find_known (λ r. matches j.answers set.owner key.rdata r.rdata) For (counted_ds set.owner key ds) d counted is in
+    let found = find_known (λ r. ds_covers_key j.answers set.owner key.rdata r.rdata) For (counted_ds set.owner key ds) d counted is in
     let of_key = λ (text : DnskeyValue). option_map_or (λ v. (text.algorithm == v.algorithm)
     && (key_tag_of key.rdata == v.key_tag)) (ds_of d) false in
     typed (key.rtype == type_dnskey) (dnskey_in key.rdata) of_key

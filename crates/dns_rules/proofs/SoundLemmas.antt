@@ -14,7 +14,7 @@ use Rattle.dns_model.specs.RecordViews.{rrsig_of}
 use Rattle.dns_model.specs.Sections.{is_signature, sets_of}
 use Rattle.dns_model.specs.Chains.{LinkValue, Anchored, Matched, KeySet, Signed, Judge, last_link, is_nonempty, rdatas_of, link_is_for}
 use Rattle.dns_model.specs.Trails.{AskedValue}
-use Rattle.dns_model.specs.SoundAnswers.{Told, told_by, PlacedSet, in_section, placed_sets, section_of, is_secure, set_rtype, first_mark, is_secure_set, HasOneMark, HaveOneMark, secure_sets, IsChainOf, ChainValue, deciding_link, ttl_of, first_ttl, signed_ttl, IsSecureTtl, IsKept, Sound}
+use Rattle.dns_model.specs.SoundAnswers.{Told, told_by, PlacedSet, in_section, placed_sets, section_of, is_secure, set_rtype, first_mark, is_secure_set, HasOneMark, HaveOneMark, secure_sets, IsChainOf, ChainValue, deciding_link, ttl_of, first_ttl, signed_ttl, IsSecureTtl, IsRecordKept, Sound}
 use Rattle.dns_model.proofs.EachLemmas.{each_more, each_map, each_unmap, find_agree, find-map, find_known, filter-map, map-map}
 use Rattle.dns_model.proofs.SetLemmas.{name_left, is_of, head_of, BeginsIn, IsSignedIn, KeepsKey, on_set, sets_of-map, rdatas_of-map, placed_each}
 use Rattle.dns_model.proofs.ChainLemmas.{bytes_same}
@@ -146,7 +146,7 @@ chained_secure now cs section before r h =
 kept_one : (j : Judge) (now : ℕ) (m : MessageValue) (cs : List ChainedSet) (section : Section)
     → AreJudged j (placed_sets (told_by (cleared_message m))) cs → (before rest : List Rr) (t : Rr)
     → before ++ cleared t ∷ rest ≡ map cleared (section_of (told_by m) section)
-    → IsKept now (chains_of cs) section (section_of (told_by m) section) t (marked now (bare cs) section before (cleared t))
+    → IsRecordKept now (chains_of cs) section (section_of (told_by m) section) t (marked now (bare cs) section before (cleared t))
 kept_one j now m cs section judged before rest t split =
     let told = told_by (cleared_message m) in
     let ss = bare cs in
@@ -185,11 +185,11 @@ kept_one j now m cs section judged before rest t split =
 
 kept : (j : Judge) (now : ℕ) (m : MessageValue) (cs : List ChainedSet) (section : Section)
     → AreJudged j (placed_sets (told_by (cleared_message m))) cs
-    → ArePaired (IsKept now (chains_of cs) section (section_of (told_by m) section)) (section_of (told_by m) section)
+    → ArePaired (IsRecordKept now (chains_of cs) section (section_of (told_by m) section)) (section_of (told_by m) section)
     (marked_section now (bare cs) section (map cleared (section_of (told_by m) section)))
 kept j now m cs section judged =
     let records = section_of (told_by m) section in
-    kept_after (IsKept now (chains_of cs) section records) (marked now (bare cs) section) cleared (map cleared records) [] records refl
+    kept_after (IsRecordKept now (chains_of cs) section records) (marked now (bare cs) section) cleared (map cleared records) [] records refl
     (kept_one j now m cs section judged)
 
 -- ---- the marks of sets

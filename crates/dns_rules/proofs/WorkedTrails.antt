@@ -17,7 +17,7 @@ use Rattle.dns_model.specs.Chains.{Judge, judge}
 use Rattle.dns_model.specs.SoundAnswers.{Told, PlacedSet}
 use Rattle.dns_model.specs.Trails.{AskedValue, Fault, Answered, Denied, Foreign, Failed}
 use Rattle.dns_model.proofs.Worked.{name_a, signature, anchors}
-use Rattle.dns_rules.specs.Covering.{covering}
+use Rattle.dns_rules.specs.Covering.{nsec_covering}
 use Rattle.dns_rules.specs.NsecVerdict.{closest_encloser, nsec_verdict}
 use Rattle.dns_rules.specs.MarkedSets.{MarkedSet}
 use Rattle.dns_rules.specs.Validity.{validity, is_good_by}
@@ -48,7 +48,7 @@ keys_computed = judged_keys
 
 outcome_computed : Limits → Question → Told → List MarkedSet → Outcome
 unfolding outcome_of answered least nsec3_verdict nsec3_in nsec_in is_bitmap bitmap_has windows_in window_in nsec_verdict
-    covering closest_encloser common_ancestor name_in labels_in label_in
+    nsec_covering closest_encloser common_ancestor name_in labels_in label_in
 outcome_computed = outcome_of
 
 step_computed : Judge → Limits → List EntryValue → List AskedValue → AskedValue → Bool

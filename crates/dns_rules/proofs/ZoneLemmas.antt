@@ -10,7 +10,7 @@ use Rattle.dns_model.specs.Owned.{OwnedNsec}
 use Rattle.dns_model.proofs.NameLemmas.{name_equiv}
 use Rattle.dns_model.proofs.NamesInOrder.{lt_from, le_from_not_lt, le_trans, le_if_alike, not_both}
 use Rattle.dns_model.proofs.EachLemmas.{any_agree}
-use Rattle.dns_rules.specs.Covering.{leads_back, spans}
+use Rattle.dns_rules.specs.Covering.{leads_back, nsec_spans}
 use Rattle.dns_rules.specs.Zones.{SetKey, Zone, has_set, is_owner, is_delegation, zone_ends_at, fits_in, is_zone, is_signing_type, is_last, none_between, is_next, IsTrueNsec}
 use Rattle.dns_rules.proofs.Members.{after_not, not_and, IsMember, picked}
 
@@ -87,11 +87,11 @@ pub data Side (nsec : OwnedNsec) (name owner : Labels) : Type 0 where
   AtOrBefore : is_le (name_cmp owner nsec.owner) ≡ true → Side nsec name owner
   After : name_cmp name nsec.fields.next ≡ Less → is_le (name_cmp nsec.fields.next owner) ≡ true → Side nsec name owner
 
-pub spans_after : (name : Labels) (nsec : OwnedNsec) → spans name nsec ≡ true → name_cmp nsec.owner name ≡ Less
+pub spans_after : (name : Labels) (nsec : OwnedNsec) → nsec_spans name nsec ≡ true → name_cmp nsec.owner name ≡ Less
 spans_after name nsec h = lt_from (name_cmp nsec.owner name) ((and_parts (before nsec.owner name) _ h).0)
 
 -- where the next name comes after the owner, the name spanned comes before it
-spans_before : (name : Labels) (nsec : OwnedNsec) → spans name nsec ≡ true → name_cmp nsec.owner nsec.fields.next ≡ Less
+spans_before : (name : Labels) (nsec : OwnedNsec) → nsec_spans name nsec ≡ true → name_cmp nsec.owner nsec.fields.next ≡ Less
     → name_cmp name nsec.fields.next ≡ Less
 spans_before name nsec h lt = by (or_cases (before name nsec.fields.next) (leads_back nsec
     && at_or_above nsec.fields.next name) ((and_parts (before nsec.owner name) _ h).1))
@@ -115,7 +115,7 @@ sided_in_row zone nsec name set true e lt none m =
 sided_by : (zone : Zone) (nsec : OwnedNsec) (name : Labels) (set : SetKey) (b : Bool) → is_last zone nsec.owner ≡ b
     → cond b (name_eq nsec.fields.next zone.apex) (is_owner zone nsec.fields.next
     && (is_lt (name_cmp nsec.owner nsec.fields.next) && none_between zone nsec.owner nsec.fields.next)) ≡ true
-    → spans name nsec ≡ true → IsMember set zone.sets → Side nsec name set.owner
+    → nsec_spans name nsec ≡ true → IsMember set zone.sets → Side nsec name set.owner
 unfolding is_last
 sided_by zone nsec name set true e next spanned m =
     AtOrBefore (le_from_not_lt nsec.owner set.owner
@@ -127,14 +127,14 @@ sided_by zone nsec name set false e next spanned m =
     sided_in_row zone nsec name set (is_lt (name_cmp nsec.owner set.owner)) refl lt two.1 m
 
 -- an owner is at or before the record's owner, or at or after its next name, and that comes after the name spanned
-pub sided : (zone : Zone) (nsec : OwnedNsec) (name : Labels) (set : SetKey) → IsTrueNsec zone nsec → spans name nsec ≡ true
+pub sided : (zone : Zone) (nsec : OwnedNsec) (name : Labels) (set : SetKey) → IsTrueNsec zone nsec → nsec_spans name nsec ≡ true
     → IsMember set zone.sets
     → Side nsec name set.owner
 unfolding is_next
 sided zone nsec name set t spanned m = sided_by zone nsec name set (is_last zone nsec.owner) refl t.next spanned m
 
 -- a name that a true record spans is no owner
-pub spans_no_owner : (zone : Zone) (nsec : OwnedNsec) (name : Labels) → IsTrueNsec zone nsec → spans name nsec ≡ true
+pub spans_no_owner : (zone : Zone) (nsec : OwnedNsec) (name : Labels) → IsTrueNsec zone nsec → nsec_spans name nsec ≡ true
     → is_owner zone name ≡ false
 unfolding is_owner
 spans_no_owner zone nsec name t spanned = false_from_ne_true _ (λ h.

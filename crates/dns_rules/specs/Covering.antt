@@ -13,16 +13,16 @@ abbrev pub leads_back : OwnedNsec → Bool
 leads_back nsec = is_le (name_cmp nsec.fields.next nsec.owner)
 
 -- the name comes after the owner and before the next owner; after the last owner, it is at or below the apex (RFC 4035, 5.4)
-abbrev pub spans : Labels → OwnedNsec → Bool
-spans name nsec = before nsec.owner name && (before name nsec.fields.next || (leads_back nsec && at_or_above nsec.fields.next name))
+abbrev pub nsec_spans : Labels → OwnedNsec → Bool
+nsec_spans name nsec = before nsec.owner name && (before name nsec.fields.next || (leads_back nsec && at_or_above nsec.fields.next name))
 
 -- no record of the list that spans the name has an owner nearer to it
 abbrev pub is_nearest : Labels → List OwnedNsec → OwnedNsec → Bool
-is_nearest name nsecs nsec = list_all (λ other. not (spans name other && before nsec.owner other.owner)) nsecs
+is_nearest name nsecs nsec = list_all (λ other. not (nsec_spans name other && before nsec.owner other.owner)) nsecs
 
 -- of the records that span the name, one with the greatest owner
 abbrev pub counts_for : Labels → List OwnedNsec → OwnedNsec → Bool
-counts_for name nsecs nsec = spans name nsec && is_nearest name nsecs nsec
+counts_for name nsecs nsec = nsec_spans name nsec && is_nearest name nsecs nsec
 
 -- ---- below a zone cut or a DNAME
 
@@ -36,8 +36,8 @@ unless_silent name (Some nsec) = if is_silent_on name nsec then None else Some n
 
 -- the record that covers the name: of those that span it the first with the greatest owner; where that one tells nothing
 -- of the name, none
-unfoldable pub covering : Labels → List OwnedNsec → Option OwnedNsec
-covering name nsecs = unless_silent name (find (counts_for name nsecs) nsecs)
+unfoldable pub nsec_covering : Labels → List OwnedNsec → Option OwnedNsec
+nsec_covering name nsecs = unless_silent name (find (counts_for name nsecs) nsecs)
 
 abbrev pub number_if_covered : Option ℕ → Option OwnedNsec → Option ℕ
 number_if_covered number None = None
@@ -45,4 +45,4 @@ number_if_covered number (Some nsec) = number
 
 -- the number of the record that covers the name, from 0
 unfoldable pub covering_number : Labels → List OwnedNsec → Option ℕ
-covering_number name nsecs = number_if_covered (position (counts_for name nsecs) nsecs) (covering name nsecs)
+covering_number name nsecs = number_if_covered (position (counts_for name nsecs) nsecs) (nsec_covering name nsecs)

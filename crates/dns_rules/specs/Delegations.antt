@@ -11,7 +11,7 @@ use Rattle.dns_model.specs.Views.{DsValue, ds_in, nsec_in}
 use Rattle.dns_model.specs.Records.{Rr, Question}
 use Rattle.dns_model.specs.RecordViews.{dnskey_of}
 use Rattle.dns_model.specs.Signing.{key_tag_of}
-use Rattle.dns_model.specs.Keys.{VerifierAnswers, matches}
+use Rattle.dns_model.specs.Keys.{VerifierAnswers, ds_covers_key}
 use Rattle.dns_model.specs.SoundAnswers.{section_eq, is_secure}
 use Rattle.dns_rules.specs.MarkedSets.{MarkedSet}
 use Rattle.dns_rules.specs.ListedTypes.{is_unsigned_cut}
@@ -50,7 +50,7 @@ counted_ds owner key records = take 2 (filter (is_ds_for owner key) records)
 
 -- the first DS that counts and whose digest is that of owner and key
 abbrev pub matching_ds : VerifierAnswers → Labels → Rr → List Rr → Option Rr
-matching_ds verifier owner key records = find (λ r. matches verifier owner key.rdata r.rdata) (counted_ds owner key records)
+matching_ds verifier owner key records = find (λ r. ds_covers_key verifier owner key.rdata r.rdata) (counted_ds owner key records)
 
 -- ---- what the answer to the ask for a zone's DS set says of the zone
 

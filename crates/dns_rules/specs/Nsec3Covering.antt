@@ -49,12 +49,12 @@ lies_between from to hash =
 -- ---- the records that match or cover a hash
 
 -- the record's owner has the hash (RFC 5155, 1.3: to match)
-abbrev pub matches : List ℕ → OwnedNsec3 → Bool
-matches hash nsec3 = is_considered nsec3 && pointwise nat_eq (owner_hash nsec3) hash
+abbrev pub nsec3_matches : List ℕ → OwnedNsec3 → Bool
+nsec3_matches hash nsec3 = is_considered nsec3 && pointwise nat_eq (owner_hash nsec3) hash
 
 -- the hash comes between the owner's hash and the next one (RFC 5155, 1.3: to cover)
-abbrev pub spans : List ℕ → OwnedNsec3 → Bool
-spans hash nsec3 = is_considered nsec3 && lies_between (owner_hash nsec3) nsec3.fields.next hash
+abbrev pub nsec3_spans : List ℕ → OwnedNsec3 → Bool
+nsec3_spans hash nsec3 = is_considered nsec3 && lies_between (owner_hash nsec3) nsec3.fields.next hash
 
 -- the second record's owner hash is nearer before the hash than the first one's
 abbrev pub is_farther : List ℕ → OwnedNsec3 → OwnedNsec3 → Bool
@@ -62,15 +62,15 @@ is_farther hash one two = lies_between (owner_hash one) hash (owner_hash two)
 
 -- no record of the list that covers the hash has an owner hash nearer before it
 abbrev pub is_nearest : List ℕ → List OwnedNsec3 → OwnedNsec3 → Bool
-is_nearest hash nsec3s nsec3 = list_all (λ other. not (spans hash other && is_farther hash nsec3 other)) nsec3s
+is_nearest hash nsec3s nsec3 = list_all (λ other. not (nsec3_spans hash other && is_farther hash nsec3 other)) nsec3s
 
 -- of the records that cover the hash, one whose owner hash is the nearest before it
 abbrev pub counts_for : List ℕ → List OwnedNsec3 → OwnedNsec3 → Bool
-counts_for hash nsec3s nsec3 = spans hash nsec3 && is_nearest hash nsec3s nsec3
+counts_for hash nsec3s nsec3 = nsec3_spans hash nsec3 && is_nearest hash nsec3s nsec3
 
 -- the record that covers the hash: of those the first with the nearest owner hash
-unfoldable pub covering : List ℕ → List OwnedNsec3 → Option OwnedNsec3
-covering hash nsec3s = find (counts_for hash nsec3s) nsec3s
+unfoldable pub nsec3_covering : List ℕ → List OwnedNsec3 → Option OwnedNsec3
+nsec3_covering hash nsec3s = find (counts_for hash nsec3s) nsec3s
 
 -- its number, from 0
 unfoldable pub covering_number : List ℕ → List OwnedNsec3 → Option ℕ

@@ -13,7 +13,7 @@ use Rattle.dns_model.specs.declared.answered.Answered.{Answered}
 use Rattle.dns_model.specs.declared.answered.Answered.TheVariants.{No, Plain, Expanded}
 use Rattle.dns_rules.specs.ListedTypes.{ends_zone, is_unanswered, proved_by_owner, wildcard_lacks, is_unsigned_cut}
 use Rattle.dns_rules.specs.NsecVerdict.{secure_if, holds_query, is_plain}
-use Rattle.dns_rules.specs.Nsec3Covering.{is_considered, is_opt_out, matches, covering}
+use Rattle.dns_rules.specs.Nsec3Covering.{is_considered, is_opt_out, nsec3_matches, nsec3_covering}
 
 -- ---- the zone and its parameters
 
@@ -60,7 +60,7 @@ unfoldable pub nearest_match : Parameters → Labels → List OwnedNsec3 → Lab
 nearest_match by zone nsec3s [] = None
 nearest_match by zone nsec3s (label ∷ above) =
     if not (at_or_above zone above) then None
-    else or_further above (find (matches (hashed by above)) nsec3s) (nearest_match by zone nsec3s above)
+    else or_further above (find (nsec3_matches (hashed by above)) nsec3s) (nearest_match by zone nsec3s above)
 
 abbrev pub unless_ended : Option (Labels × OwnedNsec3) → Option Labels
 unless_ended None = None
@@ -77,7 +77,7 @@ next_closer encloser name = last_labels (length encloser + 1) name
 
 -- the record that covers a name
 abbrev pub covering_name : Parameters → List OwnedNsec3 → Labels → Option OwnedNsec3
-covering_name by nsec3s name = covering (hashed by name) nsec3s
+covering_name by nsec3s name = nsec3_covering (hashed by name) nsec3s
 
 -- ---- a name error (RFC 5155, 8.4)
 
@@ -105,7 +105,7 @@ no_closer_name by zone nsec3s name labels =
 -- some record of the wildcard shows that it has no data of the type (RFC 5155, 8.7)
 abbrev pub wildcard_denies : Parameters → ℕ → List OwnedNsec3 → Labels → Bool
 wildcard_denies by rtype nsec3s wildcard =
-    list_any (λ nsec3. matches (hashed by wildcard) nsec3 && wildcard_lacks rtype nsec3.fields.types) nsec3s
+    list_any (λ nsec3. nsec3_matches (hashed by wildcard) nsec3 && wildcard_lacks rtype nsec3.fields.types) nsec3s
 
 abbrev pub no_data_below : Parameters → ℕ → List OwnedNsec3 → Labels → Option OwnedNsec3 → Bool
 no_data_below by rtype nsec3s encloser None = false
@@ -148,7 +148,7 @@ verdict_by query zone code answered nsec3s soft hard (Some by) =
     else if is_plain answered then Bogus
     -- a name error has no answer
     else if (code == code_nx_domain) && not (is_unanswered answered) then Bogus
-    else verdict_at_name by query zone code answered nsec3s (find (matches (hashed by query.owner)) nsec3s)
+    else verdict_at_name by query zone code answered nsec3s (find (nsec3_matches (hashed by query.owner)) nsec3s)
 
 -- what the NSEC3 records of a zone prove of a response to a query
 unfoldable pub nsec3_verdict : Question → Labels → ℕ → Answered → List OwnedNsec3 → ℕ → ℕ → Proof
@@ -178,7 +178,7 @@ is_unsigned_at by zone nsec3s child None = may_be_unsigned by nsec3s child (prov
 abbrev pub is_unsigned_by : Labels → List OwnedNsec3 → Labels → Option Parameters → Bool
 is_unsigned_by zone nsec3s child None = false
 is_unsigned_by zone nsec3s child (Some by) =
-    is_unsigned_at by zone nsec3s child (find (matches (hashed by child)) nsec3s)
+    is_unsigned_at by zone nsec3s child (find (nsec3_matches (hashed by child)) nsec3s)
 
 abbrev pub is_unsigned_in : Labels → List OwnedNsec3 → Labels → Bool
 is_unsigned_in zone nsec3s child =

@@ -13,7 +13,7 @@ use Rattle.dns_model.specs.declared.proof.Proof.TheVariants.{Secure, Bogus}
 use Rattle.dns_model.specs.declared.answered.Answered.{Answered}
 use Rattle.dns_model.specs.declared.answered.Answered.TheVariants.{No, Plain, Expanded}
 use Rattle.dns_rules.specs.ListedTypes.{is_unanswered, proved_by_owner, wildcard_lacks}
-use Rattle.dns_rules.specs.Covering.{covering}
+use Rattle.dns_rules.specs.Covering.{nsec_covering}
 
 abbrev pub secure_if : Bool → Proof
 secure_if proved = if proved then Secure else Bogus
@@ -53,7 +53,7 @@ missing_name (Expanded labels) code rtype encloser nsecs = (code == code_no_erro
 missing_name Plain code rtype encloser nsecs = false
 missing_name No code rtype encloser nsecs =
     -- a name error: no wildcard is there (RFC 4035, 5.4)
-    if code == code_nx_domain then is_some (covering (star encloser) nsecs)
+    if code == code_nx_domain then is_some (nsec_covering (star encloser) nsecs)
     -- no data: the wildcard is there, without the type (RFC 4035, 3.1.3.4)
     else wildcard_denies rtype (star encloser) nsecs
 
@@ -70,7 +70,7 @@ proved_by_covering query code answered nsecs (Some nsec) =
 abbrev pub proved_at_name : Question → ℕ → Answered → List OwnedNsec → Option OwnedNsec → Bool
 -- the name has a record
 proved_at_name query code answered nsecs (Some nsec) = proved_by_owner query.rtype code answered nsec.fields.types
-proved_at_name query code answered nsecs None = proved_by_covering query code answered nsecs (covering query.owner nsecs)
+proved_at_name query code answered nsecs None = proved_by_covering query code answered nsecs (nsec_covering query.owner nsecs)
 
 -- what the NSEC records of a zone prove of a response to a query
 unfoldable pub nsec_verdict : Question → Labels → ℕ → Answered → List OwnedNsec → Proof

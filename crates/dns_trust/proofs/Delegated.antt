@@ -18,7 +18,7 @@ use Rattle.dns_model.specs.Records.{Rr}
 use Rattle.dns_model.specs.RecordViews.{dnskey_of}
 use Rattle.dns_model.specs.Views.{DnskeyValue}
 use Rattle.dns_model.specs.Signing.{key_tag_of}
-use Rattle.dns_model.specs.Keys.{VerifierAnswers, matches}
+use Rattle.dns_model.specs.Keys.{VerifierAnswers, ds_covers_key}
 use Rattle.dns_rules.specs.Delegations.{ds_of, is_digest_type, counted_ds, matching_ds}
 use Rattle.dns_rdata.specs.Covers.{digest_type_of}
 use Rattle.dns_trust.specs.Delegating.{KeepsFirstTwo, counted_after, counted_at, is_delegation_at, kept_two, algorithm_and_tag, algorithm_tag_cmp, shown, shown_or_none}
@@ -152,7 +152,7 @@ no_ds owner (r ∷ records) = skipped (name_eq owner r.owner) r (filter (λ r. n
 pub no_key_matched : (answers : VerifierAnswers) (owner : Labels) (key : Rr) (records : List Rr) → dnskey_of key ≡ None
     → matching_ds answers owner key records ≡ None
 no_key_matched answers owner key records is =
-    let test = λ (r : Rr). matches answers owner key.rdata r.rdata in
+    let test = λ (r : Rr). ds_covers_key answers owner key.rdata r.rdata in
     ap (λ o. find test (take 2 (filter (λ r. name_eq owner r.owner
     && option_map_or (λ k. option_map_or (λ ds. (k.algorithm == ds.algorithm) && (key_tag_of key.rdata == ds.key_tag)) (ds_of r) false)
     o false) records))) is
@@ -211,10 +211,10 @@ module _ {Z : Type 0} (answers : VerifierAnswers) (owner : Labels) (key : Rr) (r
     (m : BTreeMap (ℕ × ℕ) (Vec (Bor Rr) Z)) where
   match_step : (pair : ℕ × ℕ) (o : Option DnskeyValue) → dnskey_of key ≡ o → algorithm_and_tag key.rdata o ≡ Some pair
       → KeepsFirstTwo owner records m
-      → matching_ds answers owner key records ≡ find (λ r. matches answers owner key.rdata r.rdata) (counted_at m pair.0 pair.1)
+      → matching_ds answers owner key records ≡ find (λ r. ds_covers_key answers owner key.rdata r.rdata) (counted_at m pair.0 pair.1)
   match_step pair None is at counted = cc
   match_step pair (Some text) is at counted =
-      let test = λ (r : Rr). matches answers owner key.rdata r.rdata in
+      let test = λ (r : Rr). ds_covers_key answers owner key.rdata r.rdata in
       let same : (text.algorithm, key_tag_of key.rdata) ≡ pair = cc in
       ap (find test) (counted_for owner key records text is ∙ sym (counted text.algorithm (key_tag_of key.rdata)))
       ∙ ap (λ (p : ℕ × ℕ). find test (counted_at m p.0 p.1)) same
@@ -223,10 +223,10 @@ module _ {Z : Type 0} (answers : VerifierAnswers) (owner : Labels) (key : Rr) (r
   pub match_there : (pair : ℕ × ℕ) (there : Vec (Bor Rr) Z) → algorithm_and_tag key.rdata (dnskey_of key) ≡ Some pair
       → KeepsFirstTwo owner records m
       → Some there ≡ get algorithm_tag_cmp m pair
-      → find (λ r. matches answers owner key.rdata r.rdata) (shown there.items) ≡ matching_ds answers owner key records
+      → find (λ r. ds_covers_key answers owner key.rdata r.rdata) (shown there.items) ≡ matching_ds answers owner key records
   unfolding counted_at
   match_there pair there at counted is =
-      ap (λ o. find (λ r. matches answers owner key.rdata r.rdata) (shown_or_none o)) is
+      ap (λ o. find (λ r. ds_covers_key answers owner key.rdata r.rdata) (shown_or_none o)) is
       ∙ sym (match_step pair (dnskey_of key) refl at counted)
 
   -- none are
@@ -235,7 +235,7 @@ module _ {Z : Type 0} (answers : VerifierAnswers) (owner : Labels) (key : Rr) (r
   unfolding counted_at
   match_none pair at counted is =
       match_step pair (dnskey_of key) refl at counted
-      ∙ sym (ap (λ o. find (λ r. matches answers owner key.rdata r.rdata) (shown_or_none o)) is)
+      ∙ sym (ap (λ o. find (λ r. ds_covers_key answers owner key.rdata r.rdata) (shown_or_none o)) is)
 
 -- ---- the digest types that are supported
 

@@ -5,7 +5,7 @@ ghost use Rattle.std.specs.List.{filter, find};
 ghost use Rattle.std.specs.Option.{option_copied};
 ghost use Rattle.dns_model.specs.Views.{dnskey_in};
 ghost use Rattle.dns_model.specs.RecordViews.{dnskey_of};
-ghost use Rattle.dns_model.specs.Keys.{matches};
+ghost use Rattle.dns_model.specs.Keys.{ds_covers_key};
 ghost use Rattle.dns_rules.specs.Delegations.{is_supported_ds as is_supported_record, is_ds_for as is_record_for, matching_ds as matching_record};
 ghost use Rattle.dns_trust.specs.Delegating.{shown, counted_at, counted_after, algorithm_and_tag, KeepsFirstTwo, is_delegation_at};
 
@@ -234,7 +234,7 @@ fn first_match<'a, V: Verifier>(
     records: &[&'a Record],
 ) -> Option<&'a Record>
     ensures { option_copied result ≡
-        find (λ r. matches (V.answers verifier.now) owner.now key.now.rdata r.rdata) (shown records.now) }
+        find (λ r. ds_covers_key (V.answers verifier.now) owner.now key.now.rdata r.rdata) (shown records.now) }
 {
     for ds in records {
         let ds = *ds;
@@ -247,14 +247,14 @@ fn first_match<'a, V: Verifier>(
 
 // The rdata of a record, as that of a DS, matches that of a key of an owner.
 fn is_match<V: Verifier>(verifier: &V, owner: &Name, key: &Record, ds: &Record) -> bool
-    ensures { result ≡ matches (V.answers verifier.now) owner.now key.now.rdata ds.now.rdata }
+    ensures { result ≡ ds_covers_key (V.answers verifier.now) owner.now key.now.rdata ds.now.rdata }
 {
     ds_matches(verifier, owner, key.rdata.as_slice(), ds.rdata.as_slice())
 }
 
 /// The rdata of a DS matches that of a key of an owner (RFC 4034, 5.1.4).
 pub fn ds_matches<V: Verifier>(verifier: &V, owner: &Name, key: &[u8], ds: &[u8]) -> bool
-    ensures { result ≡ matches (V.answers verifier.now) owner.now key.now ds.now }
+    ensures { result ≡ ds_covers_key (V.answers verifier.now) owner.now key.now ds.now }
 {
     let Some((algorithm, tag)) = algorithm_and_tag_in(key) else {
         return false;

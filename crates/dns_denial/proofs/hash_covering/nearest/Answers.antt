@@ -1,6 +1,6 @@
 use Rattle.std.proofs.Common.{◌≡◌, ℕ, ◌+◌, Option, length, option_map, subst, sym, ◌∙◌, arith}
 use Rattle.dns_model.specs.Owned.{OwnedNsec3}
-use Rattle.dns_rules.specs.Nsec3Covering.{spans, is_farther}
+use Rattle.dns_rules.specs.Nsec3Covering.{nsec3_spans, is_farther}
 use Rattle.dns_denial.proofs.Best.{IsBestOf, IsFound, best_counts, best_more, best_found, is_top, lent_number, lent_element}
 use Rattle.dns_denial.proofs.HashOrder.{farther_ranked}
 use Rattle.dns_denial.proofs.hash_covering.nearest.Goals as goal
@@ -8,7 +8,7 @@ use Rattle.dns_denial.proofs.hash_covering.nearest.Goals.{After-loop-place}
 
 pub nearer-best-requires : goal.nearer-best-requires
 nearer-best-requires c =
-    best_counts (spans c.args.hash.now) (is_farther c.args.hash.now) c.args.nsec3s.now c.loop-place.place
+    best_counts (nsec3_spans c.args.hash.now) (is_farther c.args.hash.now) c.args.nsec3s.now c.loop-place.place
     (option_map (λ p. (p.0, p.1.now)) c.loop-place.best) c.loop-place.invariant
 
 pub loop-place-preserved : goal.loop-place-preserved
@@ -17,12 +17,12 @@ loop-place-preserved c =
     let nsec3s = c.args.nsec3s.now in
     let best : Option (ℕ × OwnedNsec3) = option_map (λ p. (p.0, p.1.now)) c.loop-place.best in
     let more =
-    best_more (spans hash) (is_farther hash) (farther_ranked hash) nsec3s c.loop-place.place
+    best_more (nsec3_spans hash) (is_farther hash) (farther_ranked hash) nsec3s c.loop-place.place
     c.index-nsec3s-place.result best c.loop-place-test.true c.index-nsec3s-place.is c.loop-place.invariant in
-    subst (IsBestOf (spans hash) (is_farther hash) nsec3s (c.loop-place.place + 1)) (sym c.nearer-best.ensures) more
+    subst (IsBestOf (nsec3_spans hash) (is_farther hash) nsec3s (c.loop-place.place + 1)) (sym c.nearer-best.ensures) more
 
 abbrev found_at : (c : After-loop-place)
-    → IsFound (is_top (spans c.args.hash.now) (is_farther c.args.hash.now) c.args.nsec3s.now) c.args.nsec3s.now
+    → IsFound (is_top (nsec3_spans c.args.hash.now) (is_farther c.args.hash.now) c.args.nsec3s.now) c.args.nsec3s.now
     (option_map (λ p. (p.0, p.1.now)) c.loop-place.best)
 found_at c =
     let hash = c.args.hash.now in
@@ -30,8 +30,8 @@ found_at c =
     let best : Option (ℕ × OwnedNsec3) = option_map (λ p. (p.0, p.1.now)) c.loop-place.best in
     let all : c.loop-place.place ≡ length nsec3s = omega
     (arith, c.loop-place-test.false, c.loop-place.auto.place-end) in
-    best_found (spans hash) (is_farther hash) nsec3s best
-    (subst (λ (n : ℕ). IsBestOf (spans hash) (is_farther hash) nsec3s n best) all c.loop-place.invariant)
+    best_found (nsec3_spans hash) (is_farther hash) nsec3s best
+    (subst (λ (n : ℕ). IsBestOf (nsec3_spans hash) (is_farther hash) nsec3s n best) all c.loop-place.invariant)
 
 pub returns-clause-number : goal.returns-clause-number
 returns-clause-number c = lent_number (λ x. x.now) c.loop-place.best ∙ (found_at c).number

@@ -1,7 +1,7 @@
 use Rattle.std.proofs.Common.{◌≡◌, true, false, None, Some, sym, ap, ◌∙◌, length, arith, rules}
 use Rattle.std.specs.List.{find}
 use Rattle.dns_model.specs.Names.{at_or_above}
-use Rattle.dns_rules.specs.Nsec3Covering.{matches}
+use Rattle.dns_rules.specs.Nsec3Covering.{nsec3_matches}
 use Rattle.dns_rules.specs.Nsec3Verdict.{nearest_match}
 use Rattle.dns_denial.specs.Counts.{steps_above}
 use Rattle.dns_denial.proofs.Counts.{steps_more}
@@ -22,8 +22,8 @@ pub names-preserved : goal.names-preserved
 names-preserved g c =
     let above = c.in-Some.above in
     let inside : at_or_above c.args.zone.now above ≡ true = search rules in
-    let none : find (matches c.hash-higher.result) (g.R.Nsec3Records.records c.args.records.now) ≡ None = search rules in
-    let missing = ap (λ h. find (matches h) (g.R.Nsec3Records.records c.args.records.now)) (sym c.hash-higher.ensures.hash)
+    let none : find (nsec3_matches c.hash-higher.result) (g.R.Nsec3Records.records c.args.records.now) ≡ None = search rules in
+    let missing = ap (λ h. find (nsec3_matches h) (g.R.Nsec3Records.records c.args.records.now)) (sym c.hash-higher.ensures.hash)
     ∙ none in
     let most = g.R.Nsec3Records.most_steps c.args.records.now in
     let one = ap (steps_above most) c.in-Some.ensures ∙ steps_more most _ above in
@@ -54,8 +54,8 @@ returns-in-Some-matching-clause-found g c =
     let above = c.in-Some.above in
     let nsec3 = c.in-Some-matching.nsec3.now in
     let inside : at_or_above zone above ≡ true = search rules in
-    let found : find (matches c.hash-higher.result) nsec3s ≡ Some nsec3 = search rules in
-    let there = ap (λ h. find (matches h) nsec3s) (sym c.hash-higher.ensures.hash) ∙ found in
+    let found : find (nsec3_matches c.hash-higher.result) nsec3s ≡ Some nsec3 = search rules in
+    let there = ap (λ h. find (nsec3_matches h) nsec3s) (sym c.hash-higher.ensures.hash) ∙ found in
     let here = match_here by zone nsec3s _ above nsec3 inside there in
     sym (sym c.names.invariant.left.same ∙ ap (nearest_match by zone nsec3s) c.in-Some.ensures ∙ here)
 

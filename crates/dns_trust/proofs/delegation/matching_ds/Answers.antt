@@ -1,6 +1,6 @@
 use Rattle.std.proofs.Common.{◌<◌, ◌∙◌, sym, arith}
 use Rattle.dns_model.specs.Records.{Rr}
-use Rattle.dns_model.specs.Keys.{matches}
+use Rattle.dns_model.specs.Keys.{ds_covers_key}
 use Rattle.dns_rules.specs.Delegations.{is_ds_for}
 use Rattle.dns_trust.proofs.Delegated.{met_here, met_past, unmet_past}
 use Rattle.dns_trust.proofs.delegation.matching_ds.Goals as goal
@@ -8,7 +8,7 @@ use Rattle.dns_trust.proofs.delegation.matching_ds.Goals.{then-is_ds_for+else-is
 
 pub returns-then-is_match : goal.returns-then-is_match
 returns-then-is_match g c =
-    let test = λ (r : Rr). matches (g.V.Verifier.answers c.args.verifier.now) c.args.owner.now c.args.key.now.rdata r.rdata in
+    let test = λ (r : Rr). ds_covers_key (g.V.Verifier.answers c.args.verifier.now) c.args.owner.now c.args.key.now.rdata r.rdata in
     let few : c.loop-ds.counted < 2 = omega arith in
     sym (met_here test (is_ds_for c.args.owner.now c.args.key.now) c.args.records.now c.loop-ds.ds-index c.loop-ds.counted
     c.ds-item.result few
@@ -17,7 +17,7 @@ returns-then-is_match g c =
 
 pub loop-ds-preserved : goal.loop-ds-preserved
 loop-ds-preserved g c =
-    let test = λ (r : Rr). matches (g.V.Verifier.answers c.args.verifier.now) c.args.owner.now c.args.key.now.rdata r.rdata in
+    let test = λ (r : Rr). ds_covers_key (g.V.Verifier.answers c.args.verifier.now) c.args.owner.now c.args.key.now.rdata r.rdata in
     let few : c.loop-ds.counted < 2 = omega arith in
     elim c.if-is_ds_for.branch [
       | then-is_ds_for+else-is_match w ↦ rw w.counted-is (

@@ -1,6 +1,6 @@
 use Rattle.std.proofs.Common.{◌≡◌, ◌-◌, ◌≤◌, drop, take}
 use Rattle.std.specs.List.{filter, find}
-use Rattle.dns_model.specs.Keys.{matches}
+use Rattle.dns_model.specs.Keys.{ds_covers_key}
 use Rattle.dns_rules.specs.Delegations.{is_ds_for, matching_ds}
 use Rattle.dns_trust.proofs.delegation.matching_ds.Given as goal
 
@@ -8,6 +8,6 @@ use Rattle.dns_trust.proofs.delegation.matching_ds.Given as goal
 abbrev pub invariant-loop-ds : goal.invariant-loop-ds
 invariant-loop-ds g l =
     (l.counted ≤ 2)
-    × (find (λ r. matches (g.V.Verifier.answers l.verifier) l.owner l.key.rdata r.rdata)
+    × (find (λ r. ds_covers_key (g.V.Verifier.answers l.verifier) l.owner l.key.rdata r.rdata)
     (take (2 - l.counted) (filter (is_ds_for l.owner l.key) (drop l.ds-index l.records)))
     ≡ matching_ds (g.V.Verifier.answers l.verifier) l.owner l.key l.records)

@@ -2,7 +2,7 @@ use Rattle.std.proofs.Common.{◌≡◌, None, subst, sym, ap, ◌∙◌}
 use Rattle.std.specs.List.{find}
 use Rattle.std.specs.Option.{option_copied}
 use Rattle.dns_model.specs.Records.{Rr}
-use Rattle.dns_model.specs.Keys.{matches}
+use Rattle.dns_model.specs.Keys.{ds_covers_key}
 use Rattle.dns_rules.specs.Delegations.{matching_ds}
 use Rattle.dns_trust.specs.Delegating.{DsIndexValue, shown}
 use Rattle.dns_trust.proofs.Delegated.{match_unread, match_none, match_there}
@@ -29,7 +29,7 @@ returns g c =
     let owner = c.self.inside.owner.now in
     subst (λ (d : DsIndexValue). option_copied c.first_match.result ≡ matching_ds answers d.owner c.args.key.now d.records) c.self.view_is
     (c.first_match.ensures
-    ∙ ap (λ rs. find (λ (r : Rr). matches answers owner c.args.key.now.rdata r.rdata) (shown rs)) c.as_slice.ensures.value
+    ∙ ap (λ rs. find (λ (r : Rr). ds_covers_key answers owner c.args.key.now.rdata r.rdata) (shown rs)) c.as_slice.ensures.value
     ∙ match_there answers owner c.args.key.now (shown c.self.inside.records.items) c.self.inside.counted c.in_ok-pair.pair
     c.in_ok-counted.counted.now
     (sym c.algorithm_and_tag_of.ensures ∙ c.in_ok-pair.was) c.self.invariant c.in_ok-counted.ensures.value)
