@@ -87,18 +87,21 @@ fn key_signatures(alloc: Global, zone: &Name, section: &[Record]) -> Result<Vec<
     Ok(all)
 }
 
+// Whether a record stands at the zone's name, in class IN.
 fn is_of_zone(zone: &Name, of: &Record) -> bool
     ensures { result ≡ is_of_zone_in zone.now of.now }
 {
     *zone == of.name && of.dns_class == DNSClass::IN
 }
 
+// Whether a record is one of the zone's keys.
 fn is_key_record(zone: &Name, of: &Record) -> bool
     ensures { result ≡ is_key_record_in zone.now of.now }
 {
     is_of_zone(zone, of) && of.record_type == RecordType::DNSKEY
 }
 
+// Whether a record is a signature over the zone's keys.
 fn is_key_signature(zone: &Name, of: &Record) -> bool
     ensures { result ≡ is_key_signature_in zone.now of.now }
 {

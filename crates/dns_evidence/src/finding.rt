@@ -60,6 +60,7 @@ pub fn mix_lowered(seed: u64, bytes: &[u8]) -> u64
     number
 }
 
+// A number mixed with one byte.
 fn mix_once(seed: u64, byte: u8) -> u64
     ensures { result ≡ mixed_once seed byte }
 {

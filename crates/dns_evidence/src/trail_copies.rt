@@ -5,6 +5,7 @@ ghost use Rattle.dns_evidence.specs.Trail.{ending_value, heard_value};
 use crate::{Asked, Ending, JudgedSet, Reply, Told, Trail};
 use dns_record::{NoMemory, clone_records};
 
+// A copy of a step's sets.
 fn clone_sets(sets: &Vec<JudgedSet>) -> Result<Vec<JudgedSet>, NoMemory>
     ensures { IfOk result (λ v. v.items ≡ sets.now.items) }
 {
@@ -15,6 +16,7 @@ fn clone_sets(sets: &Vec<JudgedSet>) -> Result<Vec<JudgedSet>, NoMemory>
     Ok(all)
 }
 
+// A copy of a trail's steps.
 fn clone_steps(steps: &Vec<Asked>) -> Result<Vec<Asked>, NoMemory>
     ensures { IfOk result (λ v. v.items ≡ steps.now.items) }
 {

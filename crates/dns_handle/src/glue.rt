@@ -19,6 +19,7 @@ use std::collections::BTreeMap;
 /// would where a hash can be foreseen.
 type Addresses = BTreeMap<Octets, Vec<Record>>;
 
+// Whether a record is an address, of either kind.
 fn is_address(of: &Record) -> bool
     ensures { result ≡ is_address of.now }
 {

@@ -5,6 +5,7 @@ ghost use Rattle.dns_handle.specs.LetterCase.{byte_cased, is_chosen, label_cased
 use dns_record::{Name, NoMemory, Octets};
 use std::alloc::Global;
 
+// A letter in the other case.
 fn other_case(letter: u8) -> u8
     ensures { result ≡ other_case letter }
 {

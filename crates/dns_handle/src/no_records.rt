@@ -61,6 +61,7 @@ impl Model for ForwardNSData {
     ghost view = { λ f. record { ns = f.ns; glue = f.glue.items } };
 }
 
+// A copy of the name servers of a referral.
 fn clone_forwarded(all: &Vec<ForwardNSData>) -> Result<Vec<ForwardNSData>, NoMemory>
     ensures { IfOk result (λ v. v.items ≡ all.now.items) }
 {

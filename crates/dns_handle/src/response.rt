@@ -28,6 +28,7 @@ impl Model for DnsResponse {
     ghost view = { λ r. record { message = r.message; chains = r.chains.items; denial = r.denial; trail = r.trail } };
 }
 
+// A copy of a response's chains.
 fn clone_chains(chains: &Vec<Chain>) -> Result<Vec<Chain>, NoMemory>
     ensures { IfOk result (λ v. v.items ≡ chains.now.items) }
 {

@@ -45,6 +45,7 @@ impl Piece {
         Ok(Piece { entries })
     }
 
+    // How many entries there are.
     fn len(&self) -> usize
         ensures { result ≡ length self.now }
     {

@@ -128,6 +128,7 @@ fn len_of(request: &Option<Octets>) -> usize
     }
 }
 
+// A copy of a request's bytes. It shares their octets.
 fn copy_of(request: &Option<Octets>) -> Result<Option<Octets>, NoMemory>
     ensures { IfOk result (λ copy. copy ≡ request.now) }
 {

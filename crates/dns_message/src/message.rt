@@ -121,6 +121,7 @@ impl Model for Message {
     } };
 }
 
+// A copy of a message's questions.
 fn clone_queries(queries: &Vec<Query>) -> Result<Vec<Query>, NoMemory>
     ensures { IfOk result (λ v. v.items ≡ queries.now.items) }
 {
@@ -131,6 +132,7 @@ fn clone_queries(queries: &Vec<Query>) -> Result<Vec<Query>, NoMemory>
     Ok(all)
 }
 
+// A copy of a message's EDNS, where it has any.
 fn clone_edns(edns: &Option<Edns>) -> Result<Option<Edns>, NoMemory>
     ensures { IfOk result (λ e. e ≡ edns.now) }
 {

@@ -33,6 +33,7 @@ pub(crate) struct Header {
 /// How many bytes a header has (RFC 1035, 4.1.1).
 const HEADER: usize = 12;
 
+// The header in the first twelve bytes (RFC 1035, 4.1.1).
 #[tactic(auto, using(crate::proofs::HeaderReading::header_short, crate::proofs::HeaderReading::header_whole))]
 fn header_of(bytes: &[u8]) -> Result<Header, ReadFault>
     requires short { length bytes.now < 2 ^ 32 }

@@ -18,12 +18,14 @@ use std::alloc::Global;
 /// The most bytes of a message that is written, and the most items of a section.
 const MOST: usize = 65535;
 
+// A flag as a number.
 fn flag_bit(flag: bool) -> u16
     ensures { result ≡ flag_bit flag }
 {
     if flag { 1 } else { 0 }
 }
 
+// Writes a question (RFC 1035, 4.1.2).
 fn push_question(out: &mut Vec<u8>, query: &Query) -> Result<(), NoMemory>
     ensures { OnOk result (out.new.items ≡ out.old.items ++ question_bytes query.now) }
 {
@@ -58,6 +60,7 @@ fn push_parts(out: &mut Vec<u8>, parts: &RecordParts<'_>) -> Result<(), NoMemory
     Ok(())
 }
 
+// Writes a record, its owner in full (RFC 1035, 4.1.3).
 fn push_record(out: &mut Vec<u8>, from: &Record) -> Result<(), NoMemory>
     ensures { OnOk result (out.new.items ≡ out.old.items ++ record_bytes from.now) }
 {
@@ -71,6 +74,7 @@ fn push_record(out: &mut Vec<u8>, from: &Record) -> Result<(), NoMemory>
     push_parts(out, &parts)
 }
 
+// Writes questions in order.
 fn push_questions(out: &mut Vec<u8>, queries: &[Query]) -> Result<(), NoMemory>
     ensures { OnOk result (out.new.items ≡ out.old.items ++ flat_map question_bytes queries.now) }
 {
@@ -80,6 +84,7 @@ fn push_questions(out: &mut Vec<u8>, queries: &[Query]) -> Result<(), NoMemory>
     Ok(())
 }
 
+// Writes records in order.
 fn push_records(out: &mut Vec<u8>, records: &[&Record]) -> Result<(), NoMemory>
     ensures { OnOk result (out.new.items ≡ out.old.items ++ flat_map record_bytes (map (λ r. r.now) records.now)) }
 {
@@ -89,6 +94,7 @@ fn push_records(out: &mut Vec<u8>, records: &[&Record]) -> Result<(), NoMemory>
     Ok(())
 }
 
+// The ttl field of an OPT record: the upper bits of the response code, the version and the flags (RFC 6891, 6.1.3).
 fn opt_ttl(code: u16, edns: &Edns) -> u32
     ensures { result ≡ opt_ttl code edns.now }
 {
@@ -98,6 +104,7 @@ fn opt_ttl(code: u16, edns: &Edns) -> u32
         + u32::from(edns.flags) % DNSSEC_OK
 }
 
+// Writes an OPT record (RFC 6891, 6.1.2).
 fn push_opt(out: &mut Vec<u8>, code: u16, edns: &Edns) -> Result<(), NoMemory>
     requires { length edns.now.options ≤ 65535 }
     ensures { OnOk result (out.new.items ≡ out.old.items ++ opt_bytes code edns.now) }
@@ -112,6 +119,7 @@ fn push_opt(out: &mut Vec<u8>, code: u16, edns: &Edns) -> Result<(), NoMemory>
     push_parts(out, &parts)
 }
 
+// Writes the OPT record of a message that has EDNS.
 #[tactic(auto, unfolding(crate::specs::WrittenAs::has_many))]
 fn push_edns(out: &mut Vec<u8>, message: &MessageRef<'_>) -> Result<(), NoMemory>
     requires { has_many (message_value message.now) ≡ false }
@@ -123,6 +131,7 @@ fn push_edns(out: &mut Vec<u8>, message: &MessageRef<'_>) -> Result<(), NoMemory
     }
 }
 
+// The second number of the header: flags, opcode and the lower bits of the response code (RFC 1035, 4.1.1).
 fn flags_of(message: &MessageRef<'_>) -> u16
     ensures { result ≡ flags_of (message_value message.now) }
 {
@@ -137,6 +146,7 @@ fn flags_of(message: &MessageRef<'_>) -> u16
         + message.response_code.0 % HEADER_CODES
 }
 
+// How many OPT records are written.
 fn edns_count(edns: &Option<Edns>) -> usize
     ensures { result ≡ edns_count edns.now }
 {
@@ -146,6 +156,7 @@ fn edns_count(edns: &Option<Edns>) -> usize
     }
 }
 
+// Whether the options of an OPT record are too long for its length field.
 fn has_long_options(edns: &Option<Edns>) -> bool
     ensures { result ≡ has_long_options edns.now }
 {
@@ -176,6 +187,7 @@ struct Counts {
     additionals: u16,
 }
 
+// The counts of the header (RFC 1035, 4.1.1).
 #[tactic(auto, unfolding(crate::specs::WrittenAs::has_many))]
 fn counts_of(message: &MessageRef<'_>) -> Counts
     requires { has_many (message_value message.now) ≡ false }
@@ -192,6 +204,7 @@ fn counts_of(message: &MessageRef<'_>) -> Counts
     }
 }
 
+// Writes the header (RFC 1035, 4.1.1).
 fn push_header(out: &mut Vec<u8>, message: &MessageRef<'_>) -> Result<(), NoMemory>
     requires { has_many (message_value message.now) ≡ false }
     ensures { OnOk result (out.new.items ≡ out.old.items ++ header_bytes (message_value message.now)) }
@@ -288,6 +301,7 @@ impl<'a> MessageRef<'a> {
         self.encode(alloc)
     }
 
+    // The message in wire form, unless a count or a length passes its field.
     #[tactic(auto, unfolding(crate::specs::WrittenAs::encoded, crate::specs::WrittenAs::written))]
     fn encode(&self, alloc: Global) -> Result<Octets, EncodeError>
         ensures { Gives (λ o. o) errors.NoMemory result (encoded (message_value self.now)) }

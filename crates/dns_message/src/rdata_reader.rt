@@ -70,6 +70,7 @@ pub(crate) fn push_field(
     }
 }
 
+// Reads a name at `pos`, puts it into `into` without compression, and answers the place after it.
 fn push_name(
     message: &MessageBytes<'_>,
     names: &mut KnownNames,
@@ -96,6 +97,7 @@ fn push_name(
     }
 }
 
+// Copies a byte that counts and the bytes that it counts, and answers the place after them.
 #[tactic(auto, unfolding(crate::specs::RdataAt::counted_octets_at))]
 fn push_counted(
     bytes: &[u8],
@@ -116,6 +118,7 @@ fn push_counted(
     push_octets(bytes, 1 + usize::from(bytes[pos]), pos, stop, into)
 }
 
+// Copies what is left up to `stop`.
 #[tactic(auto, unfolding(crate::specs::RdataAt::rest_at))]
 fn push_rest(
     bytes: &[u8],
@@ -135,6 +138,7 @@ fn push_rest(
     Ok(Some(stop))
 }
 
+// Copies a bitmap of types that ends at `stop`, if it is one (RFC 4034, 4.1.2).
 #[tactic(auto, unfolding(crate::specs::RdataAt::bitmap_at))]
 fn push_bitmap(
     bytes: &[u8],

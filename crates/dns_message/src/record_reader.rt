@@ -28,7 +28,7 @@ pub(crate) struct RecordFields {
     rdata: Rdata,
 }
 
-// A record from its class on, and the place after it. Its owner is added last, since it is dear to let go on each way out.
+// A record from its class on, and the place after it. Its owner is added last, since dropping it on each way out is expensive.
 #[tactic(auto, unfolding(crate::specs::RecordAt::record_at))]
 fn record_fields_of(
     message: &MessageBytes<'_>,
@@ -126,6 +126,7 @@ pub(crate) fn item_of(
     Ok((kept_of(owner, record_type, fields), next))
 }
 
+// Whether a record's owner is the root.
 fn stands_at_root(owner: &Name) -> bool
     ensures { result ≡ is_root owner.now }
 {

@@ -1,3 +1,5 @@
+//! How an answer section answers its query.
+
 /// Whether the answer section of a response answers its query, and how (RFC 4035, 5.3.4).
 #[derive(Clone, Copy, Debug, PartialEq, Eq, Hash)]
 pub enum Answered {

@@ -1,3 +1,5 @@
+//! What an answer says of absent data.
+
 use crate::Proof;
 
 /// What an answer says of absent data (RFC 4035, 5.4).

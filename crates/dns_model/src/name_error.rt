@@ -1,3 +1,4 @@
+//! Why a text or labels give no name.
 ghost use Rattle.std.specs.Prelude.{◌≡◌};
 ghost use Rattle.dns_model.specs.declared.name_error.NameError.TheVariants.{NoMemory};
 

@@ -1,3 +1,5 @@
+//! The marks of validation.
+
 /// What validation found out of a record (RFC 4035, 4.3).
 #[derive(Clone, Copy, Debug, PartialEq, Eq, Hash)]
 pub enum Proof {

@@ -1,3 +1,5 @@
+//! The sections of a message.
+
 /// A section of a message that holds records (RFC 1035, 4.1).
 #[derive(Clone, Copy, Debug, PartialEq, Eq, Hash)]
 pub enum Section {

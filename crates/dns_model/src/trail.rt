@@ -1,3 +1,5 @@
+//! Words of a trail: what an ask refers to, and where a mark comes from.
+
 /// What stands in place of an ask of a step (RFC 4035, 5).
 #[derive(Clone, Copy, Debug, PartialEq, Eq, Hash)]
 pub enum AskRef {

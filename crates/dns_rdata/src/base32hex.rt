@@ -53,6 +53,7 @@ pub fn is_hash_text(text: &[u8]) -> bool
     are_symbols(text)
 }
 
+// Whether each byte is a symbol of base32hex, in either case (RFC 4648, 7).
 fn are_symbols(text: &[u8]) -> bool
     ensures { result ≡ list_all is_symbol_in text.now }
 {
@@ -150,6 +151,7 @@ fn symbol_bits(c: u8) -> u64
     bits as u64
 }
 
+// Whether a byte is a symbol of base32hex, in either case (RFC 4648, 7).
 fn is_symbol(c: u8) -> bool
     ensures { result ≡ is_symbol_in c }
 {

@@ -66,6 +66,7 @@ impl<'a> Ds<'a> {
     }
 }
 
+// The SHA-1 digest of two pieces, one behind the other.
 pub(crate) fn sha1_of(first: &[u8], second: &[u8]) -> [u8; 20]
     ensures { result ≡ sha1 (first.now ++ second.now) }
 {
@@ -75,6 +76,7 @@ pub(crate) fn sha1_of(first: &[u8], second: &[u8]) -> [u8; 20]
     hasher.finalize()
 }
 
+// The SHA-256 digest of two pieces, one behind the other.
 fn sha256_of(first: &[u8], second: &[u8]) -> [u8; 32]
     ensures { result ≡ sha256 (first.now ++ second.now) }
 {
@@ -84,6 +86,7 @@ fn sha256_of(first: &[u8], second: &[u8]) -> [u8; 32]
     hasher.finalize()
 }
 
+// The SHA-384 digest of two pieces, one behind the other.
 fn sha384_of(first: &[u8], second: &[u8]) -> [u8; 48]
     ensures { result ≡ sha384 (first.now ++ second.now) }
 {

@@ -22,6 +22,7 @@ pub fn nsec3_hash_of(salt: &[u8], name: &NameRef<'_>, iterations: u16) -> [u8; 2
     hash_of(salt, wire.as_slice(), iterations)
 }
 
+// The hash of a name's bytes under a salt, once and then so many times more (RFC 5155, 5).
 fn hash_of(salt: &[u8], bytes: &[u8], iterations: u16) -> [u8; 20]
     ensures { result ≡ iterated_hash salt.now bytes.now iterations }
 {

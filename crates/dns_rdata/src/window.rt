@@ -44,6 +44,7 @@ impl<'a> Window<'a> {
         ))
     }
 
+    // Its number: the upper byte of its types.
     pub(crate) fn number(&self) -> u8
         ensures { result ≡ self.now.number }
     {

@@ -10,12 +10,14 @@ use crate::{Name, NameRef, Octets};
 use dns_model::NameError;
 use std::alloc::Global;
 
+// Whether a byte is a decimal digit.
 fn is_digit(byte: u8) -> bool
     ensures { result ≡ is_digit byte }
 {
     byte >= b'0' && byte <= b'9'
 }
 
+// Whether a byte is printable ASCII, and no space.
 fn is_printable(byte: u8) -> bool
     ensures { result ≡ is_printable byte }
 {

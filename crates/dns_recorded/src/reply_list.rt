@@ -36,6 +36,7 @@ impl Drop for Recording {
 }
 
 impl Recording {
+    // The reply, without its query.
     fn into_reply(self) -> Result<DnsResponse, NetError>
         ensures { reply_of result ≡ self.1 }
     {

@@ -17,7 +17,7 @@ pub(crate) enum Work {
     Get,
     /// An entry that isn't in the default cache takes the place of the least recently used.
     Insert,
-    /// An entry is made and let go, without a cache.
+    /// An entry is made and dropped, without a cache.
     Copy,
     /// Each number of the map that the cache stands on is got.
     MapGet,

@@ -148,7 +148,7 @@ impl<G: Datagrams + Drop> UdpStream<G> {
         handle.send(&mut self.queue, message)
     }
 
-    /// Sends all messages that wait, each once and in order; one whose send fails is let go. Then it waits once for a datagram,
+    /// Sends all messages that wait, each once and in order; one whose send fails is dropped. Then it waits once for a datagram,
     /// of 4,096 bytes at most. None comes exactly where none came in time; an error other than running out of memory where the wait
     /// failed. Where memory runs out nothing is sent.
     pub fn receive(&mut self, alloc: Global) -> Result<Option<SerialMessage>, NetError>
