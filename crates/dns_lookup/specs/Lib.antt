@@ -9,5 +9,6 @@ pub mod Fronts
 pub mod Limiting
 pub mod LookupAnswers
 pub mod LookupParts
+pub mod Making
 pub mod Sending
 pub mod Sends

@@ -48,9 +48,8 @@ pub fn default_cache(alloc: Global) -> Result<DefaultCache, NoMemory>
 }
 
 impl<H: DnsHandle + Drop, V: Verifier + Drop> DnssecDnsHandle<H, V, DefaultCache> {
-    ghost use Rattle.dns_lookup.specs.Calls.{inner_of, anchors_of, verifier_of, iterations_of, cache_of, ranges_of};
-    ghost use Rattle.dns_lookup.specs.Limiting.{default_entries, default_iterations, default_ranges};
-    ghost use Rattle.dns_lookup.specs.Sending.{sends_of, faults_of};
+    ghost use Rattle.dns_lookup.specs.Limiting.{default_ranges};
+    ghost use Rattle.dns_lookup.specs.Making.{IsNewValidator};
 
     /// A validator that trusts these anchors and tests signatures by this verifier, with an empty cache of 65,536 entries.
     pub fn new(
@@ -59,14 +58,7 @@ impl<H: DnsHandle + Drop, V: Verifier + Drop> DnssecDnsHandle<H, V, DefaultCache
         anchors: TrustAnchors,
         verifier: V,
     ) -> Result<Self, NoMemory>
-        ensures handle { IfOk result (λ h. inner_of h ≡ handle) }
-        ensures anchors { IfOk result (λ h. anchors_of h ≡ anchors) }
-        ensures verifier { IfOk result (λ h. verifier_of h ≡ verifier) }
-        ensures cache { IfOk result (λ h. cache_of h ≡ record { list = default_entries; hits = 0 }) }
-        ensures ranges { IfOk result (λ h. ranges_of h ≡ default_ranges) }
-        ensures sends { IfOk result (λ h. sends_of h ≡ 0) }
-        ensures iterations { IfOk result (λ h. iterations_of h ≡ default_iterations) }
-        ensures faults { IfOk result (λ h. faults_of h ≡ 0) }
+        ensures { IfOk result (λ h. IsNewValidator handle anchors verifier h) }
     {
         let cache = default_cache(alloc)?;
         DnssecDnsHandle::with_cache(handle, anchors, verifier, cache)
@@ -79,14 +71,7 @@ impl<H: DnsHandle + Drop, V: Verifier + Drop> DnssecDnsHandle<H, V, DefaultCache
         anchors: TrustAnchors,
         verifier: V,
     ) -> Result<Self, NoMemory>
-        ensures handle { IfOk result (λ h. inner_of h ≡ handle) }
-        ensures anchors { IfOk result (λ h. anchors_of h ≡ anchors) }
-        ensures verifier { IfOk result (λ h. verifier_of h ≡ verifier) }
-        ensures cache { IfOk result (λ h. cache_of h ≡ record { list = default_entries; hits = 0 }) }
-        ensures ranges { IfOk result (λ h. ranges_of h ≡ default_ranges) }
-        ensures sends { IfOk result (λ h. sends_of h ≡ 0) }
-        ensures iterations { IfOk result (λ h. iterations_of h ≡ default_iterations) }
-        ensures faults { IfOk result (λ h. faults_of h ≡ 0) }
+        ensures { IfOk result (λ h. IsNewValidator handle anchors verifier h) }
     {
         DnssecDnsHandle::new(alloc, handle, anchors, verifier)
     }
