@@ -9,6 +9,7 @@ use Rattle.dns_run.specs.Forms.{asked_form, words_verify, IfAsks, IfAsksNone, If
 use Rattle.dns_run.specs.Outcomes.{Leaves, LeavesPrefix, Reports, Derives, Fails}
 use Rattle.dns_run.specs.Runs.{EndsAsSession, EndsByGrammar, EndsByWords, IfSession}
 use Rattle.dns_run.specs.Tasks.{EndsTask}
+use Rattle.dns_run.specs.declared.program.RunEnd.{RunEnd}
 
 -- how a run ends, whatever it asks of a server
 pub record EndsRun {Z : Type 0} (asked : List (Vec ℕ Z)) (status : ℕ) (told before now : Option (List ℕ)) : Type 0 where
@@ -49,3 +50,9 @@ pub record EndsOver {D L Z : Type 0} (network : Network D L RandDraws) (seed : O
   -- The dialer is given back, unless memory ran out; and as it was given, where no server is asked.
   pub given_back : back ≡ None → status ≡ 6
   pub unused : IfAsksNone asked (back ≡ Some dial)
+
+-- the same of a run's end, by what is told of its source, and of its sink before and after
+abbrev pub RunsOver : {D L S W Z : Type 0} → Network D L RandDraws → Option ℕ → List (Vec ℕ Z) → D → RunEnd D → (S → Option (List ℕ))
+    → (W → Option (List ℕ)) → S → W → W → Type 0
+RunsOver network seed asked dial end left taken input before now =
+    EndsOver network seed asked dial end.dial end.status (left input) (taken before) (taken now)

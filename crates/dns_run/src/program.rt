@@ -2,7 +2,7 @@
 ghost use Rattle.std.specs.Prelude.{None};
 ghost use Rattle.dns_asking.specs.Servers.{network};
 ghost use Rattle.dns_io.specs.Runs.{outside, KeepsOutside};
-ghost use Rattle.dns_run.specs.Ends.{EndsRun, EndsOver};
+ghost use Rattle.dns_run.specs.Ends.{EndsRun, RunsOver};
 ghost use Rattle.dns_run.specs.Forms.{words_ask};
 
 use crate::form::{Form, form_of};
@@ -46,10 +46,10 @@ pub fn run<S: Source, W: Sink, D: Dialer + Drop, K: Clock>(
     ensures ends { EndsRun words.now result.status (S.left input.old) (W.taken output.old) (W.taken output.new) }
 
     // How it ends where the words ask a server: ids and ports are drawn from the clock's moment.
-    ensures over { EndsOver
+    ensures over { RunsOver
         (network D.counts D.given_bytes D.given_datagrams D.calls D.Link.counts D.Link.given D.Link.calls
         ⟦<UdpExchange<D, RandDraws> as DnsHandle>⟧ ⟦<TcpExchange<D::Link, RandDraws> as DnsHandle>⟧)
-        None words.now dial result.dial result.status (S.left input.old) (W.taken output.old) (W.taken output.new) }
+        None words.now dial result S.left W.taken input.old output.old output.new }
 
     // The statuses from 4 on have their causes outside, an input is read to its end or not at all, and counts never fall.
     ensures outside { KeepsOutside (outside S.left S.faults W.taken W.faults W.takes_memory) (words_ask words.now)
@@ -73,10 +73,10 @@ pub fn run_seeded<S: Source, W: Sink, D: Dialer + Drop, K: Clock>(
     ensures ends { EndsRun words.now result.status (S.left input.old) (W.taken output.old) (W.taken output.new) }
 
     // How it ends where the words ask a server: ids and ports are drawn from the seed, or from the clock's moment where there is none.
-    ensures over { EndsOver
+    ensures over { RunsOver
         (network D.counts D.given_bytes D.given_datagrams D.calls D.Link.counts D.Link.given D.Link.calls
         ⟦<UdpExchange<D, RandDraws> as DnsHandle>⟧ ⟦<TcpExchange<D::Link, RandDraws> as DnsHandle>⟧)
-        seed words.now dial result.dial result.status (S.left input.old) (W.taken output.old) (W.taken output.new) }
+        seed words.now dial result S.left W.taken input.old output.old output.new }
 
     // The statuses from 4 on have their causes outside, an input is read to its end or not at all, and counts never fall.
     ensures outside { KeepsOutside (outside S.left S.faults W.taken W.faults W.takes_memory) (words_ask words.now)

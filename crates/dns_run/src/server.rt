@@ -1,16 +1,13 @@
 //! What bytes come to that are a session, over a server in place of the session's replies.
-ghost use Rattle.std.specs.Prelude.{ℕ, ◌≡◌, ◌≢◌, ◌<◌, ◌^◌, ◌≤◌, length, IfOk, IsOk, MatchResult};
+ghost use Rattle.std.specs.Prelude.{◌≡◌, ◌≢◌, ◌<◌, ◌^◌, ◌≤◌, length, IfOk, IsOk, MatchResult};
 ghost use Rattle.std.specs.Io.KnownBytes.{Appends};
 ghost use Rattle.dns_handle.specs.Replies.{reply_of};
 ghost use Rattle.dns_asking.specs.Servers.{network};
 ghost use Rattle.dns_io.specs.Reading.{input_limit};
 ghost use Rattle.dns_io.specs.Runs.{outside, AnInput, KeepsOutside, KeepsSink};
 ghost use Rattle.dns_io.specs.Writing.{TakesPrefix};
-ghost use Rattle.dns_session.specs.Grammar.{session_of};
-ghost use Rattle.dns_session.specs.SessionValue.{SessionValue};
-ghost use Rattle.dns_run.specs.Asks.{AnswersOver, EndsAsk, IsInquiryOf, IsReplyText, ServerEnds, ServerTells};
-ghost use Rattle.dns_run.specs.Calls.{call_by};
-ghost use Rattle.dns_run.specs.Outcomes.{Wrote, WrotePrefix};
+ghost use Rattle.dns_run.specs.Asks.{IsInquiryOf, IsReplyText};
+ghost use Rattle.dns_run.specs.Calls.{AnswersBytes, AnswersInquiry, AnswersSessionAt, EndsAsked, WritesAnswer, WritesPrefixOf};
 ghost use Rattle.dns_run.specs.Tasks.{NamesLine};
 
 use dns_asking::{AskEnd, Inquiry, ServerAddress, ask_server};
@@ -124,9 +121,10 @@ fn ask_inquiry<D: Dialer + Drop>(
     given: ServerAsk<D>,
     inquiry: Inquiry<SessionVerifier>,
 ) -> ServerEnding<D>
-    ensures ends { (s : SessionValue) (now : ℕ) → IsInquiryOf given.how s now inquiry → IfOk result.ending (λ x. AnswersOver
-        (call_by (network D.counts D.given_bytes D.given_datagrams D.calls D.Link.counts D.Link.given D.Link.calls
-        ⟦<UdpExchange<D, RandDraws> as DnsHandle>⟧ ⟦<TcpExchange<D::Link, RandDraws> as DnsHandle>⟧) given) s now given.dial result.dial x.0 x.1.items) }
+    ensures ends { AnswersInquiry
+        (network D.counts D.given_bytes D.given_datagrams D.calls D.Link.counts D.Link.given D.Link.calls
+        ⟦<UdpExchange<D, RandDraws> as DnsHandle>⟧ ⟦<TcpExchange<D::Link, RandDraws> as DnsHandle>⟧)
+        given inquiry result }
     ensures low { IfOk result.ending (λ x. x.0 < 4) }
 {
     let ServerAsk {
@@ -149,9 +147,10 @@ fn ask_session<D: Dialer + Drop>(
     session: Session,
     moment: u64,
 ) -> ServerEnding<D>
-    ensures ends { IfOk result.ending (λ x. AnswersOver
-        (call_by (network D.counts D.given_bytes D.given_datagrams D.calls D.Link.counts D.Link.given D.Link.calls
-        ⟦<UdpExchange<D, RandDraws> as DnsHandle>⟧ ⟦<TcpExchange<D::Link, RandDraws> as DnsHandle>⟧) given) session moment given.dial result.dial x.0 x.1.items) }
+    ensures ends { AnswersSessionAt
+        (network D.counts D.given_bytes D.given_datagrams D.calls D.Link.counts D.Link.given D.Link.calls
+        ⟦<UdpExchange<D, RandDraws> as DnsHandle>⟧ ⟦<TcpExchange<D::Link, RandDraws> as DnsHandle>⟧)
+        given session moment result }
     ensures low { IfOk result.ending (λ x. x.0 < 4) }
 {
     match inquiry_at(alloc, given.how, session, moment) {
@@ -171,9 +170,10 @@ fn ask_bytes<D: Dialer + Drop, K: Clock>(
     clock: &mut K,
 ) -> ServerEnding<D>
     requires { length bytes.now < 2 ^ 32 }
-    ensures ends { IfOk result.ending (λ x. ServerEnds
-        (call_by (network D.counts D.given_bytes D.given_datagrams D.calls D.Link.counts D.Link.given D.Link.calls
-        ⟦<UdpExchange<D, RandDraws> as DnsHandle>⟧ ⟦<TcpExchange<D::Link, RandDraws> as DnsHandle>⟧) given) (session_of bytes.now) given.dial result.dial x.0 x.1.items) }
+    ensures ends { AnswersBytes
+        (network D.counts D.given_bytes D.given_datagrams D.calls D.Link.counts D.Link.given D.Link.calls
+        ⟦<UdpExchange<D, RandDraws> as DnsHandle>⟧ ⟦<TcpExchange<D::Link, RandDraws> as DnsHandle>⟧)
+        given bytes.now result }
     ensures low { IfOk result.ending (λ x. x.0 < 4) }
 {
     match read_session(alloc, bytes) {
@@ -215,12 +215,14 @@ fn answer_bytes<W: Sink, D: Dialer + Drop, K: Clock>(
     clock: &mut K,
 ) -> AskedEnd<D>
     requires { length bytes.now ≤ input_limit }
-    ensures ends { result.status < 4 → Wrote (W.taken output.old) (W.taken output.new) (ServerEnds
-        (call_by (network D.counts D.given_bytes D.given_datagrams D.calls D.Link.counts D.Link.given D.Link.calls
-        ⟦<UdpExchange<D, RandDraws> as DnsHandle>⟧ ⟦<TcpExchange<D::Link, RandDraws> as DnsHandle>⟧) given) (session_of bytes.now) given.dial result.dial result.status) }
-    ensures prefix { WrotePrefix (W.taken output.old) (W.taken output.new) (ServerTells
-        (call_by (network D.counts D.given_bytes D.given_datagrams D.calls D.Link.counts D.Link.given D.Link.calls
-        ⟦<UdpExchange<D, RandDraws> as DnsHandle>⟧ ⟦<TcpExchange<D::Link, RandDraws> as DnsHandle>⟧) given) given.dial result.dial bytes.now) }
+    ensures ends { WritesAnswer
+        (network D.counts D.given_bytes D.given_datagrams D.calls D.Link.counts D.Link.given D.Link.calls
+        ⟦<UdpExchange<D, RandDraws> as DnsHandle>⟧ ⟦<TcpExchange<D::Link, RandDraws> as DnsHandle>⟧)
+        given bytes.now result (W.taken output.old) (W.taken output.new) }
+    ensures prefix { WritesPrefixOf
+        (network D.counts D.given_bytes D.given_datagrams D.calls D.Link.counts D.Link.given D.Link.calls
+        ⟦<UdpExchange<D, RandDraws> as DnsHandle>⟧ ⟦<TcpExchange<D::Link, RandDraws> as DnsHandle>⟧)
+        given bytes.now result (W.taken output.old) (W.taken output.new) }
     ensures keeps { KeepsSink W.faults result.status output.old output.new }
 {
     let ServerEnding { ending, dial } = ask_bytes(alloc, given, bytes, clock);
@@ -237,9 +239,10 @@ pub(crate) fn ask<S: Source, W: Sink, D: Dialer + Drop, K: Clock>(
     output: &mut W,
     clock: &mut K,
 ) -> AskedEnd<D>
-    ensures ends { EndsAsk
-        (call_by (network D.counts D.given_bytes D.given_datagrams D.calls D.Link.counts D.Link.given D.Link.calls
-        ⟦<UdpExchange<D, RandDraws> as DnsHandle>⟧ ⟦<TcpExchange<D::Link, RandDraws> as DnsHandle>⟧) given) given.dial result.dial result.status (S.left input.old) (W.taken output.old) (W.taken output.new) }
+    ensures ends { EndsAsked
+        (network D.counts D.given_bytes D.given_datagrams D.calls D.Link.counts D.Link.given D.Link.calls
+        ⟦<UdpExchange<D, RandDraws> as DnsHandle>⟧ ⟦<TcpExchange<D::Link, RandDraws> as DnsHandle>⟧)
+        given result (S.left input.old) (W.taken output.old) (W.taken output.new) }
     ensures form { result.status ≢ 2 }
     ensures outside { KeepsOutside (outside S.left S.faults W.taken W.faults W.takes_memory) AnInput
         result.status input.old input.new output.old output.new }
