@@ -93,26 +93,26 @@ fn deep_options() -> DnsRequestOptions
 }
 
 // A record of the name, the type and the class that are queried.
-fn is_queried(query: &Query, record: &Record) -> bool
-    ensures { result ≡ is_queried query.now record.now }
+fn is_queried(query: &Query, answer: &Record) -> bool
+    ensures { result ≡ is_queried query.now answer.now }
 {
-    query.name == record.name
-        && record.record_type == query.query_type
-        && record.dns_class == query.query_class
+    query.name == answer.name
+        && answer.record_type == query.query_type
+        && answer.dns_class == query.query_class
 }
 
 // A record that was queried is Secure.
-fn is_secure_where_queried(query: &Query, record: &Record) -> bool
-    ensures { result ≡ (not (is_queried query.now record.now) || is_secure record.now.proof) }
+fn is_secure_where_queried(query: &Query, answer: &Record) -> bool
+    ensures { result ≡ (not (is_queried query.now answer.now) || is_secure answer.now.proof) }
 {
-    !is_queried(query, record) || record.proof == Proof::Secure
+    !is_queried(query, answer) || answer.proof == Proof::Secure
 }
 
 // A record was queried.
 fn has_queried(query: &Query, answers: &[Record]) -> bool
     ensures { result ≡ list_any (is_queried query.now) answers.now }
 {
-    answers.iter().any(|record| is_queried(query, record))
+    answers.iter().any(|answer| is_queried(query, answer))
 }
 
 // Each record that was queried is Secure.
@@ -121,7 +121,7 @@ fn all_secure(query: &Query, answers: &[Record]) -> bool
 {
     answers
         .iter()
-        .all(|record| is_secure_where_queried(query, record))
+        .all(|answer| is_secure_where_queried(query, answer))
 }
 
 // The records that were queried are there, and each is Secure.
