@@ -1,0 +1,9 @@
+pub mod Moments
+pub mod Rising
+pub mod Lengths
+pub mod Counted
+pub mod States
+pub mod Listing
+pub mod Firsts
+pub mod Exact
+pub mod OnceLaw
