@@ -21,16 +21,18 @@ use Rattle.dns_io.specs.Writing.{TakesPrefix}
 use Rattle.dns_io.proofs.Leaving.{of_read, of_any, of_long, nothing_taken}
 use Rattle.dns_questions.specs.Questions.{questions}
 use Rattle.dns_questions.specs.QuestionsText.{questions_text}
+use Rattle.dns_roll.specs.RollValue.{RollValue}
+use Rattle.dns_roll.specs.RollGrammar.{roll_of}
 use Rattle.dns_report.specs.Faults.{fault_text}
 use Rattle.dns_session.specs.SessionValue.{SessionValue}
 use Rattle.dns_session.specs.Grammar.{session_of}
 use Rattle.dns_run.specs.declared.task.Task.{Task}
-use Rattle.dns_run.specs.declared.task.Task.TheVariants.{Audit, Questions}
+use Rattle.dns_run.specs.declared.task.Task.TheVariants.{Audit, Questions, Roll}
 use Rattle.dns_session_lookup.specs.Causes.{AnswersSession}
 use Rattle.dns_run.specs.Outcomes.{Fails, Leaves, Wrote, WrotePrefix}
 use Rattle.dns_session_lookup.specs.Verifying.{listing}
 use Rattle.dns_session_lookup.specs.declared.verification.Verification.TheVariants.{ByList}
-use Rattle.dns_run.specs.Tasks.{AuditEnds, QuestionsEnd, AnswersQuestions, Listed, Failed, question_judge, denied_trail, TaskEnds, TaskTells, Ended, TooLong, Nothing, EndsTask}
+use Rattle.dns_run.specs.Tasks.{AuditEnds, QuestionsEnd, RollEnds, AnswersQuestions, Listed, Failed, question_judge, denied_trail, TaskEnds, TaskTells, Ended, TooLong, Nothing, EndsTask}
 
 -- ---- what bytes come to, written
 
@@ -104,13 +106,23 @@ questions_form (Ok s) text (Listed done lists) = less_differs 0 2 (omega arith) 
 questions_form (Ok s) text (Failed done bare) = less_differs 1 2 (omega arith) (sym done)
 questions_form (Err number) text ends = less_differs 2 3 (omega arith) ends.refused
 
+roll_fault : (read : Result RollValue ℕ) (text : List ℕ) → RollEnds read 1 text → ⊥
+roll_fault (Ok t) text ends = less_differs 0 1 (omega arith) (sym ends.done)
+roll_fault (Err number) text ends = less_differs 1 3 (omega arith) ends.refused
+
+roll_form : (read : Result RollValue ℕ) (text : List ℕ) → RollEnds read 2 text → ⊥
+roll_form (Ok t) text ends = less_differs 0 2 (omega arith) (sym ends.done)
+roll_form (Err number) text ends = less_differs 2 3 (omega arith) ends.refused
+
 ends_fault : (task : Task) (bytes text : List ℕ) → TaskEnds task bytes 1 text → Fails ByList bytes text
 ends_fault Audit bytes text ends = absurd (audit_fault (audit_of bytes) text ends)
 ends_fault Questions bytes text ends = questions_fault bytes (session_of bytes) text refl ends
+ends_fault Roll bytes text ends = absurd (roll_fault (roll_of bytes) text ends)
 
 ends_form : (task : Task) (bytes text : List ℕ) → TaskEnds task bytes 2 text → ⊥
 ends_form Audit bytes text ends = audit_form (audit_of bytes) text ends
 ends_form Questions bytes text ends = questions_form (session_of bytes) text ends
+ends_form Roll bytes text ends = roll_form (roll_of bytes) text ends
 
 wrote_fault : (task : Task) (bytes : List ℕ) (before now : Option (List ℕ)) → Wrote before now (TaskEnds task bytes 1)
     → Wrote before now (Fails ByList bytes)

@@ -29,9 +29,9 @@ pub record EndsRun {Z : Type 0} (asked : List (Vec ℕ Z)) (status : ℕ) (told 
   pub completes : IfValidates asked (λ how shows. IfSession told (λ s. IsValid how s → EndsSecurely how shows s status before now))
   -- 3, and an input that is no session.
   pub grammar : IfValidates asked (λ how shows. EndsByGrammar status told before now)
-  -- What a task must end with: 0 with the answers of the checks to the report behind a session, or with the questions of the
-  -- session's trail; and 3, and an input that is outside the grammar. An audit never ends with 1, questions only for an error
-  -- without a trail.
+  -- What a task must end with: 0 with the answers of the checks to the report behind a session, with the questions of the
+  -- session's trail, or with exactly the keys that are trusted after some sightings; and 3, and an input that is outside the
+  -- grammar. Only questions end with 1, for an error without a trail.
   pub task : IfTask asked (λ task. EndsTask task status told before now)
   -- Words that ask for a text, for a lookup below nested zones, or for nothing: 2 is for the latter alone. A lookup below nested
   -- zones ends with 0, or with 5 or 6.

@@ -1,5 +1,6 @@
 -- What is asked of an input besides the report of its lookup: whether a report that stands behind its session holds (RFC 4035, 4.3, 5.2
--- and 5.3), and which questions a verifier must be asked; what an input comes to, and what a run leaves.
+-- and 5.3), which questions a verifier must be asked, and which keys of a zone are trusted after sightings of them (RFC 5011, 2); what an
+-- input comes to, and what a run leaves.
 use Rattle.std.specs.Prelude.{ℕ, ◌≡◌, ◌⊎◌, ◌<◌, Bool, true, false, List, [], length, Option, None, Some, Result, Ok, Err}
 use Rattle.dns_model.specs.Chains.{Judge, judge}
 use Rattle.dns_model.specs.Trails.{AskedValue, EndingValue, Answered, Denied}
@@ -16,9 +17,12 @@ use Rattle.dns_audit.specs.ReportGrammar.{audit_of}
 use Rattle.dns_audit.specs.AuditText.{audit_text}
 use Rattle.dns_questions.specs.Questions.{questions}
 use Rattle.dns_questions.specs.QuestionsText.{questions_text}
+use Rattle.dns_roll.specs.RollValue.{RollValue}
+use Rattle.dns_roll.specs.RollGrammar.{roll_of}
+use Rattle.dns_roll.specs.TrustedText.{rolled_text}
 use Rattle.dns_io.specs.Reading.{input_limit, too_long_text, OfInput}
 use Rattle.dns_run.specs.declared.task.Task.{Task}
-use Rattle.dns_run.specs.declared.task.Task.TheVariants.{Audit, Questions}
+use Rattle.dns_run.specs.declared.task.Task.TheVariants.{Audit, Questions, Roll}
 use Rattle.dns_session_lookup.specs.Answering.{session_limits, IsSessionTrail}
 use Rattle.dns_session_lookup.specs.Causes.{AnswersSession}
 use Rattle.dns_run.specs.Outcomes.{IsFault, Leaves, WrotePrefix}
@@ -81,10 +85,24 @@ abbrev pub QuestionsEnd : Result SessionValue ℕ → ℕ → List ℕ → Type 
 QuestionsEnd (Ok session) status text = AnswersQuestions session status text
 QuestionsEnd (Err number) status text = NamesLine number status text
 
+-- the lines of the keys that are trusted after the sightings of a text, by what it accepts
+abbrev pub followed_text : RollValue → List ℕ
+followed_text t = rolled_text (answers_of (listing t.algorithms t.accepts)) t
+
+-- status 0, and a line for each key that is trusted after the sightings of a text
+pub record AnswersRoll (t : RollValue) (status : ℕ) (text : List ℕ) : Type 0 where
+  pub done : status ≡ 0
+  pub spelled : text ≡ followed_text t
+
+abbrev pub RollEnds : Result RollValue ℕ → ℕ → List ℕ → Type 0
+RollEnds (Ok t) status text = AnswersRoll t status text
+RollEnds (Err number) status text = NamesLine number status text
+
 -- what bytes come to by a task
 abbrev pub TaskEnds : Task → List ℕ → ℕ → List ℕ → Type 0
 TaskEnds Audit bytes status text = AuditEnds (audit_of bytes) status text
 TaskEnds Questions bytes status text = QuestionsEnd (session_of bytes) status text
+TaskEnds Roll bytes status text = RollEnds (roll_of bytes) status text
 
 -- ---- what a run leaves
 

@@ -13,6 +13,7 @@ mod offline;
 mod outcome;
 mod program;
 mod questions;
+mod roll;
 mod server;
 mod task;
 

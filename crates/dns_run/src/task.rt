@@ -8,6 +8,7 @@ ghost use Rattle.dns_session_lookup.specs.declared.verification.Verification.The
 
 use crate::audit::audit_ending;
 use crate::questions::questions_ending;
+use crate::roll::roll_ending;
 use dns_io::status::{self, read_status, refuse_long, write_text};
 use dns_io::{ReadStop, Sink, Source, read_all};
 use dns_record::NoMemory;
@@ -20,6 +21,8 @@ pub enum Task {
     Audit,
     /// Which questions a verifier must be asked for a session.
     Questions,
+    /// Which keys of a zone are trusted after sightings of them.
+    Roll,
 }
 
 // What bytes come to by a task: a status, and a text.
@@ -31,6 +34,7 @@ fn task_ending(alloc: Global, task: Task, bytes: &[u8]) -> Result<(u8, Vec<u8>),
     match task {
         Task::Audit => audit_ending(alloc, bytes),
         Task::Questions => questions_ending(alloc, bytes),
+        Task::Roll => roll_ending(alloc, bytes),
     }
 }
 
