@@ -1,4 +1,4 @@
-"""Lines of sessions and of reports: which can stand at which place, and the number of the first bad line of a text. `tools/run_rows` runs
+"""Lines of sessions, of reports and of texts of sightings: which can stand at which place, and the number of the first bad line of a text. `tools/run_rows` runs
 each on the program.
 
 The forms are those of docs/FORMATS.md. A session without a bad line comes to a report or to a fault; a report behind its session is
@@ -211,6 +211,54 @@ SESSION = ("dns-session 1\nmoment 1000\nalgorithms 13\nanchor . 13 aabb\n"
            "accept 13 aabb 00020d0000000e10000007d000000384aec900000002000100000e100003016100 c0de\nquery . NS\n"
            "reply . DNSKEY 0000840000010001000000000000300001000030000100000e1000060101030daabb\nfault . NS busy\nend\n")
 
+# the same of texts of sightings
+ROLL_PLACES = (
+    ("", "\nzone .\nalgorithms\nend\n", 1, (
+        "dns-roll 1",
+     ), (
+        "", "dns-roll 0", "dns-roll 2", "dns-roll", "dns-roll  1", "dns-roll 1 ", "dns-session 1", "zone .",
+     )),
+    ("dns-roll 1\n", "\nalgorithms\nend\n", 2, (
+        "zone .", "zone a\\.b.C", "zone \\200.",
+     ), (
+        "zone", "zone ", "zone a..b", "zone . .", "zone  .", "Zone .", "algorithms",
+     )),
+    ("dns-roll 1\nzone .\n", "\nend\n", 3, (
+        "algorithms", "algorithms 0 255 255",
+     ), (
+        "algorithms ", "algorithms 256", "algorithms 013", "key -", "end",
+     )),
+    # a key, an accepted signature or what was seen
+    ("dns-roll 1\nzone .\nalgorithms\n", "\nend\n", 4, (
+        "key -", "key aaBB", "key 0101030daabb", "accept 1 - - -", "accept 255 Aa bB 0C", "sight 0 -",
+        "sight 18446744073709551615 00", "sight 1 000084000000000000000000", "key " + 65_535 * "00",
+     ), (
+        "key", "key ", "key a", "key - -", "key . 13 aabb", "accept 13 - -", "accept 13 - - - -", "sight 0", "sight 0 ", "sight -",
+        "sight 00 -", "sight 01 -", "sight -1 -", "sight 18446744073709551616 -", "sight 0 0", "sight 0 - -", "sight  0 -",
+        "key " + 65_536 * "00", "anchor . 13 aabb", "moment 0", "zone .", "algorithms",
+     )),
+    # a key or an accepted signature behind others of its kind, and what was seen behind them
+    ("dns-roll 1\nzone .\nalgorithms 13\nkey 00\nkey 00\naccept 13 - - -\nsight 5 00\n", "\nend\n", 8, (
+        "sight 5 00", "sight 6 -",
+     ), (
+        "sight 4 00", "sight 0 -", "key 00", "accept 13 - - -", "", "end ",
+     )),
+)
+ROLLS = (
+    (0, (
+        "dns-roll 1\nzone .\nalgorithms\nend\n",
+        "dns-roll 1\nzone .\nalgorithms\naccept 13 - - -\nend\n",
+        "dns-roll 1\nzone .\nalgorithms\nsight 0 -\nend\n",
+     )),
+    (1, ("", "\n", "dns-roll 1")),
+    (4, ("dns-roll 1\nzone .\nalgorithms\n", "dns-roll 1\nzone .\nalgorithms\nend")),
+    (5, ("dns-roll 1\nzone .\nalgorithms\nend\n\n", "dns-roll 1\nzone .\nalgorithms\nend\nend\n", "dns-roll 1\nzone .\nalgorithms\nend\nx")),
+    # the first of two bad lines
+    (6, ("dns-roll 1\nzone .\nalgorithms\nsight 1 -\nsight 2 -\nsight 1 -\nsight 0 -\nend\n",
+         "dns-roll 1\nzone .\nalgorithms\nsight 1 -\nsight 2 -\nsight 1 -\nkey -\nend\n")),
+)
+
+
 def at(place, version=""):
     """The texts of a place, each with the number of its first bad line."""
     before, after, number, good, bad = place
@@ -232,3 +280,10 @@ def reports():
     """Each report behind a session, with the number of its first bad line from the session's first, 0 where there is none."""
     front = SESSION.count("\n")
     yield from ((SESSION + text, number and front + number) for number, ends in REPORTS for text in ends)
+
+
+def rolls():
+    """Each text of sightings with the number of its first bad line, 0 where there is none."""
+    for place in ROLL_PLACES:
+        yield from at(place)
+    yield from ((text, number) for number, whole in ROLLS for text in whole)

@@ -3,6 +3,7 @@
 
     python3 rows/model.py SESSION          the report or the fault line
     python3 rows/model.py SESSION trail    with the trail
+    python3 rows/model.py TEXT roll        the trusted keys after a text of sightings
     python3 rows/model.py                  compares the rows and the examples that are looked up, also with the number of asks that the
                                            README of the examples says, and names those that differ"""
 import glob
@@ -15,9 +16,11 @@ import answers
 import hashes
 import reading
 import report
+import rolling
 from answers import is_set, secure_nsecs
 from reading import dnskey_of, ds_of, folded, is_above, num_labels, rrsig_in, rrsig_of, shown, type_word
 from report import BOGUS, INSECURE, SECTIONS, SIGNED, anchored_link, matched_link, signed_link, with_key_set
+from signing import serial_at_or_before, signed_bytes
 
 FOLDER = os.path.dirname(os.path.realpath(__file__))
 NS, SOA, DS, RRSIG, NSEC, DNSKEY, NSEC3, IN = 2, 6, 43, 46, 47, 48, 50, 1
@@ -84,21 +87,6 @@ def sets_of(message):
                 sets[folded(record.owner), sig.covered].signatures.append(record)
         made.extend(sets.values())
     return made
-
-
-def serial_at_or_before(first, second):
-    """RFC 1982, 3.2."""
-    return (second - first) % 2**32 < 2**31
-
-
-def signed_bytes(rrset, sig):
-    """RFC 4034, 3.1.8.1."""
-    owner = folded(rrset.owner)
-    if num_labels(owner) > sig.labels:
-        owner = (b"*", *owner[len(owner) - sig.labels:])
-    front = reading.wire(owner) + rrset.kind.to_bytes(2, "big") + IN.to_bytes(2, "big") + sig.ttl.to_bytes(4, "big")
-    rdatas = sorted({reading.canonical_rdata(record) for record in rrset.records})
-    return sig.front + b"".join(front + len(rdata).to_bytes(2, "big") + rdata for rdata in rdatas)
 
 
 def first_of_each(records, tag_of):
@@ -374,7 +362,9 @@ def counted_keys(keys):
 
 
 def written(session, words=(b"validate",)):
-    """What is written for a session that is in its grammar, and the status."""
+    """What is written for a session that is in its grammar, and the status; of a text of sightings whatever it is."""
+    if words[0] == b"roll":
+        return rolling.written(session)
     lookup = Lookup(reading.session_in(session))
     fault = report.fault_line(lookup.top)
     lines = [fault] if fault else report.lines(lookup, b"trail" in words)
@@ -391,11 +381,11 @@ def read(path, absent):
 
 
 def stored_rows():
-    """The rows and examples with files, and the reports with a trail: place, words, session, output and status."""
+    """The rows and examples with files that are looked up or rolled, and the reports with a trail: place, words, session, output and status."""
     for path in sorted(glob.glob(f"{FOLDER}/*.session") + glob.glob(f"{FOLDER}/../examples/*.session")):
         place = path.removesuffix(".session")
         words, status = read(f"{place}.words", b"validate\n").split(b"\n")[:-1], int(read(f"{place}.status", b"0"))
-        if words[:1] == [b"validate"] and status in (0, 1):
+        if (words[:1] == [b"validate"] and status in (0, 1)) or words == [b"roll"]:
             yield place, words, read(path, b""), read(f"{place}.out", b""), status
         if os.path.isfile(f"{place}.trail"):
             yield place, [b"validate", b"trail"], read(path, b""), read(f"{place}.trail", b""), 0
@@ -413,7 +403,7 @@ def miscounted():
 
 def main(words):
     if words:
-        text, status = written(read(words[0], b""), [word.encode() for word in words])
+        text, status = written(read(words[0], b""), [word.encode() for word in words[1:]] or [b"validate"])
         sys.stdout.buffer.write(text)
         return status
     wrong, count = 0, 0

@@ -22,7 +22,7 @@ const ROWS: &[Row] = &[
         words: &["--help"],
         session: b"",
         status: 0,
-        text: b"dns_check validate        reads a session and writes the report of its lookup\ndns_check validate trail  the same, and how the lookup came about, step by step\ndns_check verify          as validate, with signatures computed in place of the session's list\ndns_check verify trail    as validate trail, likewise\ndns_check audit           reads a session and a report behind it, and writes which of its parts hold\ndns_check questions       reads a session and writes which signatures a verifier must be asked for\ndns_check bench N         looks a host up below N nested zones, 1 to 100, and writes what that took\ndns_check ask udp ADDRESS reads a session and writes the report of its lookup over a server, as 192.0.2.1:53\ndns_check ask tcp ADDRESS the same over a connection\ndns_check ask verify udp ADDRESS, ask verify tcp ADDRESS  the same, with signatures computed\ndns_check --help          writes these lines\ndns_check --version       writes the name and the version\n",
+        text: b"dns_check validate        reads a session and writes the report of its lookup\ndns_check validate trail  the same, and how the lookup came about, step by step\ndns_check verify          as validate, with signatures computed in place of the session's list\ndns_check verify trail    as validate trail, likewise\ndns_check audit           reads a session and a report behind it, and writes which of its parts hold\ndns_check questions       reads a session and writes which signatures a verifier must be asked for\ndns_check roll            reads sightings of a zone's keys and writes which of them are trusted\ndns_check bench N         looks a host up below N nested zones, 1 to 100, and writes what that took\ndns_check ask udp ADDRESS reads a session and writes the report of its lookup over a server, as 192.0.2.1:53\ndns_check ask tcp ADDRESS the same over a connection\ndns_check ask verify udp ADDRESS, ask verify tcp ADDRESS  the same, with signatures computed\ndns_check --help          writes these lines\ndns_check --version       writes the name and the version\n",
     },
     Row {
         name: "no-bytes",
@@ -44,6 +44,13 @@ const ROWS: &[Row] = &[
         session: b"dns-session 1\nmoment 1000\nalgorithms 13\nanchor . 13 aabb\naccept 13 aabb 00020d0000000e10000007d000000384aec900000002000100000e100003016100 c0de\nquery . NS\nreply . NS 0000840000010002000000000000020001000002000100000e10000301610000002e000100000e10001500020d0000000e10000007d000000384aec900c0de\nreply . DNSKEY 0000840000010001000000000000300001000030000100000e1000060101030daabb\nend\n",
         status: 2,
         text: b"bad words\n",
+    },
+    Row {
+        name: "roll-after-the-hold-down",
+        words: &["roll"],
+        session: b"dns-roll 1\nzone .\nalgorithms 13\nkey 0101030daabb\naccept 13 aabb 00300d0000000e107fffffff00000000aec900000030000100000e1000060101030daabb000030000100000e1000060101030dccdd c0de\nsight 0 000084000000000300000000000030000100000e1000060101030daabb000030000100000e1000060101030dccdd00002e000100000e10001500300d0000000e107fffffff00000000aec900c0de\nsight 2591999 000084000000000300000000000030000100000e1000060101030daabb000030000100000e1000060101030dccdd00002e000100000e10001500300d0000000e107fffffff00000000aec900c0de\nsight 2592000 000084000000000300000000000030000100000e1000060101030daabb000030000100000e1000060101030dccdd00002e000100000e10001500300d0000000e107fffffff00000000aec900c0de\nend\n",
+        status: 0,
+        text: b"trusted 0101030daabb\ntrusted 0101030dccdd\n",
     },
     Row {
         name: "stored-session",
