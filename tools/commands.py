@@ -4,6 +4,7 @@ import os
 import sys
 
 import reading
+import rolled
 from report_lines import BadLine
 from reports import NoReport, report_in
 
@@ -60,26 +61,29 @@ def session_at(path):
     return session
 
 
-def run(tool, words, made):
+def run(tool, words, made, of_keys=None):
     """Writes the text that `made` makes of the report that the arguments name, and answers the status. `made` takes the report, the time or
-    None, and the session or None."""
+    None, and the session or None. Of trusted keys `of_keys` makes it, where it is given, by their records; --session is then the text of sightings."""
     def said(status, what):
         if sys.stderr is not None:
             print(f"{tool}: {what}", file=sys.stderr)
         return status
 
-    path = words.session
+    path = words.report
     try:
-        session = session_at(path)
-        path = words.report
         octets = read_input(path)
+        is_rolled = of_keys is not None and rolled.is_rolled(octets)
+        path = words.session
+        session = None if is_rolled else session_at(path)
+        zone = rolled.zone_in(read_input(path)) if is_rolled and path is not None else ()
     except OSError as error:
         return said(NOT_READ, f"{path} can't be read: {error.strerror or error}")
     except (KeyError, ValueError, IndexError):
-        return said(BAD_INPUT, f"{path} is no session; dns_check names its first bad line")
+        return said(BAD_INPUT, f"{path} is no {'text of sightings' if is_rolled else 'session'}; dns_check names its first bad line")
     moment = words.moment if words.moment is not None or session is None else session.moment
+    path = words.report
     try:
-        text = made(report_in(octets), moment, session)
+        text = of_keys(rolled.keys_in(octets, zone)) if is_rolled else made(report_in(octets), moment, session)
     except BadLine as bad:
         return said(BAD_INPUT, f"{path} is no report: {bad}")
     except NoReport as none:

@@ -22,6 +22,7 @@ import reading  # noqa: E402
 import reasons  # noqa: E402
 import report_lines  # noqa: E402
 import reports  # noqa: E402
+import rolled  # noqa: E402
 import shown  # noqa: E402
 
 # the type, the rdata's octets and its presentation form
@@ -153,6 +154,23 @@ class Grammar(unittest.TestCase):
                 self.assertEqual([len(chain["links"]) for chain in value["chains"]], [len(chain.links) for chain in report.chains])
                 ElementTree.fromstring(drawing.picture(report, None))
         self.assertGreater(count, 90)
+
+
+class TrustedKeys(unittest.TestCase):
+    def test_keys_are_records_with_tags(self):
+        """The tags of the root's keys are those of IANA's "Root Anchors"."""
+        with open(f"{TOP}/rows/roll-of-the-root-2018-10-11.out", "rb") as file:
+            keys = rolled.keys_in(file.read(), ())
+        lines = rolled.text_of(keys).splitlines()
+        self.assertEqual([line.partition(" ; ")[2] for line in lines], ["key 19036 (RSASHA256), SEP", "key 20326 (RSASHA256), SEP"])
+        self.assertTrue(all(line.startswith(". IN DNSKEY 257 3 8 AwEAAa") for line in lines))
+        self.assertEqual([key["tag"] for key in rolled.value_of(keys)], [19036, 20326])
+
+    def test_bad_lines_are_named(self):
+        for text, number in ((b"trusted 01\n", 1), (b"trusted 0101030daabb\nkey 0101030daabb\n", 2), (b"trusted 0101030daabb\n\n", 2), (b"trusted 010x\n", 1)):
+            with self.assertRaises(report_lines.BadLine) as raised:
+                rolled.keys_in(text, ())
+            self.assertEqual(raised.exception.number, number)
 
 
 class Pictures(unittest.TestCase):
