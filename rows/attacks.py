@@ -3,19 +3,23 @@
 
     python3 rows/attacks.py              writes the rows' files beside it; `generate.py` makes the large ones
     python3 rows/attacks.py --check      says whether the files are those
-    python3 rows/attacks.py --dearest    compares the dearest row with rows/model.py, which takes a minute
+    python3 rows/attacks.py --dearest    compares the dearest row, and those that fill a cache, with rows/model.py, which takes minutes
 
-The keys have two words that add up to `aabb`, so that all have the tag of the root's key; signatures end with their number, and none is accepted."""
+The keys have two words that add up to `aabb`, so that all have the tag of the root's key; signatures end with their number, and none is accepted
+but where a row says so."""
 import sys
 
+import model
 import texts
 from scene import TRAIL, Scene, ds_of, finds, main
-from texts import A, DNSKEY, KEY, NS, RRSIG, Record, Signed, key_of, number
+from texts import A, DNSKEY, DS, KEY, NS, RRSIG, Record, Signed, key_of, number
 
 ROOT, EXAMPLE = [], [b"example"]
 SERVER = texts.wire([b"a"])
 MOST_SENDS = 1024
 MANY_KEYS, MANY_SIGNATURES = 301, 100
+# the sets of a cache, and how many fit in a message
+CACHED, SETS_OF_A_MESSAGE = 65_536, 4_000
 
 
 def keys_of_one_tag(count):
@@ -143,8 +147,61 @@ def most_questions():
     return session, texts.report(lines, []), 0
 
 
+def unsigned_ds_sets(first, count):
+    """DS sets below the root, each of one record without rdata, under names that count up in four letters."""
+    def letters(at):
+        return bytes(b"abcdefghijklmnopqrstuvwxyz"[at // 26 ** place % 26] for place in range(4))
+
+    return [Record([letters(at)], DS, b"") for at in range(first, first + count)]
+
+
+def flood_step(sets):
+    """An ask for the root's keys, which gets such sets alone: each is judged, and kept as Bogus."""
+    heard = [*texts.told("additional", sets), *(texts.judged("additional", one.owner, DS, "bogus", "-") for one in sets)]
+    return texts.step(1, ROOT, DNSKEY, heard, "denied bogus")
+
+
+def flooded(others):
+    """Two addresses that the root signed, and between them eight signatures for each of some sets, whose asks for the root's keys get so many
+    other sets to keep. The origin of the key set that is asked for at the end says whether a cache has it still."""
+    floods = [unsigned_ds_sets(kept, min(SETS_OF_A_MESSAGE, others - kept)) for kept in range(0, others, SETS_OF_A_MESSAGE)]
+    first, last = (Signed([Record([owner], A, b"\xc0\0\2\1")], KEY) for owner in (b"first", b"last"))
+    between = [[Record([b"n%d" % at], A, b"\xc0\0\2\1")] for at in range((len(floods) + 7) // 8)]
+    signed = [refused(records, KEY, min(8, len(floods) - 8 * at)) for at, records in enumerate(between)]
+    answers = [*first.section(), *(record for records, sigs in zip(between, signed) for record in (*records, *sigs)), *last.section()]
+    keys = [Record(ROOT, DNSKEY, KEY)]
+    replies = [texts.reply([b"first"], A, texts.message([b"first"], A, answers)), texts.reply(ROOT, DNSKEY, texts.message(ROOT, DNSKEY, keys))]
+    replies += [texts.reply(ROOT, DNSKEY, texts.message(ROOT, DNSKEY, [], flood)) for flood in floods]
+    replies.append(texts.reply(ROOT, DNSKEY, texts.message(ROOT, DNSKEY, keys)))
+    session = texts.session([texts.anchor(KEY)], [first.accept(), last.accept()], [b"first"], A, replies, version=2)
+    lines, heard, asks = first.lines("answer", True), texts.told("answer", answers), 1
+    heard.append(texts.judged("answer", [b"first"], A, "secure", "0", [0]))
+    for records, sigs in zip(between, signed):
+        lines.append(records[0].line("answer", texts.TTL, "bogus"))
+        lines.extend(one.line("answer", texts.TTL, "indeterminate") for one in sigs)
+        heard.append(texts.judged("answer", records[0].owner, A, "bogus", "-", range(asks, asks + len(sigs))))
+        asks += len(sigs)
+    lines += last.lines("answer", True)
+    heard.append(texts.judged("answer", [b"last"], A, "secure", "0", [asks]))
+    links = [texts.anchored(KEY), texts.key_set([KEY])]
+    chains = [line for one in (first, last) for line in texts.chain([*links, one.link(1)])]
+    trail = [texts.keys_step([KEY]), *map(flood_step, floods),
+             texts.keys_step([KEY], "repeat-0" if others < CACHED else "table"), texts.step(0, [b"first"], A, heard, "none")]
+    return session, texts.report(lines, chains, trail), 0, b"validate\ntrail\n"
+
+
+def sets_that_fill_a_cache():
+    """Beside the root's key set a cache has room for 65,535 others, so that it serves again."""
+    return flooded(CACHED - 1)
+
+
+def sets_that_flush_a_cache():
+    """One more, and the key set that was kept is gone. It is judged anew, and has the mark that it had; so has what it signs."""
+    return flooded(CACHED)
+
+
 LARGE = (hundred_signatures_and_301_keys, key_set_of_301_keys, asked_of_a_key_set_of_301_keys, key_set_of_301_keys_below_their_ds_records,
-         most_questions)
+         most_questions, sets_that_fill_a_cache, sets_that_flush_a_cache)
 
 
 if __name__ == "__main__":
@@ -152,5 +209,8 @@ if __name__ == "__main__":
         sys.setrecursionlimit(10_000)
         dearest, report, _ = most_questions()
         assert finds(dearest, ["asks 1024", "questions 24552"]) == report
+        for make in (sets_that_fill_a_cache, sets_that_flush_a_cache):
+            session, report, _, words = make()
+            assert model.written(session, words.split()) == (report, 0)
     else:
         sys.exit(main(sys.modules[__name__], sys.argv[1:]))

@@ -24,7 +24,7 @@ from signing import serial_at_or_before, signed_bytes
 
 FOLDER = os.path.dirname(os.path.realpath(__file__))
 NS, SOA, DS, RRSIG, NSEC, DNSKEY, NSEC3, IN = 2, 6, 43, 46, 47, 48, 50, 1
-MOST_SIGNATURES, MOST_SENDS, MOST_DEPTH, MOST_OF_A_TAG = 8, 1024, 255, 2
+MOST_SIGNATURES, MOST_SENDS, MOST_DEPTH, MOST_OF_A_TAG, MOST_KEPT = 8, 1024, 255, 2, 65_536
 JUDGED_BELOW = (DNSKEY, DS, NSEC, NSEC3, SOA)
 DIGESTS = {1: hashlib.sha1, 2: hashlib.sha256, 4: hashlib.sha384}
 ZONE_KEY, REVOKED = 0x0100, 0x0080
@@ -176,9 +176,12 @@ class Lookup:
     def is_served(self, step, rrset):
         """A set that an earlier step kept for the same question has its mark (RFC 4035, 4.5). The chain of a Secure one is tested, but for
         that of a key set that was asked for: it was accepted before."""
-        number, kept = self.kept.get((folded(step.name), step.kind, rrset.key()), (None, None))
+        place = folded(step.name), step.kind, rrset.key()
+        number, kept = self.kept.get(place, (None, None))
         if kept is None:
             return False
+        # what was used last stays longest
+        self.kept[place] = self.kept.pop(place)
         rrset.repeat(number, kept)
         is_asked = rrset.kind == step.kind == DNSKEY and rrset.section == "answer" and folded(rrset.owner) == folded(step.name)
         self.questions += len(signatures_in(rrset.chain)) if rrset.mark == SIGNED and not is_asked else 0
@@ -191,7 +194,11 @@ class Lookup:
             lasts = rrset.records[0].ttl > 0 and all(self.seconds_left(sig) for sig in signatures_in(rrset.chain or [])) if found else True
             failed = any(ask in ("deep", "many") or self.steps[ask].has_failed() for ask in rrset.asks)
             if rrset.repeats is None and lasts and (found or not failed):
-                self.kept[folded(step.name), step.kind, rrset.key()] = (step.number, rrset)
+                place = folded(step.name), step.kind, rrset.key()
+                self.kept.pop(place, None)
+                self.kept[place] = (step.number, rrset)
+                if len(self.kept) > MOST_KEPT:
+                    del self.kept[next(iter(self.kept))]
 
     def seconds_left(self, sig):
         """No longer than the signature holds, nor than its own ttl (RFC 4035, 5.3.3)."""

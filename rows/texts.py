@@ -168,7 +168,7 @@ def report(records, chains, trail=()):
 
 def told(section, records):
     """The lines of what a step heard: records as they were told, without marks."""
-    return [f"told {section} {shown(one.owner)} IN {type_word(one.kind)} {TTL} {one.rdata.hex()}" for one in records]
+    return [f"told {section} {shown(one.owner)} IN {type_word(one.kind)} {TTL} {one.rdata.hex() or '-'}" for one in records]
 
 
 def judged(section, owner, kind, mark, place, asks=(), origin="table"):
