@@ -1,21 +1,23 @@
 #!/usr/bin/env python3
-"""Seconds of the program over sessions whose lookups make as many sends as may be made, nearly each with a reply of 60,000 bytes or more.
+"""Processor seconds of the program over sessions whose lookups make as many sends as may be made, most of them with replies of 60,000 bytes or
+more.
 
-    python3 bench/dearest.py [PROGRAM]        runs each kind three times
+    python3 bench/dearest.py [PROGRAM]        runs each kind three times, by turns
     python3 bench/dearest.py --write FOLDER   writes each kind as FOLDER/KIND.session, and runs none
     python3 bench/dearest.py --count          counts the sends of each kind by rows/model.py, which takes minutes
 
-PROGRAM is the built dns_check.
+PROGRAM is the built dns_check. The status is 1 where `questions` or `salted` takes more than 1.5 times as long as `owners`.
 """
 import os
 import subprocess
 import sys
-import time
+import tempfile
 
 import sessions
 from sessions import DNSKEY, END, HEAD, MOST_INPUT, MOST_MESSAGE, NS, PROGRAM, RRSIG, TOP
 
 sys.path.insert(0, os.path.join(TOP, "rows"))
+import attacks  # noqa: E402
 import model  # noqa: E402
 import reading  # noqa: E402
 from hashes import hash_of, in_digits  # noqa: E402
@@ -24,6 +26,8 @@ A, DS, NSEC3, OPAQUE, RUNS = 1, 43, 50, 65_280, 3
 ADDRESS = bytes.fromhex("c0000201")
 ROOT = sessions.name()
 KEY = bytes.fromhex("0101030daabb")
+# what the kinds that were made as attacks may take, beside the dearest one
+MOST_TIMES = 1.5
 # a name of 127 labels, and one of 239 bytes, so that there is room for a label below it
 DEEP, LONG = [b"a"] * 127, sessions.name(b"a" * 63, b"b" * 63, b"c" * 63, b"d" * 45)
 
@@ -99,11 +103,21 @@ def hashed():
     """342 sets of a name of 127 labels, none of them signed. Each asks for the name's NS records, which are there, and then for its DS
     set; that answer has 1,200 NSEC3 records of one owner, a hundred iterations and a salt of 12 bytes, of the root alone and with
     opt-out; and their signature asks for the root's keys. The denial is judged by hashes of 129 names, and then the delegation."""
-    salt, types = b"s" * 12, bytes.fromhex("000122")
+    return denied_by(b"s" * 12, 1_200)
+
+
+def salted():
+    """The same with 220 records under a salt of 255 bytes, so that each round of a hash takes five blocks in place of one."""
+    return denied_by(b"s" * 255, 220)
+
+
+def denied_by(salt, count):
+    """Unsigned sets whose DS answers have so many NSEC3 records under a salt."""
+    types = bytes.fromhex("000122")
     digest = hash_of((), salt, 100)
     owner = sessions.name(in_digits(digest))
-    nexts = [(int.from_bytes(digest, "big") - number).to_bytes(20, "big") for number in range(1, 1_201)]
-    rdatas = sorted(bytes([1, 1]) + (100).to_bytes(2, "big") + b"\x0c" + salt + b"\x14" + one + types for one in nexts)
+    nexts = [(int.from_bytes(digest, "big") - number).to_bytes(20, "big") for number in range(1, count + 1)]
+    rdatas = sorted(bytes([1, 1]) + (100).to_bytes(2, "big") + bytes([len(salt)]) + salt + b"\x14" + one + types for one in nexts)
     signed = signature(NSEC3, 1, 0)
     asked = sessions.question(sessions.name(*DEEP), DS)
     pointer = (0xC000 | 12 + len(asked)).to_bytes(2, "big")
@@ -120,19 +134,38 @@ def hashed():
     return "".join((HEAD, accept, f"query {'a.' * len(DEEP)} A\n", *lines, END)).encode()
 
 
-KINDS = (searches, owners, signatures, hashed)
+def questions():
+    """The most questions to a verifier that were found: 1,023 replies with a key set in each section, each with eight signatures."""
+    return attacks.most_questions()[0]
+
+
+KINDS = (searches, owners, signatures, hashed, salted, questions)
 
 
 def seconds(path, text):
-    """The best of some runs, each of which must end with a report, or where memory runs out."""
-    best, status = float("inf"), 0
+    """The processor seconds of a run, the system's part with them. It must end with a report, or where memory runs out."""
+    with tempfile.TemporaryFile() as given:
+        given.write(text)
+        given.seek(0)
+        with subprocess.Popen([path, "validate"], stdin=given, stdout=subprocess.DEVNULL) as child:
+            _, status, usage = os.wait4(child.pid, 0)
+            child.returncode = os.waitstatus_to_exitcode(status)
+    if child.returncode not in (0, 6):
+        sys.exit(f"status {child.returncode}")
+    return usage.ru_utime + usage.ru_stime, child.returncode
+
+
+def measured(path, texts):
+    """Prints the best of some runs of each kind, by turns, and says whether one takes too long."""
+    best, ends = dict.fromkeys(texts, float("inf")), {}
     for _ in range(RUNS):
-        start = time.perf_counter()
-        ended = subprocess.run([path, "validate"], input=text, stdout=subprocess.PIPE, check=False)
-        best, status = min(best, time.perf_counter() - start), ended.returncode
-        if status not in (0, 6):
-            sys.exit(f"status {status}, {ended.stdout[:200]!r}")
-    return best, status
+        for name, text in texts.items():
+            taken, ends[name] = seconds(path, text)
+            best[name] = min(best[name], taken)
+    for name, text in texts.items():
+        told = "" if ends[name] == 0 else ", and ends where memory runs out"
+        print(f"{name:12} {len(text):10,} bytes {best[name]:8.2f} s {best[name] / best['owners']:6.2f} times owners{told}")
+    return any(best[name] > MOST_TIMES * best["owners"] for name in ("questions", "salted"))
 
 
 def main(words):
@@ -151,12 +184,11 @@ def main(words):
         path = words[0] if words else PROGRAM
         if not os.access(path, os.X_OK):
             sys.exit(f"no program at {path}: `rt run` in crates/dns_check builds it")
-        for name, text in texts.items():
-            taken, status = seconds(os.path.abspath(path), text)
-            ends = "" if status == 0 else ", and ends where memory runs out"
-            print(f"{name:12} {len(text):10,} bytes {taken:8.2f} s{ends}", flush=True)
+        return measured(os.path.abspath(path), texts)
     else:
         sys.exit(__doc__)
+    return 0
 
 
-main(sys.argv[1:])
+if __name__ == "__main__":
+    sys.exit(main(sys.argv[1:]))
