@@ -123,15 +123,24 @@ def key_set_of_301_keys():
     return found(key_set(keys_of_one_tag(MANY_KEYS), MANY_SIGNATURES), ["asks 1", "answer . DNSKEY bogus", "questions 8"])
 
 
+def asked(session, records, keys, count):
+    """The questions of a session: each of the first eight signatures of a set with each of some keys of their tag."""
+    signed = [Signed(records, KEY, b"\xd0" + number(at, 2)) for at in range(8)]
+    lines = [line.replace(f" {KEY[4:].hex()} ", f" {key[4:].hex()} ", 1) for line in (one.accept() for one in signed) for key in keys]
+    assert len(lines) == count
+    return session, "".join(line + "\n" for line in ("dns-questions 1", *lines, "end")).encode(), 0, b"questions\n"
+
+
+def asked_of_eight_signatures_and_two_keys():
+    """Of nine signatures and three keys of one tag eight and two are asked about."""
+    keys = keys_of_one_tag(3)
+    return asked(servers(keys, 9), [Record(ROOT, NS, SERVER)], keys[:2], 16)
+
+
 def asked_of_a_key_set_of_301_keys():
     """What a verifier could be asked: each of eight signatures with each key of its tag."""
     keys = keys_of_one_tag(MANY_KEYS)
-    records = [Record(ROOT, DNSKEY, key) for key in keys]
-    signed = [Signed(records, KEY, b"\xd0" + number(at, 2)) for at in range(8)]
-    lines = [line.replace(f" {KEY[4:].hex()} ", f" {key[4:].hex()} ", 1) for line in (one.accept() for one in signed) for key in keys]
-    assert len(lines) == 2_408
-    out = "".join(line + "\n" for line in ("dns-questions 1", *lines, "end")).encode()
-    return key_set(keys, MANY_SIGNATURES), out, 0, b"questions\n"
+    return asked(key_set(keys, MANY_SIGNATURES), [Record(ROOT, DNSKEY, key) for key in keys], keys, 2_408)
 
 
 def key_set_of_301_keys_below_their_ds_records():
@@ -200,8 +209,8 @@ def sets_that_flush_a_cache():
     return flooded(CACHED)
 
 
-LARGE = (hundred_signatures_and_301_keys, key_set_of_301_keys, asked_of_a_key_set_of_301_keys, key_set_of_301_keys_below_their_ds_records,
-         most_questions, sets_that_fill_a_cache, sets_that_flush_a_cache)
+LARGE = (hundred_signatures_and_301_keys, asked_of_eight_signatures_and_two_keys, key_set_of_301_keys, asked_of_a_key_set_of_301_keys,
+         key_set_of_301_keys_below_their_ds_records, most_questions, sets_that_fill_a_cache, sets_that_flush_a_cache)
 
 
 if __name__ == "__main__":
