@@ -1,0 +1,3 @@
+pub mod FourLimbs
+pub mod Ladders
+pub mod Rests

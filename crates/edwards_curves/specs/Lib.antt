@@ -1,0 +1,3 @@
+pub mod Ed25519
+pub mod Numbers
+pub mod Points
