@@ -5,9 +5,10 @@ use Rattle.std.specs.List.{list_any}
 use Rattle.dns_model.specs.Keys.{VerifierAnswers}
 use Rattle.dns_signatures.specs.Ecdsa.{p256_accepts, p384_accepts}
 use Rattle.dns_signatures.specs.Rsa.{rsa_accepts}
+use Rattle.edwards_curves.specs.Ed25519.{ed25519_accepts}
 
 -- which of the algorithms that can be computed are used: RSA with SHA-1 (5), the same for zones with NSEC3 (7), with SHA-256 (8) and
--- with SHA-512 (10), and ECDSA on P-256 (13) and on P-384 (14)
+-- with SHA-512 (10), ECDSA on P-256 (13) and on P-384 (14), and Ed25519 (15)
 pub record ArithmeticValue : Type 0 where
   pub rsa_sha1 : Bool
   pub rsa_sha1_nsec3 : Bool
@@ -15,10 +16,11 @@ pub record ArithmeticValue : Type 0 where
   pub rsa_sha512 : Bool
   pub p256 : Bool
   pub p384 : Bool
+  pub ed25519 : Bool
 
 -- all of them
 abbrev pub all_used : ArithmeticValue
-all_used = record { rsa_sha1 = true; rsa_sha1_nsec3 = true; rsa_sha256 = true; rsa_sha512 = true; p256 = true; p384 = true }
+all_used = record { rsa_sha1 = true; rsa_sha1_nsec3 = true; rsa_sha256 = true; rsa_sha512 = true; p256 = true; p384 = true; ed25519 = true }
 
 -- all but those with SHA-1
 abbrev pub without_sha1 : ArithmeticValue → ArithmeticValue
@@ -36,6 +38,7 @@ limited_to used algorithms = record {
   rsa_sha512 = used.rsa_sha512 && is_among algorithms 10;
   p256 = used.p256 && is_among algorithms 13;
   p384 = used.p384 && is_among algorithms 14;
+  ed25519 = used.ed25519 && is_among algorithms 15;
 }
 
 -- the algorithm, by its number in the registry, is used
@@ -47,13 +50,16 @@ uses used algorithm =
     else if algorithm == 10 then used.rsa_sha512
     else if algorithm == 13 then used.p256
     else if algorithm == 14 then used.p384
+    else if algorithm == 15 then used.ed25519
     else false
 
 -- the signature over the bytes is the key's, by the algorithm's arithmetic
 abbrev pub accepts_by : ℕ → List ℕ → List ℕ → List ℕ → Bool
 accepts_by algorithm key bytes signature =
     if algorithm == 13 then p256_accepts key bytes signature
-    else (if algorithm == 14 then p384_accepts key bytes signature else rsa_accepts algorithm key bytes signature)
+    else (if algorithm == 14 then p384_accepts key bytes signature
+    else (if algorithm == 15 then ed25519_accepts key bytes signature
+    else rsa_accepts algorithm key bytes signature))
 
 -- an algorithm that isn't used is neither supported nor accepted
 abbrev pub arithmetic_answers : ArithmeticValue → VerifierAnswers
@@ -69,4 +75,5 @@ is_same one other =
     && (beq one.rsa_sha1_nsec3 other.rsa_sha1_nsec3
     && (beq one.rsa_sha256 other.rsa_sha256
     && (beq one.rsa_sha512 other.rsa_sha512
-    && (beq one.p256 other.p256 && beq one.p384 other.p384))))
+    && (beq one.p256 other.p256
+    && (beq one.p384 other.p384 && beq one.ed25519 other.ed25519)))))

@@ -5,10 +5,11 @@ ghost use Rattle.dns_signatures.specs.Signatures.{all_used, is_same, limited_to,
 use crate::ecdsa::{p256_accepts, p384_accepts};
 use crate::rsa::rsa_accepts;
 use dns_evidence::Verifier;
+use edwards_curves::ed25519_accepts;
 use std::marker::Model;
 
-/// Verifies signatures by arithmetic: RSA with SHA-1, SHA-256 and SHA-512 (RFC 3110, 5155 and 5702), and ECDSA on P-256 and P-384
-/// (RFC 6605). Other algorithms aren't supported. It takes no memory and keeps nothing.
+/// Verifies signatures by arithmetic: RSA with SHA-1, SHA-256 and SHA-512 (RFC 3110, 5155 and 5702), ECDSA on P-256 and P-384
+/// (RFC 6605), and Ed25519 (RFC 8080). Other algorithms aren't supported. It takes no memory and keeps nothing.
 #[derive(Clone, Copy)]
 pub struct Arithmetic {
     rsa_sha1: bool,
@@ -17,6 +18,7 @@ pub struct Arithmetic {
     rsa_sha512: bool,
     p256: bool,
     p384: bool,
+    ed25519: bool,
 }
 
 impl Model for Arithmetic {
@@ -31,6 +33,7 @@ impl Model for Arithmetic {
       rsa_sha512 = a.rsa_sha512;
       p256 = a.p256;
       p384 = a.p384;
+      ed25519 = a.ed25519;
     } };
 
     ghost inverse = { λ a. record {
@@ -40,6 +43,7 @@ impl Model for Arithmetic {
       rsa_sha512 = a.rsa_sha512;
       p256 = a.p256;
       p384 = a.p384;
+      ed25519 = a.ed25519;
     } };
 }
 
@@ -55,6 +59,7 @@ impl Arithmetic {
             rsa_sha512: true,
             p256: true,
             p384: true,
+            ed25519: true,
         }
     }
 
@@ -80,6 +85,7 @@ impl Arithmetic {
             rsa_sha512: self.rsa_sha512 && algorithms.contains(&10),
             p256: self.p256 && algorithms.contains(&13),
             p384: self.p384 && algorithms.contains(&14),
+            ed25519: self.ed25519 && algorithms.contains(&15),
         }
     }
 }
@@ -95,6 +101,7 @@ impl Arithmetic {
             && self.rsa_sha512 == other.rsa_sha512
             && self.p256 == other.p256
             && self.p384 == other.p384
+            && self.ed25519 == other.ed25519
     }
 }
 
@@ -114,6 +121,7 @@ impl Verifier for Arithmetic {
             10 => self.rsa_sha512,
             13 => self.p256,
             14 => self.p384,
+            15 => self.ed25519,
             _ => false,
         }
     }
@@ -123,6 +131,7 @@ impl Verifier for Arithmetic {
             && match algorithm {
                 13 => p256_accepts(key, bytes, signature),
                 14 => p384_accepts(key, bytes, signature),
+                15 => ed25519_accepts(key, bytes, signature),
                 _ => rsa_accepts(algorithm, key, bytes, signature),
             }
     }
