@@ -7,7 +7,8 @@ by_digit : (p q r : PointValue) (one : Bool) → (one ≡ true → r ≡ prepare
 by_digit p q r true f g = f refl
 by_digit p q r false f g = g refl
 
-pub multiple_none : (p : PointValue) (n : ℕ) (q : PointValue) → q ≡ record { x = 0; y = 1; z = 1; t = 0 } → q ≡ multiple_after p n 253 0
+pub multiple_none : (p : PointValue) (n : ℕ) (q : PointValue) → q ≡ record { x = 0; y = 1; z = 1; t = 0 }
+    → q ≡ multiple_after p n 253 0
 unfolding multiple_after
 multiple_none p n q e = e
 
@@ -24,6 +25,7 @@ multiple_more p s k done place q r one v e h d f g =
     ∙ ap (λ (x : PointValue). cond (eqb (k / 2 ^ (253 - suc done) % 2) 1) (prepared_sum (point_double x) (prepared p))
     (point_double x)) h)
 
-pub multiple_all : (p : PointValue) (k done : ℕ) (q : PointValue) → done ≡ 253 → q ≡ multiple_after p k 253 done → q ≡ multiple k p
+pub multiple_all : (p : PointValue) (k done : ℕ) (q : PointValue) → done ≡ 253 → q ≡ multiple_after p k 253 done
+    → q ≡ multiple k p
 unfolding multiple
 multiple_all p k done q e h = h ∙ ap (λ (n : ℕ). multiple_after p k 253 n) e

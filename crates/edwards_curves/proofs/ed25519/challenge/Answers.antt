@@ -6,4 +6,5 @@ use Rattle.edwards_curves.proofs.ed25519.challenge.Goals as goal
 pub returns : goal.returns
 unfolding challenge order
 returns c =
-    c.remainder.ensures ∙ ap (λ (n : ℕ). n % order) (c.read_little-number.ensures ∙ ap little c.digest_of-digest.ensures)
+    c.remainder.ensures ∙ ap (λ (n : ℕ). n % order) (c.read_little-number.ensures
+    ∙ ap little c.digest_of-digest.ensures)
