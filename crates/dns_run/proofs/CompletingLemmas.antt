@@ -22,7 +22,8 @@ use Rattle.dns_run.proofs.EndLemmas.{RunEnding, Reported, Failed, Refused, Later
 use Rattle.dns_session_lookup.proofs.ReplyLemmas.{session_replied}
 
 -- a trail for a valid session proves its query
-session_proved : (how : Verification) (s : SessionValue) (trail : List AskedValue) (ending : EndingValue) → IsValid how s
+session_proved : (how : Verification) (s : SessionValue) (trail : List AskedValue) (ending : EndingValue)
+    → IsValid how s
     → IsSessionTrail how s trail ending
     → IsProved (session_judge how s) (session_replies s) s.query trail ending
 session_proved how s trail ending valid is =
@@ -30,7 +31,8 @@ session_proved how s trail ending valid is =
     (session_limits s) [] s.query trail is.top ending is.derived refl is.last is.query is.ends is.from valid
 
 -- the records that a valid session replies to its query
-session_reply_of : (how : Verification) (s : SessionValue) → IsValid how s → HasReply (first_told (session_replies s)) s.query
+session_reply_of : (how : Verification) (s : SessionValue) → IsValid how s
+    → HasReply (first_told (session_replies s)) s.query
 session_reply_of how s valid =
     valid_reply (session_judge how s) (first_told (session_replies s)) (session_depth s) s.query valid
 
@@ -69,7 +71,8 @@ valid_ends how shows bytes s status before now read valid (Refused is wrote) =
     absurd (no_line bytes s wrote.fact.number read wrote.fact.read)
 valid_ends how shows bytes s status before now read valid (Later late) = Stopped late
 
-pub ends_securely : (how : Verification) (shows : Parts) (status : ℕ) (told before now : Option (List ℕ)) → Says how shows status told before now
+pub ends_securely : (how : Verification) (shows : Parts) (status : ℕ) (told before now : Option (List ℕ))
+    → Says how shows status told before now
     → IfSession told (λ s. IsValid how s → EndsSecurely how shows s status before now)
 ends_securely how shows status None before now says = tt
 ends_securely how shows status (Some bytes) before now says = λ s read valid.

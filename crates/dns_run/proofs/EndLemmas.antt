@@ -111,28 +111,32 @@ no_records s records told none = clash (sym told ∙ ap told_of none)
     clash : Some records ≡ None → ⊥
     clash h = cc
 
-sound_message : (how : Verification) (s : SessionValue) (answer : ResponseValue) → IsSound how s answer → session_message s ≡ None → ⊥
+sound_message : (how : Verification) (s : SessionValue) (answer : ResponseValue) → IsSound how s answer
+    → session_message s ≡ None → ⊥
 sound_message how s answer is none = clash (sym is.told ∙ none)
   where
     clash : Some is.message ≡ None → ⊥
     clash h = cc
 
 -- without a message
-no_message_only : (how : Verification) (s : SessionValue) (error x : ErrorValue) → HasNoMessage s error → FaultCause how s x → x ≡ error
+no_message_only : (how : Verification) (s : SessionValue) (error x : ErrorValue) → HasNoMessage s error
+    → FaultCause how s x → x ≡ error
 no_message_only how s error x h (NoMessage other) =
     err_same (session_told s) x error other.told h.told
 no_message_only how s error x h (OtherClass f) = absurd (no_records s f.records f.told h.silent)
 no_message_only how s error x h (NotDenied response proof given is) =
     absurd (sound_message how s response given.sound h.silent)
 
-only_no_message : (how : Verification) (s : SessionValue) (error : ErrorValue) → HasNoMessage s error → OnlyFault how s error
+only_no_message : (how : Verification) (s : SessionValue) (error : ErrorValue) → HasNoMessage s error
+    → OnlyFault how s error
 only_no_message how s error h = record {
   no_answer = λ answer given. sound_message how s answer given.sound h.silent;
   only = λ x cause. no_message_only how s error x h cause;
 }
 
 -- with a record of another class
-foreign_only : (how : Verification) (s : SessionValue) (error x : ErrorValue) → HasForeign s error → FaultCause how s x → x ≡ error
+foreign_only : (how : Verification) (s : SessionValue) (error x : ErrorValue) → HasForeign s error → FaultCause how s x
+    → x ≡ error
 foreign_only how s error x f (NoMessage other) = absurd (no_records s f.records f.told other.silent)
 foreign_only how s error x f (OtherClass g) =
     let records : g.records ≡ f.records = some_same _ g.records f.records g.told f.told in
@@ -167,14 +171,16 @@ own_class s records x told own g =
     clash h = cc
 
 -- with records of the query's class alone
-response_caused : (how : Verification) (s : SessionValue) (records : Told) (x : ErrorValue) → session_records s ≡ Some records
+response_caused : (how : Verification) (s : SessionValue) (records : Told) (x : ErrorValue)
+    → session_records s ≡ Some records
     → foreign_record s.query records ≡ None
     → FaultCause how s x → has_response (Err x) ≡ true
 response_caused how s records x told own (NoMessage other) = absurd (no_records s records told other.silent)
 response_caused how s records x told own (OtherClass g) = absurd (own_class s records x told own g)
 response_caused how s records x told own (NotDenied response proof given is) = ap (λ y. has_response (Err y)) is
 
-ends_answered : (how : Verification) (s : SessionValue) (status : ℕ) (before now : Option (List ℕ)) → Session how s status before now
+ends_answered : (how : Verification) (s : SessionValue) (status : ℕ) (before now : Option (List ℕ))
+    → Session how s status before now
     → ((x : ErrorValue) → FaultCause how s x → has_response (Err x) ≡ true) → EndsAsAnswered status before now
 ends_answered how s status before now (GivesReport answer given is) caused = runs.Reported is
 ends_answered how s status before now (GivesFault x cause is written) caused =
@@ -182,7 +188,8 @@ ends_answered how s status before now (GivesFault x cause is written) caused =
 ends_answered how s status before now (GivesLater late) caused = runs.Late late
 
 -- what a run over a session ends with
-ends_session : (how : Verification) (s : SessionValue) (status : ℕ) (before now : Option (List ℕ)) → Session how s status before now
+ends_session : (how : Verification) (s : SessionValue) (status : ℕ) (before now : Option (List ℕ))
+    → Session how s status before now
     → EndsAsSession s status before now
 ends_session how s status before now ended = record {
   no_message = λ error none. ends_fault how s status before now error (only_no_message how s error none) ended;
@@ -214,7 +221,8 @@ line_ends how shows bytes number status before now read (Refused is wrote) =
 line_ends how shows bytes number status before now read (Later late) = Stopped late
 
 -- an input that is no session
-ends_bad_line : (how : Verification) (shows : Parts) (status : ℕ) (told before now : Option (List ℕ)) → Says how shows status told before now
+ends_bad_line : (how : Verification) (shows : Parts) (status : ℕ) (told before now : Option (List ℕ))
+    → Says how shows status told before now
     → IfBadLine told (λ number. EndsWith status 3 before now (bad_line_text number))
 ends_bad_line how shows status None before now says = tt
 ends_bad_line how shows status (Some bytes) before now says = λ number read.

@@ -18,7 +18,8 @@ report_derived how shows before now bytes wrote =
       written = wrote.written;
     }
 
-pub leaves_reports : (how : Verification) (shows : Parts) (told before now : Option (List ℕ)) → Leaves (Derives how shows) told before now
+pub leaves_reports : (how : Verification) (shows : Parts) (told before now : Option (List ℕ))
+    → Leaves (Derives how shows) told before now
     → Leaves (Reports how shows) told before now
 leaves_reports how shows None before now some =
     record { bytes = some.bytes; fact = report_derived how shows before now some.bytes some.fact }
@@ -29,7 +30,8 @@ pub nothing_written : (how : Verification) (shows : Parts) (before : Option (Lis
     → WrotePrefix before before (ComesTo how shows bytes)
 nothing_written how shows before bytes = record { text = []; fact = Nothing refl; written = nothing_taken before [] }
 
-pub nothing_told : (how : Verification) (shows : Parts) (told before : Option (List ℕ)) → LeavesPrefix how shows told before before
+pub nothing_told : (how : Verification) (shows : Parts) (told before : Option (List ℕ))
+    → LeavesPrefix how shows told before before
 nothing_told how shows told before =
     of_any (λ bytes. WrotePrefix before before (ComesTo how shows bytes)) told (nothing_written how shows before)
 
@@ -45,7 +47,8 @@ pub refused_prefix : (how : Verification) (shows : Parts) (before now : Option (
     → Refuses bytes text → TakesPrefix before now text → WrotePrefix before now (ComesTo how shows bytes)
 refused_prefix how shows before now bytes text is taken = record { text = text; fact = Refused is; written = taken }
 
-pub long_prefix : (how : Verification) (shows : Parts) (told before now : Option (List ℕ)) → IfSome told (λ left. input_limit < length left)
+pub long_prefix : (how : Verification) (shows : Parts) (told before now : Option (List ℕ))
+    → IfSome told (λ left. input_limit < length left)
     → TakesPrefix before now too_long_text → LeavesPrefix how shows told before now
 long_prefix how shows told before now long taken =
     of_long (λ bytes. WrotePrefix before now (ComesTo how shows bytes)) told long

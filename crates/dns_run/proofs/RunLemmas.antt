@@ -81,7 +81,8 @@ none_no_task task h = cc
 ask_no_session : (by : Verification) (protocol : Protocol) (server : ServerAddress) (how : Verification) (shows : Parts) → Some (Ask by protocol server) ≡ Some (Validate how shows) → ⊥
 ask_no_session by protocol server how shows h = cc
 
-ask_no_task : (by : Verification) (protocol : Protocol) (server : ServerAddress) (task : TaskKind) → Some (Ask by protocol server) ≡ Some (Task task) → ⊥
+ask_no_task : (by : Verification) (protocol : Protocol) (server : ServerAddress) (task : TaskKind)
+    → Some (Ask by protocol server) ≡ Some (Task task) → ⊥
 ask_no_task by protocol server task h = cc
 
 true_no_false : true ≡ false → ⊥

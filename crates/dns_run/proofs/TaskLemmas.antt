@@ -204,7 +204,8 @@ denial_of seen.NoMemory trail h = cc
 
 denial_given : (s : SessionValue) (error : ErrorValue) (trail : List AskedValue) (listed : ListedValue) (moment : ℕ)
     (text : List ℕ)
-    → IsDenial error trail → AnswersSession ByList s (Err error) → answers_of listed ≡ answers_of (listing s.algorithms [])
+    → IsDenial error trail → AnswersSession ByList s (Err error)
+    → answers_of listed ≡ answers_of (listing s.algorithms [])
     → moment ≡ s.moment → text ≡ questions_text (questions (judge (answers_of listed) [] moment) trail)
     → AnswersQuestions s 0 text
 denial_given s error trail listed moment text d given lists at is =

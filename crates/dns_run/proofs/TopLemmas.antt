@@ -43,7 +43,8 @@ top_heard how s trail ending is f =
     ∙ ap (λ q. heard_from (reply_to (map recorded s.replies) q)) (ap (λ step. step.query) (sym same) ∙ is.query)
     ∙ ap heard_from (session_replied s)
 
-is_top : (how : Verification) (s : SessionValue) (trail : List AskedValue) (ending : EndingValue) → IsSessionTrail how s trail ending
+is_top : (how : Verification) (s : SessionValue) (trail : List AskedValue) (ending : EndingValue)
+    → IsSessionTrail how s trail ending
     → IsTop how s trail ending
 unfolding step_holds
 is_top how s trail ending is =
