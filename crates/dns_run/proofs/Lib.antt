@@ -7,3 +7,4 @@ pub mod TaskLemmas
 pub mod BenchLemmas
 pub mod AskLemmas
 pub mod RunLemmas
+pub mod RollLemmas
