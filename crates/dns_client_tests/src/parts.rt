@@ -10,6 +10,7 @@ pub(crate) fn check(rt: &impl Abort, row: &str, held: bool) {
 }
 
 /// Records of one name, type, class and ttl: their rdatas, each fewer than 65,536 bytes.
+#[derive(Drop)]
 pub(crate) struct Given {
     pub(crate) owner: &'static str,
     pub(crate) record_type: u16,
