@@ -30,6 +30,8 @@ DIGESTS = {1: hashlib.sha1, 2: hashlib.sha256, 4: hashlib.sha384}
 ZONE_KEY, REVOKED = 0x0100, 0x0080
 # what is known of a zone by the ask for its DS set: the mark that its sets can have, that set's chain and its records that count
 Zone = namedtuple("Zone", "mark chain records", defaults=((), ()))
+# no time comes after it
+LAST_MOMENT = 2**64 - 1
 
 
 class Set:
@@ -178,7 +180,8 @@ class Lookup:
         that of a key set that was asked for: it was accepted before."""
         place = folded(step.name), step.kind, rrset.key()
         number, kept = self.kept.get(place, (None, None))
-        if kept is None:
+        # an entry expires at the greatest moment at the latest
+        if kept is None or self.session.moment == LAST_MOMENT:
             return False
         # what was used last stays longest
         self.kept[place] = self.kept.pop(place)
