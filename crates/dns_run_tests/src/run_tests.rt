@@ -75,10 +75,10 @@ fn ends_so(rt: &impl Abort, alloc: Global, words: &[Vec<u8>], row: &Row) -> bool
         && failing_ends(rt, alloc, words, row.session, &[], row.status, row.text)
 }
 
-// The words ask for a session to be read.
+// The words ask for an input to be read.
 fn is_reading(words: &[&str]) -> bool {
     match words {
-        [one] => *one == "validate",
+        [one] => *one == "validate" || *one == "roll",
         [one, other] => *one == "validate" && *other == "trail",
         _ => false,
     }
