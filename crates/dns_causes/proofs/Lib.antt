@@ -1,0 +1,5 @@
+pub mod LedLemmas
+pub mod MarkedLemmas
+pub mod PlaceLemmas
+pub mod StepLemmas
+pub mod TextLemmas
