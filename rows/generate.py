@@ -10,6 +10,7 @@ import sys
 import attacks
 import denials
 import hashed
+import model
 import texts
 import unsigned
 import walk
@@ -114,6 +115,13 @@ def asked_of_a_hundred_sets():
     lines = [line for line in session.splitlines(True) if line.startswith(b"accept ")]
     bare = b"".join(line for line in session.splitlines(True) if not line.startswith(b"accept "))
     return bare, b"dns-questions 1\n" + b"".join(lines) + b"end\n", 0, b"questions\n"
+
+
+def explained_hundred_sets():
+    """Why none of as many sets is Secure: no signature is accepted."""
+    session = asked_of_a_hundred_sets()[0]
+    out, status = model.written(session, [b"explain"])
+    return session, out, status, b"explain\n"
 
 
 def more_sends_than_are_made():
@@ -351,7 +359,8 @@ def line_with_a_word_of_300_letters():
     return with_bad_line("r" * 300 + " . A -", ["moment 1", "algorithms", "query . A"])
 
 
-MADE = (forty_keys, sixty_links, two_hundred_sets, hundred_chains, audit_of_a_hundred_chains, audit_of_a_long_report, asked_of_a_hundred_sets, more_sends_than_are_made, name_of_127_labels,
+MADE = (forty_keys, sixty_links, two_hundred_sets, hundred_chains, audit_of_a_hundred_chains, audit_of_a_long_report, asked_of_a_hundred_sets, explained_hundred_sets,
+        more_sends_than_are_made, name_of_127_labels,
         longest_message, thousand_anchors, longest_input, input_of_a_byte_too_many, line_of_sixteen_mebibytes,
         asks_that_are_refused, searches_past_the_last_send, walk.four_hundred_copies_of_a_key,
         walk.four_hundred_copies_and_no_other, walk.ds_ask_past_the_last_send, walk.deepest_keys_beside_their_own_ds,

@@ -4,6 +4,7 @@
     python3 rows/model.py SESSION          the report or the fault line
     python3 rows/model.py SESSION trail    with the trail
     python3 rows/model.py TEXT roll        the trusted keys after a text of sightings
+    python3 rows/model.py SESSION explain  with the trail, and why each set isn't Secure
     python3 rows/model.py                  compares the rows and the examples that are looked up, also with the number of asks that the
                                            README of the examples says, and names those that differ"""
 import glob
@@ -28,8 +29,9 @@ MOST_SIGNATURES, MOST_SENDS, MOST_DEPTH, MOST_OF_A_TAG, MOST_KEPT = 8, 1024, 255
 JUDGED_BELOW = (DNSKEY, DS, NSEC, NSEC3, SOA)
 DIGESTS = {1: hashlib.sha1, 2: hashlib.sha256, 4: hashlib.sha384}
 ZONE_KEY, REVOKED = 0x0100, 0x0080
-# what is known of a zone by the ask for its DS set: the mark that its sets can have, that set's chain and its records that count
-Zone = namedtuple("Zone", "mark chain records", defaults=((), ()))
+# what is known of a zone by the ask for its DS set: the mark that its sets can have, that set's chain and its records that count, and why
+# it isn't signed
+Zone = namedtuple("Zone", "mark chain records cause", defaults=((), (), None))
 # no time comes after it
 LAST_MOMENT = 2**64 - 1
 
@@ -41,6 +43,7 @@ class Set:
         self.section, self.owner, self.kind = section, first.owner, first.kind
         self.records, self.signatures = [], []
         self.mark, self.place, self.asks, self.chain, self.repeats = BOGUS, None, [], None, None
+        self.cause = "dnskey-not-found" if self.kind == DNSKEY else "rrsigs-not-present"
 
     def secure(self, place, chain):
         self.mark, self.place, self.chain = SIGNED, place, chain
@@ -50,7 +53,16 @@ class Set:
 
     def repeat(self, number, kept):
         """As the step of this number found it."""
-        self.mark, self.place, self.chain, self.repeats = kept.mark, kept.place, kept.chain, number
+        self.mark, self.place, self.chain, self.repeats, self.cause = kept.mark, kept.place, kept.chain, number, kept.cause
+
+    def why(self):
+        """Why it isn't Secure, where no signature decided that."""
+        return "none" if self.mark == SIGNED or self.place is not None else self.cause
+
+    def tried(self, asked):
+        """A signature whose keys were asked for didn't prove it. The first query that failed stays the cause."""
+        if self.cause != "net":
+            self.cause = "rrsigs-unverified" if asked else "net"
 
     def rdatas(self):
         return [record.rdata.hex() or "-" for record in self.records]
@@ -231,14 +243,18 @@ class Lookup:
         whose signer has Insecure keys. Without a signature its zone decides, but for a DS set."""
         if not rrset.signatures:
             start = rrset.owner[1:] if rrset.kind == NSEC3 else rrset.owner
-            if rrset.kind != DS and self.is_insecure(step, rrset.asks, start):
-                rrset.insecure()
+            if rrset.kind != DS:
+                zone = self.searched(step, rrset.asks, start)
+                rrset.cause = zone.cause or rrset.cause
+                if zone.mark == INSECURE:
+                    rrset.insecure()
         for place, signature in enumerate(rrset.signatures[:MOST_SIGNATURES]):
             signer = rrsig_of(signature).signer
             itself = folded(signer) == folded(rrset.owner)
             if not is_above(signer, rrset.owner) or (rrset.kind == DS and itself) or step.is_question(signer, DNSKEY):
                 continue
             asked = self.nested(step, rrset.asks, signer, DNSKEY)
+            rrset.tried(asked)
             keys = asked and may_sign(rrset, signature) and next((one for one in asked.sets if is_set(one, signer, DNSKEY)), None)
             counted = counted_keys(keys) if keys else []
             may_prove = counted if keys and keys.mark == SIGNED else []
@@ -283,6 +299,7 @@ class Lookup:
 
     def mark_by_ds(self, step, rrset, is_anchored):
         zone = self.zone(step, rrset.asks, rrset.owner)
+        rrset.cause = zone.cause or "ds-records-but-no-dnskey"
         if zone.mark == INSECURE:
             rrset.insecure()
         if zone.mark != SIGNED:
@@ -312,30 +329,34 @@ class Lookup:
         is Insecure at the zone or above it."""
         asked = self.nested(step, asks, name, DS)
         if not asked:
-            return Zone(BOGUS)
+            return Zone(BOGUS, cause="net")
         ds_set = next((one for one in asked.sets if is_set(one, name, DS)), None)
         if not ds_set:
             is_cut = any(answers.is_unsigned_cut(nsec, name) for nsec in secure_nsecs(asked))
             is_cut = is_cut or hashes.is_unsigned(name, answers.secure_nsec3s(asked))
             is_excused = any(one.mark == INSECURE and is_above(one.owner, name) for one in asked.sets)
-            return Zone(INSECURE if is_cut or is_excused else BOGUS)
+            is_shown = is_cut or is_excused
+            return Zone(INSECURE, cause="ds-response-insecure") if is_shown else Zone(BOGUS, cause="ds-record-should-exist")
         readable = list(filter(ds_of, ds_set.records))
         if ds_set.mark != SIGNED or not readable:
-            return Zone(BOGUS)
+            return Zone(BOGUS, cause="ds-record-should-exist")
         supported = [record for record in readable if self.is_supported(ds_of(record))]
         counted = first_of_each(supported, lambda record: (ds_of(record).algorithm, ds_of(record).tag))
-        return Zone(SIGNED, ds_set.chain, counted) if counted else Zone(INSECURE)
+        return Zone(SIGNED, ds_set.chain, counted) if counted else Zone(INSECURE, cause="unknown-key-algorithm")
 
     def is_insecure(self, step, asks, start):
+        return self.searched(step, asks, start).mark == INSECURE
+
+    def searched(self, step, asks, start):
         """The search for a zone: from name to parent NS records are asked for, as deep as the step is, and the name that has some
         is the zone. That there are no records leads on, whatever comes with it; a fault ends the search, and so does the root."""
         for name in (start[cut:] for cut in range(len(start))):
             asked = self.made(asks, step.depth, "ns", name, NS)
             if not asked or not asked.message:
-                return False
+                return Zone(BOGUS, cause="net")
             if not asked.message.is_empty and has_ns(asked.message, name):
-                return self.zone(step, asks, name).mark == INSECURE
-        return False
+                return self.zone(step, asks, name)
+        return Zone(BOGUS, cause="ds-record-should-exist")
 
     def is_supported(self, ds):
         return ds is not None and ds.algorithm in self.session.algorithms and ds.digest_type in DIGESTS
@@ -377,7 +398,10 @@ def written(session, words=(b"validate",)):
         return rolling.written(session)
     lookup = Lookup(reading.session_in(session))
     fault = report.fault_line(lookup.top)
-    lines = [fault] if fault else report.lines(lookup, b"trail" in words)
+    if words[0] == b"explain":
+        lines = report.explained(lookup)
+    else:
+        lines = [fault] if fault else report.lines(lookup, b"trail" in words)
     return "".join(line + "\n" for line in lines).encode("latin-1"), 1 if fault else 0
 
 
@@ -395,7 +419,7 @@ def stored_rows():
     for path in sorted(glob.glob(f"{FOLDER}/*.session") + glob.glob(f"{FOLDER}/../examples/*.session")):
         place = path.removesuffix(".session")
         words, status = read(f"{place}.words", b"validate\n").split(b"\n")[:-1], int(read(f"{place}.status", b"0"))
-        if (words[:1] == [b"validate"] and status in (0, 1)) or words == [b"roll"]:
+        if (words[:1] in ([b"validate"], [b"explain"]) and status in (0, 1)) or words == [b"roll"]:
             yield place, words, read(path, b""), read(f"{place}.out", b""), status
         if os.path.isfile(f"{place}.trail"):
             yield place, [b"validate", b"trail"], read(path, b""), read(f"{place}.trail", b""), 0
@@ -413,7 +437,9 @@ def miscounted():
 
 def main(words):
     if words:
-        text, status = written(read(words[0], b""), [word.encode() for word in words[1:]] or [b"validate"])
+        first = words[1].encode() if words[1:] in (["explain"], ["roll"]) else b"validate"
+        named = [first, *(word.encode() for word in words[1:])]
+        text, status = written(read(words[0], b""), named)
         sys.stdout.buffer.write(text)
         return status
     wrong, count = 0, 0

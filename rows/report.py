@@ -78,7 +78,8 @@ def fault_line(step):
 
 def lines(lookup, with_trail):
     top, moment = lookup.top, lookup.session.moment
-    yield from ("dns-report 1", f"code {top.message.code}", f"denial {top.ending}")
+    denial = "none" if top.ending.startswith("denied") else top.ending
+    yield from ("dns-report 1", f"code {top.message.code}", f"denial {denial}")
     for section, records in zip(SECTIONS, top.message.sections):
         sets = [rrset for rrset in top.sets if rrset.section == section]
         yield from (record_line(section, record, sets, moment) for record in records)
@@ -90,3 +91,17 @@ def lines(lookup, with_trail):
         for step in lookup.steps:
             yield from step_lines(step)
     yield "end"
+
+
+def explained(lookup):
+    """The report with its trail, of an answer that was refused too, the line of its error, and a line for each set with its cause; for an
+    error without an answer its line alone."""
+    fault = fault_line(lookup.top)
+    if not lookup.top.message or lookup.top.ending.startswith("foreign"):
+        yield fault
+        return
+    yield from lines(lookup, True)
+    yield from [fault] if fault else []
+    for step in lookup.steps:
+        for rrset in step.sets:
+            yield f"why {step.number} {rrset.section} {shown(rrset.owner)} {type_word(rrset.kind)} {rrset.why()}"

@@ -1,7 +1,8 @@
 -- How a run ends that asks a server, out of what the server was asked and answered.
-use Rattle.std.proofs.Common.{true, false, ◌≡◌, ◌<◌, ◌≤◌, ◌∙◌, ℕ, List, [], Option, IfSome, IfOk, IsOk, MatchResult, Result, Ok, Err, length, refl, sym, ap, subst, arith}
+use Rattle.std.proofs.Common.{true, false, ◌≡◌, ◌<◌, ◌≤◌, ◌∙◌, ℕ, List, [], Option, None, Some, IfSome, IfOk, IsOk, MatchResult, Result, Ok, Err, length, refl, sym, ap, subst, arith}
 use Rattle.std.proofs.lemmas.Result.{IfOk-weaker}
 use Rattle.std.specs.Prelude.{unwrap_or}
+use Rattle.std.specs.Option.{option_map}
 use Rattle.std.specs.Io.KnownBytes.{Appends}
 use Rattle.dns_model.specs.Chains.{judge}
 use Rattle.dns_model.specs.SoundAnswers.{told_by, Sound, ResponseValue}
@@ -20,10 +21,14 @@ use Rattle.dns_io.specs.Writing.{TakesPrefix}
 use Rattle.dns_io.proofs.Leaving.{of_read, of_any, of_long, nothing_taken}
 use Rattle.dns_session.specs.SessionValue.{SessionValue}
 use Rattle.dns_session.specs.Grammar.{session_of}
-use Rattle.dns_run.specs.Asks.{ServerCall, AnswersOver, Reported, Failed, EndsAsk, AsksSession, IsInquiryOf, IsReplyText, IsSoundAt, ServerEnds, ServerTells, Ended, TooLong, Nothing, at_moment}
+use Rattle.dns_run.specs.Asks.{ServerCall, AnswersOver, Reported, Failed, EndsAsk, ExplainedOver, TellsOver, AsksSession, IsInquiryOf, IsReplyText, IsSoundAt, ServerEnds, ServerTells, Ended, TooLong, Nothing, at_moment}
+use Rattle.dns_run.specs.Explaining.{IsExplained, judge_by}
+use Rattle.dns_run.specs.ExplainingOver.{IsJudgingOf, IsToldText, JudgesSession}
 use Rattle.dns_run.specs.Outcomes.{Wrote, WrotePrefix}
+use Rattle.dns_run.specs.declared.judging.Judging.{Judging}
+use Rattle.dns_run.proofs.ExplainLemmas.{at_own_moment, judging_session}
 use Rattle.dns_session_lookup.specs.Soundness.{session_judge}
-use Rattle.dns_session_lookup.specs.Verifying.{session_answers, verifier_answers}
+use Rattle.dns_session_lookup.specs.Verifying.{verifier_answers}
 use Rattle.dns_session_lookup.specs.contracts.verification.SessionVerifierVerifier.TheImpl as tests
 use Rattle.dns_session_lookup.specs.declared.verification.Verification.{Verification}
 use Rattle.dns_session_lookup.specs.declared.verification.SessionVerifier.{SessionVerifier}
@@ -110,17 +115,63 @@ module _ {D L : Type 0} (call : ServerCall D L) (s : SessionValue) (now : ℕ) (
         spelled = spelled;
       })
 
-  -- and where there is one
-  pub all_answered : {X Z : Type 0} (inquiry : Inquiry SessionVerifier) (draws : RandDraws) (reply : Reply)
-      (status : X → ℕ) (text : X → List ℕ) (ending : Result X Z) → IsInquiryOf call.how s now inquiry
+  -- ---- explained
+
+  sound_reply : (inquiry : Inquiry SessionVerifier) (draws : RandDraws) (reply : Reply)
+      → IsInquiryOf call.how s now inquiry
+      → AsksServer call.network tests.ghosts call.server inquiry draws old new reply call.protocol
+      → IfOk reply (IsSoundAt call.how s now)
+  sound_reply inquiry draws (Ok a) is asks = sound_at call.protocol inquiry draws a is asks
+  sound_reply inquiry draws (Err e) is asks = tt
+
+  -- the same of an answer that is explained
+  explained_over : (inquiry : Inquiry SessionVerifier) (draws : RandDraws) (reply : Reply) (j : Judging) (status : ℕ)
+      (text : List ℕ) → IsInquiryOf call.how s now inquiry → JudgesSession call.how s now j
       → draws ≡ drawn_at call.seed inquiry.moment
       → AsksServer call.network tests.ghosts call.server inquiry draws old new reply call.protocol
       → AnswerCause call.protocol (dialer_view call.network.counts call.network.came old)
       (dialer_view call.network.counts call.network.came new) reply
-      → IfOk ending (λ x. IsReplyText reply (status x) (text x))
-      → IfOk ending (λ x. AnswersOver call s now old new (status x) (text x))
-  all_answered inquiry draws reply status text ending is drawn asks caused texts =
-      IfOk-weaker ending _ _ (λ x. answered_over inquiry draws reply (status x) (text x) is drawn asks caused) texts
+      → IsExplained (judge_by j) j.limits reply status text → ExplainedOver call s now old new status text
+  explained_over inquiry draws reply j status text is judges drawn asks caused explained = record {
+    reply = reply;
+    asks = asked_session inquiry draws reply is drawn asks caused;
+    sound = sound_reply inquiry draws reply is asks;
+    is =
+        subst (λ l. IsExplained (session_judge call.how (at_moment now s)) l reply status text) judges.limits
+        (subst (λ by. IsExplained by j.limits reply status text) (judging_session call.how (at_moment now s) j
+        (at_own_moment call.how s now j judges)) explained);
+  }
+
+  -- a status and a text of what a server answered, which is explained or not
+  pub told_over : (inquiry : Inquiry SessionVerifier) (draws : RandDraws) (reply : Reply) (judging : Option Judging)
+      (status : ℕ) (text : List ℕ) → IsInquiryOf call.how s now inquiry
+      → IsJudgingOf call.explains call.how s now judging → draws ≡ drawn_at call.seed inquiry.moment
+      → AsksServer call.network tests.ghosts call.server inquiry draws old new reply call.protocol
+      → AnswerCause call.protocol (dialer_view call.network.counts call.network.came old)
+      (dialer_view call.network.counts call.network.came new) reply
+      → IsToldText (option_map (λ j. (judge_by j, j.limits)) judging) reply status text
+      → TellsOver call.explains call s now old new status text
+  told_over inquiry draws reply None status text is plain drawn asks caused told =
+      subst (λ b. TellsOver b call s now old new status text) (sym plain)
+      (answered_over inquiry draws reply status text is drawn asks caused told)
+  told_over inquiry draws reply (Some j) status text is judges drawn asks caused told =
+      subst (λ b. TellsOver b call s now old new status text) (sym judges.0)
+      (explained_over inquiry draws reply j status text is judges.1 drawn asks caused told)
+
+  -- and where there is one
+  pub all_told : {X Z : Type 0} (inquiry : Inquiry SessionVerifier) (draws : RandDraws) (reply : Reply)
+      (judging : Option Judging) (status : X → ℕ) (text : X → List ℕ) (ending : Result X Z)
+      → IsInquiryOf call.how s now inquiry → IsJudgingOf call.explains call.how s now judging
+      → draws ≡ drawn_at call.seed inquiry.moment
+      → AsksServer call.network tests.ghosts call.server inquiry draws old new reply call.protocol
+      → AnswerCause call.protocol (dialer_view call.network.counts call.network.came old)
+      (dialer_view call.network.counts call.network.came new) reply
+      → IfOk ending
+      (λ x. IsToldText (option_map (λ j. (judge_by j, j.limits)) judging) reply (status x) (text x))
+      → IfOk ending (λ x. TellsOver call.explains call s now old new (status x) (text x))
+  all_told inquiry draws reply judging status text ending is judges drawn asks caused texts =
+      IfOk-weaker ending _ _
+      (λ x. told_over inquiry draws reply judging (status x) (text x) is judges drawn asks caused) texts
 
 -- ---- written
 

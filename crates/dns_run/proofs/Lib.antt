@@ -1,3 +1,4 @@
+pub mod ExplainLemmas
 pub mod OutcomeLemmas
 pub mod CauseLemmas
 pub mod TopLemmas

@@ -1,5 +1,5 @@
 -- How a run ends by its words, out of what was done for them.
-use Rattle.std.proofs.Common.{ℕ, ◌≡◌, ◌≢◌, ◌∙◌, true, false, List, map, Option, None, Some, refl, sym, ap, subst}
+use Rattle.std.proofs.Common.{ℕ, ◌≡◌, ◌≢◌, ◌∙◌, Bool, true, false, not, List, map, Option, None, Some, refl, sym, ap, subst}
 use Rattle.std.specs.Prelude.{Vec}
 use Rattle.std.specs.Option.{option_map_or}
 use Rattle.dns_asking.specs.Servers.{Network}
@@ -17,7 +17,7 @@ use Rattle.dns_run.specs.Benches.{WritesBench}
 use Rattle.dns_run.specs.Asks.{server_call, EndsAsk}
 use Rattle.dns_run.specs.Completing.{IsValid, EndsSecurely}
 use Rattle.dns_run.specs.Ends.{EndsRun, EndsOver}
-use Rattle.dns_run.specs.Forms.{asked_form, asks_server, form_verifies, help_text, other_form, shown_by, version_text}
+use Rattle.dns_run.specs.Forms.{asked_form, asks_server, explains_task, form_verifies, help_text, other_form, shown_by, tells_fault, version_text}
 use Rattle.dns_run.specs.Outcomes.{Leaves, LeavesPrefix, Reports, Derives, Fails}
 use Rattle.dns_run.specs.Runs.{EndsAsSession, EndsByGrammar, EndsByWords, IfSession}
 use Rattle.dns_run.specs.Tasks.{EndsTask}
@@ -29,7 +29,7 @@ use Rattle.dns_run.proofs.OutcomeLemmas.{leaves_reports}
 
 how_of : Option Form → Verification → Verification
 how_of (Some (Validate how shows)) other = how
-how_of (Some (Ask how protocol server)) other = how
+how_of (Some (Ask how explains protocol server)) other = how
 how_of form other = other
 
 shows_of : Option Form → Parts → Parts
@@ -41,11 +41,15 @@ task_of (Some (Task task)) other = task
 task_of form other = other
 
 protocol_of : Option Form → Protocol → Protocol
-protocol_of (Some (Ask how protocol server)) other = protocol
+protocol_of (Some (Ask how explains protocol server)) other = protocol
 protocol_of form other = other
 
+explains_of : Option Form → Bool → Bool
+explains_of (Some (Ask how explains protocol server)) other = explains
+explains_of form other = other
+
 server_of : Option Form → ServerAddress → ServerAddress
-server_of (Some (Ask how protocol server)) other = server
+server_of (Some (Ask how explains protocol server)) other = server
 server_of form other = other
 
 no_task : (how : Verification) (shows : Parts) (task : TaskKind) → Some (Validate how shows) ≡ Some (Task task) → ⊥
@@ -78,15 +82,20 @@ none_no_session how shows h = cc
 none_no_task : (task : TaskKind) → None ≡ Some (Task task) → ⊥
 none_no_task task h = cc
 
-ask_no_session : (by : Verification) (protocol : Protocol) (server : ServerAddress) (how : Verification) (shows : Parts) → Some (Ask by protocol server) ≡ Some (Validate how shows) → ⊥
-ask_no_session by protocol server how shows h = cc
+ask_no_session : (by : Verification) (explains : Bool) (protocol : Protocol) (server : ServerAddress)
+    (how : Verification) (shows : Parts) → Some (Ask by explains protocol server) ≡ Some (Validate how shows) → ⊥
+ask_no_session by explains protocol server how shows h = cc
 
-ask_no_task : (by : Verification) (protocol : Protocol) (server : ServerAddress) (task : TaskKind)
-    → Some (Ask by protocol server) ≡ Some (Task task) → ⊥
-ask_no_task by protocol server task h = cc
+ask_no_task : (by : Verification) (explains : Bool) (protocol : Protocol) (server : ServerAddress)
+    (task : TaskKind) → Some (Ask by explains protocol server) ≡ Some (Task task) → ⊥
+ask_no_task by explains protocol server task h = cc
 
-true_no_false : true ≡ false → ⊥
-true_no_false h = cc
+false_no_true : false ≡ true → ⊥
+false_no_true h = cc
+
+not_true : (b : Bool) → not b ≡ true → b ≡ false
+not_true true h = cc
+not_true false h = refl
 
 -- ---- a text that is written has no status 1
 
@@ -162,12 +171,14 @@ module _ {Z : Type 0} (asked : List (Vec ℕ Z)) where
 
     -- a task was done
     pub task_ends : (task : TaskKind) → asked_form asked ≡ Some (Task task) → EndsTask task status told before now
-        → (status ≡ 1 → Leaves (Fails ByList) told before now) → status ≢ 2 → EndsRun asked status told before now
+        → (explains_task task ≡ false → status ≡ 1 → Leaves (Fails ByList) told before now) → status ≢ 2
+        → EndsRun asked status told before now
     unfolding task_of
     task_ends task is ends fault form = record {
       report = λ how shows shown. absurd (no_session how shows task (sym is ∙ validation_asked how shows shown));
       derived = λ how shows shown. absurd (no_session how shows task (sym is ∙ validation_asked how shows shown));
-      fault = λ none. subst (λ v. status ≡ 1 → Leaves (Fails v) told before now) (ap form_verifies (sym is)) fault;
+      fault = λ tells. subst (λ v. status ≡ 1 → Leaves (Fails v) told before now) (ap form_verifies (sym is))
+          (fault (not_true (explains_task task) (ap tells_fault (sym is) ∙ tells)));
       session = λ how shows shown. absurd (no_session how shows task (sym is ∙ validation_asked how shows shown));
       completes = λ how shows shown. absurd (no_session how shows task (sym is ∙ validation_asked how shows shown));
       grammar = λ how shows shown. absurd (no_session how shows task (sym is ∙ validation_asked how shows shown));
@@ -180,12 +191,12 @@ module _ {Z : Type 0} (asked : List (Vec ℕ Z)) where
     -- neither was asked for
     pub other_ends : (found : Option Form) → asked_form asked ≡ found
         → ((how : Verification) (shows : Parts) → found ≡ Some (Validate how shows) → ⊥)
-        → ((task : TaskKind) → found ≡ Some (Task task) → ⊥) → (asks_server found ≡ false → status ≡ 1 → ⊥)
+        → ((task : TaskKind) → found ≡ Some (Task task) → ⊥) → (tells_fault found ≡ true → status ≡ 1 → ⊥)
         → EndsByWords found status before now → EndsRun asked status told before now
     other_ends found is none_shown none_done none_failed ends = record {
       report = λ how shows shown. absurd (none_shown how shows (sym is ∙ validation_asked how shows shown));
       derived = λ how shows shown. absurd (none_shown how shows (sym is ∙ validation_asked how shows shown));
-      fault = λ none one. absurd (none_failed (ap asks_server (sym is) ∙ none) one);
+      fault = λ tells one. absurd (none_failed (ap tells_fault (sym is) ∙ tells) one);
       session = λ how shows shown. absurd (none_shown how shows (sym is ∙ validation_asked how shows shown));
       completes = λ how shows shown. absurd (none_shown how shows (sym is ∙ validation_asked how shows shown));
       grammar = λ how shows shown. absurd (none_shown how shows (sym is ∙ validation_asked how shows shown));
@@ -222,30 +233,32 @@ module _ {Z : Type 0} (asked : List (Vec ℕ Z)) where
         (λ none. refused_no_fault status before now bad_words_text wrote) wrote
 
     -- a server was asked
-    pub ask_ends : (how : Verification) (protocol : Protocol) (server : ServerAddress)
-        → asked_form asked ≡ Some (Ask how protocol server) → status ≢ 2 → EndsRun asked status told before now
-    ask_ends how protocol server is form =
-        other_ends (Some (Ask how protocol server)) is (ask_no_session how protocol server) (ask_no_task how protocol server)
-        (λ none. absurd (true_no_false none)) form
+    pub ask_ends : (how : Verification) (explains : Bool) (protocol : Protocol) (server : ServerAddress)
+        → asked_form asked ≡ Some (Ask how explains protocol server) → status ≢ 2 → EndsRun asked status told before now
+    ask_ends how explains protocol server is form =
+        other_ends (Some (Ask how explains protocol server)) is (ask_no_session how explains protocol server)
+        (ask_no_task how explains protocol server) (λ tells. absurd (false_no_true tells)) form
 
     -- ---- over a server
 
     module _ {D L : Type 0} (network : Network D L RandDraws) (seed : Option ℕ) (dial : D) where
       -- a server was asked
-      pub over_ends : (how : Verification) (protocol : Protocol) (server : ServerAddress) (new : D)
-          → asked_form asked ≡ Some (Ask how protocol server)
-          → EndsAsk (server_call network how protocol server seed) dial new status told before now
+      pub over_ends : (how : Verification) (explains : Bool) (protocol : Protocol) (server : ServerAddress) (new : D)
+          → asked_form asked ≡ Some (Ask how explains protocol server)
+          → EndsAsk (server_call network how explains protocol server seed) dial new status told before now
           → EndsOver network seed asked dial (Some new) status told before now
-      unfolding how_of protocol_of server_of
-      over_ends how protocol server new is ends = record {
-        asks = λ v p t same.
-            let one : Some (Ask how protocol server) ≡ Some (Ask v p t) = sym is ∙ same in
-            subst (λ x. EndsAsk (server_call network v p x seed) dial new status told before now)
+      unfolding how_of explains_of protocol_of server_of
+      over_ends how explains protocol server new is ends = record {
+        asks = λ v e p t same.
+            let one : Some (Ask how explains protocol server) ≡ Some (Ask v e p t) = sym is ∙ same in
+            subst (λ x. EndsAsk (server_call network v e p x seed) dial new status told before now)
             (ap (λ o. server_of o server) one)
-            (subst (λ x. EndsAsk (server_call network v x server seed) dial new status told before now)
+            (subst (λ x. EndsAsk (server_call network v e x server seed) dial new status told before now)
             (ap (λ o. protocol_of o protocol) one)
-            (subst (λ x. EndsAsk (server_call network x protocol server seed) dial new status told before now)
-            (ap (λ o. how_of o how) one) ends));
+            (subst (λ x. EndsAsk (server_call network v x protocol server seed) dial new status told before now)
+            (ap (λ o. explains_of o explains) one)
+            (subst (λ x. EndsAsk (server_call network x explains protocol server seed) dial new status told before now)
+            (ap (λ o. how_of o how) one) ends)));
         given_back = λ none. absurd (let no : Some new ≡ None = none in cc);
         unused = λ none. absurd (let no : true ≡ false = ap asks_server (sym is) ∙ none in cc);
       }
@@ -254,7 +267,7 @@ module _ {Z : Type 0} (asked : List (Vec ℕ Z)) where
       pub none_over : asks_server (asked_form asked) ≡ false
           → EndsOver network seed asked dial (Some dial) status told before now
       none_over none = record {
-        asks = λ how protocol server is. absurd (let no : true ≡ false = ap asks_server (sym is) ∙ none in cc);
+        asks = λ how explains protocol server is. absurd (let no : true ≡ false = ap asks_server (sym is) ∙ none in cc);
         given_back = λ lost. absurd (let no : Some dial ≡ None = lost in cc);
         unused = λ alone. refl;
       }

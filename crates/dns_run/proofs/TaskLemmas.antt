@@ -1,7 +1,7 @@
 -- What a run over an input leaves that does a task, out of what bytes come to.
 use Rattle.std.proofs.Common.{◌≡◌, ◌<◌, ◌≤◌, ◌⊎◌, ◌∙◌, Bool, false, ℕ, List, [], Option, None, Some, IfSome, Result, Ok, Err, length, refl, sym, ap, subst, arith, inl, inr}
 use Rattle.std.specs.Io.KnownBytes.{Appends}
-use Rattle.dns_model.specs.Chains.{judge}
+use Rattle.dns_model.specs.Chains.{Judge, judge}
 use Rattle.dns_model.specs.Records.{Question}
 use Rattle.dns_model.specs.SoundAnswers.{ResponseValue}
 use Rattle.dns_model.specs.Trails.{AskedValue, Answered, Denied}
@@ -9,7 +9,8 @@ use Rattle.dns_model.specs.declared.proof.Proof.{Proof}
 use Rattle.dns_evidence.specs.Listing.{ListedValue, answers_of}
 use Rattle.dns_handle.specs.ErrorKinds.{is_no_memory}
 use Rattle.dns_handle.specs.Errors as seen
-use Rattle.dns_handle.specs.Errors.{ErrorValue, Dns, Nsec}
+use Rattle.dns_rules.specs.Asking.{Limits}
+use Rattle.dns_handle.specs.Errors.{ErrorValue, Reply, Dns, Nsec}
 use Rattle.dns_handle.specs.Replies.{error_of}
 use Rattle.dns_handle.specs.declared.error.NetError.{NetError}
 use Rattle.dns_handle.specs.declared.error.NetError.TheVariants.{NoMemory}
@@ -27,10 +28,15 @@ use Rattle.dns_report.specs.Faults.{fault_text}
 use Rattle.dns_session.specs.SessionValue.{SessionValue}
 use Rattle.dns_session.specs.Grammar.{session_of}
 use Rattle.dns_run.specs.declared.task.Task.{Task}
-use Rattle.dns_run.specs.declared.task.Task.TheVariants.{Audit, Questions, Roll}
+use Rattle.dns_run.specs.declared.task.Task.TheVariants.{Audit, Questions, Roll, Explain}
 use Rattle.dns_session_lookup.specs.Causes.{AnswersSession}
+use Rattle.dns_run.specs.Explaining.{ExplainEnds, IsExplained}
+use Rattle.dns_run.specs.Forms.{explains_task}
 use Rattle.dns_run.specs.Outcomes.{Fails, Leaves, Wrote, WrotePrefix}
+use Rattle.dns_session_lookup.specs.Answering.{session_limits}
+use Rattle.dns_session_lookup.specs.Soundness.{session_judge}
 use Rattle.dns_session_lookup.specs.Verifying.{listing}
+use Rattle.dns_session_lookup.specs.declared.verification.Verification.{Verification}
 use Rattle.dns_session_lookup.specs.declared.verification.Verification.TheVariants.{ByList}
 use Rattle.dns_run.specs.Tasks.{AuditEnds, QuestionsEnd, RollEnds, AnswersQuestions, Listed, Failed, question_judge, denied_trail, TaskEnds, TaskTells, Ended, TooLong, Nothing, EndsTask}
 
@@ -114,37 +120,49 @@ roll_form : (read : Result RollValue ℕ) (text : List ℕ) → RollEnds read 2 
 roll_form (Ok t) text ends = less_differs 0 2 (omega arith) (sym ends.done)
 roll_form (Err number) text ends = less_differs 2 3 (omega arith) ends.refused
 
-ends_fault : (task : Task) (bytes text : List ℕ) → TaskEnds task bytes 1 text → Fails ByList bytes text
-ends_fault Audit bytes text ends = absurd (audit_fault (audit_of bytes) text ends)
-ends_fault Questions bytes text ends = questions_fault bytes (session_of bytes) text refl ends
-ends_fault Roll bytes text ends = absurd (roll_fault (roll_of bytes) text ends)
+explained_form : (j : Judge) (limits : Limits) (reply : Reply) (text : List ℕ) → IsExplained j limits reply 2 text → ⊥
+explained_form j limits (Ok answer) text is = less_differs 0 2 (omega arith) (sym is.0)
+explained_form j limits (Err error) text is = less_differs 1 2 (omega arith) (sym is.0)
+
+explain_form : (how : Verification) (read : Result SessionValue ℕ) (text : List ℕ) → ExplainEnds how read 2 text → ⊥
+explain_form how (Ok s) text ends =
+    explained_form (session_judge how s) (session_limits s) ends.reply text ends.is
+explain_form how (Err number) text ends = less_differs 2 3 (omega arith) ends.refused
+
+ends_fault : (task : Task) (bytes text : List ℕ) → explains_task task ≡ false → TaskEnds task bytes 1 text
+    → Fails ByList bytes text
+ends_fault Audit bytes text plain ends = absurd (audit_fault (audit_of bytes) text ends)
+ends_fault Questions bytes text plain ends = questions_fault bytes (session_of bytes) text refl ends
+ends_fault Roll bytes text plain ends = absurd (roll_fault (roll_of bytes) text ends)
+ends_fault (Explain how) bytes text plain ends = cc
 
 ends_form : (task : Task) (bytes text : List ℕ) → TaskEnds task bytes 2 text → ⊥
 ends_form Audit bytes text ends = audit_form (audit_of bytes) text ends
 ends_form Questions bytes text ends = questions_form (session_of bytes) text ends
 ends_form Roll bytes text ends = roll_form (roll_of bytes) text ends
+ends_form (Explain how) bytes text ends = explain_form how (session_of bytes) text ends
 
-wrote_fault : (task : Task) (bytes : List ℕ) (before now : Option (List ℕ)) → Wrote before now (TaskEnds task bytes 1)
-    → Wrote before now (Fails ByList bytes)
-wrote_fault task bytes before now wrote =
-    record { text = wrote.text; fact = ends_fault task bytes wrote.text wrote.fact; written = wrote.written }
+wrote_fault : (task : Task) (bytes : List ℕ) (before now : Option (List ℕ)) → explains_task task ≡ false
+    → Wrote before now (TaskEnds task bytes 1) → Wrote before now (Fails ByList bytes)
+wrote_fault task bytes before now plain wrote =
+    record { text = wrote.text; fact = ends_fault task bytes wrote.text plain wrote.fact; written = wrote.written }
 
-leaves_fault : (task : Task) (told before now : Option (List ℕ))
+leaves_fault : (task : Task) (told before now : Option (List ℕ)) → explains_task task ≡ false
     → OfInput told (λ bytes. Wrote before now (TaskEnds task bytes 1)) → Leaves (Fails ByList) told before now
-leaves_fault task None before now some =
-    record { bytes = some.bytes; fact = wrote_fault task some.bytes before now some.fact }
-leaves_fault task (Some bytes) before now wrote = wrote_fault task bytes before now wrote
+leaves_fault task None before now plain some =
+    record { bytes = some.bytes; fact = wrote_fault task some.bytes before now plain some.fact }
+leaves_fault task (Some bytes) before now plain wrote = wrote_fault task bytes before now plain wrote
 
 leaves_form : (task : Task) (told before now : Option (List ℕ))
     → OfInput told (λ bytes. Wrote before now (TaskEnds task bytes 2)) → ⊥
 leaves_form task None before now some = ends_form task some.bytes some.fact.text some.fact.fact
 leaves_form task (Some bytes) before now wrote = ends_form task bytes wrote.text wrote.fact
 
--- 1 is answered only with the line of a session's error
-pub task_faults : (task : Task) (status : ℕ) (told before now : Option (List ℕ)) → EndsTask task status told before now
-    → status ≡ 1 → Leaves (Fails ByList) told before now
-task_faults task status told before now ends is =
-    leaves_fault task told before now
+-- where nothing is explained, 1 is answered only with the line of a session's error
+pub task_faults : (task : Task) (status : ℕ) (told before now : Option (List ℕ)) → explains_task task ≡ false
+    → EndsTask task status told before now → status ≡ 1 → Leaves (Fails ByList) told before now
+task_faults task status told before now plain ends is =
+    leaves_fault task told before now plain
     (subst (λ n. OfInput told (λ bytes. Wrote before now (TaskEnds task bytes n))) is (ends.ends (omega (arith, is))))
 
 -- and 2 never

@@ -1,6 +1,6 @@
 -- A lookup that a session asks for over a server (RFC 4035, 4.3 and 5): how the server is asked, by what the answer is judged, what it is,
 -- and how a run ends that makes the lookup. The session's replies aren't used, and its moment isn't: the clock's stands in its place.
-use Rattle.std.specs.Prelude.{ℕ, ◌≡◌, ◌≢◌, ◌<◌, IsTrue, List, [], length, unwrap_or, Option, Result, Ok, Err}
+use Rattle.std.specs.Prelude.{ℕ, ◌≡◌, ◌≢◌, ◌<◌, IsTrue, IfOk, Bool, true, false, List, [], length, unwrap_or, Option, Result, Ok, Err}
 use Rattle.dns_model.specs.Keys.{anchored}
 use Rattle.dns_model.specs.Records.{MessageValue}
 use Rattle.dns_model.specs.SoundAnswers.{told_by, Sound, ResponseValue}
@@ -21,30 +21,33 @@ use Rattle.dns_report.specs.Faults.{fault_text}
 use Rattle.dns_session.specs.SessionValue.{SessionValue}
 use Rattle.dns_session.specs.Grammar.{session_of}
 use Rattle.dns_io.specs.Reading.{input_limit, too_long_text, OfInput}
-use Rattle.dns_session_lookup.specs.Answering.{session_depth}
+use Rattle.dns_session_lookup.specs.Answering.{session_depth, session_limits}
+use Rattle.dns_run.specs.Explaining.{IsExplained}
 use Rattle.dns_run.specs.Outcomes.{Leaves, WrotePrefix}
 use Rattle.dns_session_lookup.specs.Soundness.{session_judge}
 use Rattle.dns_session_lookup.specs.Verifying.{session_answers, verifier_answers}
 use Rattle.dns_session_lookup.specs.contracts.verification.SessionVerifierVerifier.TheImpl as tests
 use Rattle.dns_session_lookup.specs.declared.verification.Verification.{Verification}
 use Rattle.dns_session_lookup.specs.declared.verification.SessionVerifier.{SessionVerifier}
-use Rattle.dns_run.specs.Tasks.{NamesLine}
+use Rattle.dns_run.specs.BadLines.{NamesLine}
 
 -- ---- how a server is asked
 
--- how a server is asked: over which network, how signatures are verified, by what messages are carried, at which address, and from
--- which seed ids and ports are drawn; none stands for the moment
+-- how a server is asked: over which network, how signatures are verified, whether the answer is explained, by what messages are
+-- carried, at which address, and from which seed ids and ports are drawn; none stands for the moment
 pub record ServerCall (D L : Type 0) : Type 1 where
   pub network : Network D L RandDraws
   pub how : Verification
+  pub explains : Bool
   pub protocol : Protocol
   pub server : ServerAddress
   pub seed : Option ℕ
 
-abbrev pub server_call : {D L : Type 0} → Network D L RandDraws → Verification → Protocol → ServerAddress → Option ℕ → ServerCall D L
-server_call network how protocol server seed = record {
+abbrev pub server_call : {D L : Type 0} → Network D L RandDraws → Verification → Bool → Protocol → ServerAddress → Option ℕ → ServerCall D L
+server_call network how explains protocol server seed = record {
   network = network;
   how = how;
+  explains = explains;
   protocol = protocol;
   server = server;
   seed = seed;
@@ -103,9 +106,22 @@ pub data AnswersOver {D L : Type 0} (call : ServerCall D L) (s : SessionValue) (
   Reported : status ≡ 0 → IsServerReport call s now old new text → AnswersOver call s now old new status text
   Failed : status ≡ 1 → IsServerFault call s now old new text → AnswersOver call s now old new status text
 
+-- the text explains the answer that that server gave a validator, which is sound, or the error
+pub record ExplainedOver {D L : Type 0} (call : ServerCall D L) (s : SessionValue) (now : ℕ) (old new : D) (status : ℕ)
+    (text : List ℕ) : Type 0 where
+  pub reply : Reply
+  pub asks : AsksSession call s now old new reply
+  pub sound : IfOk reply (IsSoundAt call.how s now)
+  pub is : IsExplained (session_judge call.how (at_moment now s)) (session_limits s) reply status text
+
+-- a status and a text, as the answer is explained or not
+abbrev pub TellsOver : {D L : Type 0} → Bool → ServerCall D L → SessionValue → ℕ → D → D → ℕ → List ℕ → Type 0
+TellsOver true call s now old new status text = ExplainedOver call s now old new status text
+TellsOver false call s now old new status text = AnswersOver call s now old new status text
+
 -- what an input comes to: a session at some moment, that of the clock; and where it is no session, nothing is asked
 abbrev pub ServerEnds : {D L : Type 0} → ServerCall D L → Result SessionValue ℕ → D → D → ℕ → List ℕ → Type 0
-ServerEnds call (Ok s) old new status text = (now : ℕ) × AnswersOver call s now old new status text
+ServerEnds call (Ok s) old new status text = (now : ℕ) × TellsOver call.explains call s now old new status text
 ServerEnds call (Err number) old new status text = NamesLine number status text × (new ≡ old)
 
 -- ---- how a run ends

@@ -6,24 +6,28 @@ use Rattle.dns_multiplexer.specs.declared.draws.RandDraws.{RandDraws}
 use Rattle.dns_session.specs.SessionValue.{SessionValue}
 use Rattle.dns_session.specs.Grammar.{session_of}
 use Rattle.dns_session_lookup.specs.declared.verification.SessionVerifier.{SessionVerifier}
-use Rattle.dns_run.specs.Asks.{AnswersOver, EndsAsk, IsInquiryOf, ServerCall, ServerEnds, ServerTells, server_call}
+use Rattle.dns_run.specs.Asks.{EndsAsk, IsInquiryOf, ServerCall, ServerEnds, ServerTells, TellsOver, server_call}
+use Rattle.dns_run.specs.ExplainingOver.{IsJudgingOf}
 use Rattle.dns_run.specs.Outcomes.{Wrote, WrotePrefix}
+use Rattle.dns_run.specs.declared.judging.Judging.{Judging}
 use Rattle.dns_run.specs.declared.server.AskedEnd.{AskedEnd}
 use Rattle.dns_run.specs.declared.server.ServerAsk.{ServerAsk}
 use Rattle.dns_run.specs.declared.server.ServerEnding.{ServerEnding}
 
 abbrev pub call_by : {D L : Type 0} → Network D L RandDraws → ServerAsk D → ServerCall D L
-call_by network given = server_call network given.how given.protocol given.server given.seed
+call_by network given = server_call network given.how given.explains given.protocol given.server given.seed
 
 -- a status and a text, if there are any, are what the server answered to a session at a moment
 abbrev pub AnswersSessionAt : {D L : Type 0} → Network D L RandDraws → ServerAsk D → SessionValue → ℕ → ServerEnding D → Type 0
 AnswersSessionAt network given s now end =
-    IfOk end.ending (λ x. AnswersOver (call_by network given) s now given.dial end.dial x.0 x.1.items)
+    IfOk end.ending (λ x. TellsOver given.explains (call_by network given) s now given.dial end.dial x.0 x.1.items)
 
--- they are so to each session of which this is the inquiry
-abbrev pub AnswersInquiry : {D L : Type 0} → Network D L RandDraws → ServerAsk D → Inquiry SessionVerifier → ServerEnding D → Type 0
-AnswersInquiry network given inquiry end =
-    (s : SessionValue) (now : ℕ) → IsInquiryOf given.how s now inquiry → AnswersSessionAt network given s now end
+-- they are so to each session of which this is the inquiry, and by which its sets are judged where the answer is explained
+abbrev pub AnswersInquiry : {D L : Type 0} → Network D L RandDraws → ServerAsk D → Option Judging → Inquiry SessionVerifier
+    → ServerEnding D → Type 0
+AnswersInquiry network given judging inquiry end =
+    (s : SessionValue) (now : ℕ) → IsInquiryOf given.how s now inquiry → IsJudgingOf given.explains given.how s now judging
+    → AnswersSessionAt network given s now end
 
 -- they are what bytes come to
 abbrev pub AnswersBytes : {D L : Type 0} → Network D L RandDraws → ServerAsk D → List ℕ → ServerEnding D → Type 0

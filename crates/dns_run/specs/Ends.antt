@@ -5,7 +5,7 @@ use Rattle.dns_asking.specs.Servers.{Network}
 use Rattle.dns_multiplexer.specs.declared.draws.RandDraws.{RandDraws}
 use Rattle.dns_run.specs.Asks.{server_call, EndsAsk}
 use Rattle.dns_run.specs.Completing.{IsValid, EndsSecurely}
-use Rattle.dns_run.specs.Forms.{asked_form, words_verify, IfAsks, IfAsksNone, IfTask, IfValidates}
+use Rattle.dns_run.specs.Forms.{asked_form, words_verify, IfAsks, IfAsksNone, IfTask, IfTellsFault, IfValidates}
 use Rattle.dns_run.specs.Outcomes.{Leaves, LeavesPrefix, Reports, Derives, Fails}
 use Rattle.dns_run.specs.Runs.{EndsAsSession, EndsByGrammar, EndsByWords, IfSession}
 use Rattle.dns_run.specs.Tasks.{EndsTask}
@@ -20,8 +20,8 @@ pub record EndsRun {Z : Type 0} (asked : List (Vec ℕ Z)) (status : ℕ) (told 
   -- That answer has a trail for the session, a derivation from the session's replies, in which what is Insecure has its ground.
   -- And what it denies holds in each zone in which the Secure NSEC or NSEC3 records of the reply are true.
   pub derived : IfValidates asked (λ how shows. status ≡ 0 → Leaves (Derives how shows) told before now)
-  -- Where no server is asked, 1 is answered only with the line of an error that has its cause in the session.
-  pub fault : IfAsksNone asked (status ≡ 1 → Leaves (Fails (words_verify asked)) told before now)
+  -- Where no server is asked and nothing explained, 1 is answered only with the line of an error that has its cause in the session.
+  pub fault : IfTellsFault asked (status ≡ 1 → Leaves (Fails (words_verify asked)) told before now)
   -- What each session must end with, unless the status is 4 or more.
   pub session : IfValidates asked (λ how shows. IfSession told (λ s. EndsAsSession s status before now))
   -- A session that is valid for its query is reported with the records that were queried, each of them Secure, unless the
@@ -30,8 +30,9 @@ pub record EndsRun {Z : Type 0} (asked : List (Vec ℕ Z)) (status : ℕ) (told 
   -- 3, and an input that is no session.
   pub grammar : IfValidates asked (λ how shows. EndsByGrammar status told before now)
   -- What a task must end with: 0 with the answers of the checks to the report behind a session, with the questions of the
-  -- session's trail, or with exactly the keys that are trusted after some sightings; and 3, and an input that is outside the
-  -- grammar. Only questions end with 1, for an error without a trail.
+  -- session's trail, with exactly the keys that are trusted after some sightings, or with the report, the trail and the causes of an
+  -- answer; and 3, and an input that is outside the grammar. With 1 end questions, for an error without a trail, and an explanation
+  -- of each error.
   pub task : IfTask asked (λ task. EndsTask task status told before now)
   -- Words that ask for a text, for a lookup below nested zones, or for nothing: 2 is for the latter alone. A lookup below nested
   -- zones ends with 0, or with 5 or 6.
@@ -43,10 +44,10 @@ pub record EndsRun {Z : Type 0} (asked : List (Vec ℕ Z)) (status : ℕ) (told 
 pub record EndsOver {D L Z : Type 0} (network : Network D L RandDraws) (seed : Option ℕ) (asked : List (Vec ℕ Z)) (dial : D)
     (back : Option D) (status : ℕ) (told before now : Option (List ℕ)) : Type 0 where
   -- What asking a server must end with: 0 with the report of a sound answer that a validator gave over that server, 1 with the line of
-  -- an error that it gave, each with its cause in what the dialer met; and 3 for an input that is no session, for which nothing is
+  -- an error that it gave, or either with its trail and its causes, as the words ask, each with its cause in what the dialer met; and 3 for an input that is no session, for which nothing is
   -- asked. Ids and ports are drawn from the seed, or from the moment where there is none.
-  pub asks : IfAsks asked (λ how protocol server. IfSome back (λ new.
-      EndsAsk (server_call network how protocol server seed) dial new status told before now))
+  pub asks : IfAsks asked (λ how explains protocol server. IfSome back (λ new.
+      EndsAsk (server_call network how explains protocol server seed) dial new status told before now))
   -- The dialer is given back, unless memory ran out; and as it was given, where no server is asked.
   pub given_back : back ≡ None → status ≡ 6
   pub unused : IfAsksNone asked (back ≡ Some dial)

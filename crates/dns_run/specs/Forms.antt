@@ -1,5 +1,5 @@
 -- The words that the program takes, and its fixed texts.
-use Rattle.std.specs.Prelude.{ℕ, ◌≡◌, ◌≤◌, Bool, true, false, List, [], ◌∷◌, ◌&&◌, nat_le, map, codes, Vec, Option, None, Some, if◌then◌else◌}
+use Rattle.std.specs.Prelude.{ℕ, ◌≡◌, ◌≤◌, Bool, true, false, not, List, [], ◌∷◌, ◌&&◌, nat_le, map, codes, Vec, Option, None, Some, if◌then◌else◌}
 use Rattle.std.specs.Option.{option_map, option_map_or, option_and_then}
 use Rattle.dns_model.specs.Keys.{bytes_eq}
 use Rattle.dns_model.specs.OptionSteps.{◌>>=◌}
@@ -13,7 +13,7 @@ use Rattle.dns_report.specs.declared.parts.Parts.TheVariants.{Answer, WithTrail}
 use Rattle.dns_run.specs.declared.form.Form.{Form}
 use Rattle.dns_run.specs.declared.form.Form.TheVariants.{Validate, Task, Bench, Ask, Help, Version}
 use Rattle.dns_run.specs.declared.task.Task.{Task as TaskKind}
-use Rattle.dns_run.specs.declared.task.Task.TheVariants.{Audit, Questions, Roll}
+use Rattle.dns_run.specs.declared.task.Task.TheVariants.{Audit, Questions, Roll, Explain}
 use Rattle.dns_session_lookup.specs.declared.verification.Verification.{Verification}
 use Rattle.dns_session_lookup.specs.declared.verification.Verification.TheVariants.{ByList, ByArithmetic}
 use Rattle.dns_io.specs.Runs.{Asked, AnInput, NoInput, FixedText}
@@ -38,6 +38,7 @@ form_named word =
     if bytes_eq word (codes "audit") then Some (Task Audit)
     else if bytes_eq word (codes "questions") then Some (Task Questions)
     else if bytes_eq word (codes "roll") then Some (Task Roll)
+    else if bytes_eq word (codes "explain") then Some (Task (Explain ByList))
     else if bytes_eq word (codes "--help") then Some Help
     else if bytes_eq word (codes "--version") then Some Version
     else None
@@ -51,28 +52,40 @@ bench_form zones = option_map (λ n. Bench n) zones
 
 -- what else two words ask for
 abbrev pub form_of_two : List ℕ → List ℕ → Option Form
-form_of_two word next = if bytes_eq word (codes "bench") then bench_form (zones_in next) else None
+form_of_two word next =
+    if bytes_eq word (codes "bench") then bench_form (zones_in next)
+    else if bytes_eq word (codes "explain") && bytes_eq next (codes "verify") then Some (Task (Explain ByArithmetic))
+    else None
 
 -- what carries messages to a server
 abbrev pub protocol_in : List ℕ → Option Protocol
 protocol_in word =
     if bytes_eq word (codes "udp") then Some Udp else if bytes_eq word (codes "tcp") then Some Tcp else None
 
--- to ask a server at an address
-abbrev pub ask_form : Verification → List ℕ → List ℕ → Option Form
-ask_form how carried address = do
+-- to ask a server at an address, and to explain the answer or not
+abbrev pub ask_form : Verification → Bool → List ℕ → List ℕ → Option Form
+ask_form how explains carried address = do
   protocol ← protocol_in carried
   server ← address_in address
-  Some (Ask how protocol server)
+  Some (Ask how explains protocol server)
 
 -- what three words ask for
 abbrev pub form_of_three : List ℕ → List ℕ → List ℕ → Option Form
-form_of_three word carried address = if bytes_eq word (codes "ask") then ask_form ByList carried address else None
+form_of_three word carried address = if bytes_eq word (codes "ask") then ask_form ByList false carried address else None
 
 -- what four words ask for
 abbrev pub form_of_four : List ℕ → List ℕ → List ℕ → List ℕ → Option Form
 form_of_four word next carried address =
-    if bytes_eq word (codes "ask") && bytes_eq next (codes "verify") then ask_form ByArithmetic carried address else None
+    if bytes_eq word (codes "ask") && bytes_eq next (codes "verify") then ask_form ByArithmetic false carried address
+    else if bytes_eq word (codes "ask") && bytes_eq next (codes "explain") then ask_form ByList true carried address
+    else None
+
+-- what five words ask for
+abbrev pub form_of_five : List ℕ → List ℕ → List ℕ → List ℕ → List ℕ → Option Form
+form_of_five word next third carried address =
+    if bytes_eq word (codes "ask") && bytes_eq next (codes "explain") && bytes_eq third (codes "verify")
+    then ask_form ByArithmetic true carried address
+    else None
 
 -- what words ask for besides the answer to a session
 abbrev pub other_form : List (List ℕ) → Option Form
@@ -80,6 +93,7 @@ other_form (word ∷ []) = form_named word
 other_form (word ∷ next ∷ []) = form_of_two word next
 other_form (word ∷ carried ∷ address ∷ []) = form_of_three word carried address
 other_form (word ∷ next ∷ carried ∷ address ∷ []) = form_of_four word next carried address
+other_form (word ∷ next ∷ third ∷ carried ∷ address ∷ []) = form_of_five word next third carried address
 other_form _ = None
 
 -- what words ask for
@@ -108,26 +122,41 @@ IfTask words Fact = (task : TaskKind) → asked_form words ≡ Some (Task task) 
 abbrev pub IfBench : {Z : Type 0} → List (Vec ℕ Z) → (ℕ → Type 0) → Type 0
 IfBench words Fact = (n : ℕ) → asked_form words ≡ Some (Bench n) → Fact n
 
--- a fact of how signatures are verified, of the server, and of what carries messages to it, where the words ask it
-abbrev pub IfAsks : {Z : Type 0} → List (Vec ℕ Z) → (Verification → Protocol → ServerAddress → Type 0) → Type 0
+-- a fact of how signatures are verified, of whether the answer is explained, of the server, and of what carries messages to it, where
+-- the words ask it
+abbrev pub IfAsks : {Z : Type 0} → List (Vec ℕ Z) → (Verification → Bool → Protocol → ServerAddress → Type 0) → Type 0
 IfAsks words Fact =
-    (how : Verification) (protocol : Protocol) (server : ServerAddress) → asked_form words ≡ Some (Ask how protocol server)
-    → Fact how protocol server
+    (how : Verification) (explains : Bool) (protocol : Protocol) (server : ServerAddress)
+    → asked_form words ≡ Some (Ask how explains protocol server) → Fact how explains protocol server
 
 abbrev pub asks_server : Option Form → Bool
-asks_server (Some (Ask how protocol server)) = true
+asks_server (Some (Ask how explains protocol server)) = true
 asks_server _ = false
 
 -- a fact, where the words ask no server
 abbrev pub IfAsksNone : {Z : Type 0} → List (Vec ℕ Z) → Type 0 → Type 0
 IfAsksNone words Fact = asks_server (asked_form words) ≡ false → Fact
 
+-- a text that explains has other lines beside that of its error
+abbrev pub explains_task : TaskKind → Bool
+explains_task (Explain how) = true
+explains_task _ = false
+
+abbrev pub tells_fault : Option Form → Bool
+tells_fault (Some (Ask how explains protocol server)) = false
+tells_fault (Some (Task task)) = not (explains_task task)
+tells_fault _ = true
+
+-- a fact, where the words ask no server and no explanation
+abbrev pub IfTellsFault : {Z : Type 0} → List (Vec ℕ Z) → Type 0 → Type 0
+IfTellsFault words Fact = tells_fault (asked_form words) ≡ true → Fact
+
 -- an input to work on, work without one, or else a text that is always the same
 abbrev pub form_asks : Option Form → Asked
 form_asks (Some (Validate how shows)) = AnInput
 form_asks (Some (Task task)) = AnInput
 form_asks (Some (Bench n)) = NoInput
-form_asks (Some (Ask how protocol server)) = AnInput
+form_asks (Some (Ask how explains protocol server)) = AnInput
 form_asks _ = FixedText
 
 abbrev pub words_ask : {Z : Type 0} → List (Vec ℕ Z) → Asked
@@ -136,7 +165,7 @@ words_ask words = form_asks (asked_form words)
 -- how signatures are verified; by the session's list, where the words don't say
 abbrev pub form_verifies : Option Form → Verification
 form_verifies (Some (Validate how shows)) = how
-form_verifies (Some (Ask how protocol server)) = how
+form_verifies (Some (Ask how explains protocol server)) = how
 form_verifies _ = ByList
 
 abbrev pub words_verify : {Z : Type 0} → List (Vec ℕ Z) → Verification
@@ -144,7 +173,7 @@ words_verify words = form_verifies (asked_form words)
 
 abbrev pub help_text : List ℕ
 help_text =
-    codes "dns_check validate        reads a session and writes the report of its lookup\ndns_check validate trail  the same, and how the lookup came about, step by step\ndns_check verify          as validate, with signatures computed in place of the session's list\ndns_check verify trail    as validate trail, likewise\ndns_check audit           reads a session and a report behind it, and writes which of its parts hold\ndns_check questions       reads a session and writes which signatures a verifier must be asked for\ndns_check roll            reads sightings of a zone's keys and writes which of them are trusted\ndns_check bench N         looks a host up below N nested zones, 1 to 100, and writes what that took\ndns_check ask udp ADDRESS reads a session and writes the report of its lookup over a server, as 192.0.2.1:53\ndns_check ask tcp ADDRESS the same over a connection\ndns_check ask verify udp ADDRESS, ask verify tcp ADDRESS  the same, with signatures computed\ndns_check --help          writes these lines\ndns_check --version       writes the name and the version\n"
+    codes "dns_check validate        reads a session and writes the report of its lookup\ndns_check validate trail  the same, and how the lookup came about, step by step\ndns_check verify          as validate, with signatures computed in place of the session's list\ndns_check verify trail    as validate trail, likewise\ndns_check explain         reads a session and writes the report and the trail of its lookup, and why each set isn't secure\ndns_check explain verify  the same, with signatures computed\ndns_check audit           reads a session and a report behind it, and writes which of its parts hold\ndns_check questions       reads a session and writes which signatures a verifier must be asked for\ndns_check roll            reads sightings of a zone's keys and writes which of them are trusted\ndns_check bench N         looks a host up below N nested zones, 1 to 100, and writes what that took\ndns_check ask udp ADDRESS reads a session and writes the report of its lookup over a server, as 192.0.2.1:53\ndns_check ask tcp ADDRESS the same over a connection\ndns_check ask verify udp ADDRESS, ask verify tcp ADDRESS  the same, with signatures computed\ndns_check ask explain ..  as ask, and as explain: ask explain udp ADDRESS, ask explain verify tcp ADDRESS\ndns_check --help          writes these lines\ndns_check --version       writes the name and the version\n"
 
 abbrev pub version_text : List ℕ
 version_text = codes "dns_check 0.1.0\n"

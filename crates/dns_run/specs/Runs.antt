@@ -25,7 +25,7 @@ abbrev pub EndsByWords : Option Form → ℕ → Option (List ℕ) → Option (L
 EndsByWords (Some (Validate how shows)) status before now = status ≢ 2
 EndsByWords (Some (Task task)) status before now = status ≢ 2
 EndsByWords (Some (Bench n)) status before now = WritesBench n status before now
-EndsByWords (Some (Ask how protocol server)) status before now = status ≢ 2
+EndsByWords (Some (Ask how explains protocol server)) status before now = status ≢ 2
 EndsByWords (Some Help) status before now = WritesText status 0 before now help_text
 EndsByWords (Some Version) status before now = WritesText status 0 before now version_text
 EndsByWords None status before now = WritesText status 2 before now bad_words_text

@@ -11,7 +11,6 @@ use Rattle.dns_handle.specs.declared.error.NetError.{NetError}
 use Rattle.dns_handle.specs.declared.error.NetError.TheVariants.{NoMemory}
 use Rattle.dns_session.specs.SessionValue.{SessionValue}
 use Rattle.dns_session.specs.Grammar.{session_of}
-use Rattle.dns_session.specs.Stops.{bad_line_text}
 use Rattle.dns_audit.specs.ReportValue.{ReportValue}
 use Rattle.dns_audit.specs.ReportGrammar.{audit_of}
 use Rattle.dns_audit.specs.AuditText.{audit_text}
@@ -22,20 +21,17 @@ use Rattle.dns_roll.specs.RollGrammar.{roll_of}
 use Rattle.dns_roll.specs.TrustedText.{rolled_text}
 use Rattle.dns_io.specs.Reading.{input_limit, too_long_text, OfInput}
 use Rattle.dns_run.specs.declared.task.Task.{Task}
-use Rattle.dns_run.specs.declared.task.Task.TheVariants.{Audit, Questions, Roll}
+use Rattle.dns_run.specs.declared.task.Task.TheVariants.{Audit, Questions, Roll, Explain}
 use Rattle.dns_session_lookup.specs.Answering.{session_limits, IsSessionTrail}
 use Rattle.dns_session_lookup.specs.Causes.{AnswersSession}
+use Rattle.dns_run.specs.BadLines.{NamesLine}
+use Rattle.dns_run.specs.Explaining.{ExplainEnds}
 use Rattle.dns_run.specs.Outcomes.{IsFault, Leaves, WrotePrefix}
 use Rattle.dns_session_lookup.specs.Soundness.{session_judge}
 use Rattle.dns_session_lookup.specs.Verifying.{listing}
 use Rattle.dns_session_lookup.specs.declared.verification.Verification.TheVariants.{ByList}
 
 -- ---- what an input comes to: a status and a text
-
--- status 3, and the text names this line, the first that can't stand at its place
-pub record NamesLine (number status : ℕ) (text : List ℕ) : Type 0 where
-  pub refused : status ≡ 3
-  pub spelled : text ≡ bad_line_text number
 
 -- status 0, and the text says of each chain of a report whether it is justified, and of its trail whether that is a derivation, by
 -- what a session trusts and accepts, at its moment, within its limits, and with no entry of a cache from before
@@ -103,6 +99,7 @@ abbrev pub TaskEnds : Task → List ℕ → ℕ → List ℕ → Type 0
 TaskEnds Audit bytes status text = AuditEnds (audit_of bytes) status text
 TaskEnds Questions bytes status text = QuestionsEnd (session_of bytes) status text
 TaskEnds Roll bytes status text = RollEnds (roll_of bytes) status text
+TaskEnds (Explain how) bytes status text = ExplainEnds how (session_of bytes) status text
 
 -- ---- what a run leaves
 

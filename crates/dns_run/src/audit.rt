@@ -1,6 +1,5 @@
 //! What bytes come to that are a session with a report behind it.
-ghost use Rattle.std.specs.Prelude.{◌≡◌, ◌<◌, ◌^◌, length, unwrap_or, IfOk};
-ghost use Rattle.dns_handle.specs.Requests.{plain_options};
+ghost use Rattle.std.specs.Prelude.{◌≡◌, ◌<◌, ◌^◌, length, IfOk};
 ghost use Rattle.dns_audit.specs.ReportGrammar.{audit_of};
 ghost use Rattle.dns_audit.specs.AuditText.{audit_text};
 ghost use Rattle.dns_session_lookup.specs.Answering.{session_limits};
@@ -8,25 +7,14 @@ ghost use Rattle.dns_session_lookup.specs.Soundness.{session_judge};
 ghost use Rattle.dns_session_lookup.specs.declared.verification.Verification.TheVariants.{ByList};
 ghost use Rattle.dns_run.specs.Tasks.{AuditEnds};
 
+use crate::judging::limits_of;
 use dns_audit::{Report, read_audit, write_audit};
-use dns_evidence::{IterationLimits, Limits};
 use dns_io::status;
 use dns_record::NoMemory;
 use dns_session::{Session, SessionStop, bad_line_text};
-use dns_session_lookup::{listed_verifier, session_anchors, session_options};
+use dns_session_lookup::{listed_verifier, session_anchors};
 use dns_trust::Judge;
 use std::alloc::Global;
-
-// How far validation goes in a session that says this depth, or none.
-fn limits_of(depth: Option<u16>) -> Limits
-    ensures { result ≡ record { depth = unwrap_or depth plain_options.max_request_depth; soft = 100; hard = 500 } }
-{
-    Limits {
-        depth: session_options(depth).max_request_depth,
-        soft: IterationLimits::DEFAULT.soft,
-        hard: IterationLimits::DEFAULT.hard,
-    }
-}
 
 // What is answered of a report, by what a session trusts and accepts.
 fn audited(alloc: Global, session: Session, report: &Report) -> Result<Vec<u8>, NoMemory>

@@ -1,6 +1,6 @@
 //! The words that the program takes, and its fixed texts.
 ghost use Rattle.std.specs.Prelude.{◌≡◌, ◌≤◌, map, IfSome};
-ghost use Rattle.dns_run.specs.Forms.{IsWithin, ask_form, asked_form, form_named, form_of_four, form_of_three, form_of_two, bench_form, protocol_in, shown_by, verified_by, zones_in, help_text, version_text};
+ghost use Rattle.dns_run.specs.Forms.{IsWithin, ask_form, asked_form, form_named, form_of_five, form_of_four, form_of_three, form_of_two, bench_form, protocol_in, shown_by, verified_by, zones_in, help_text, version_text};
 
 use crate::task::Task;
 use dns_asking::ServerAddress;
@@ -19,8 +19,8 @@ pub enum Form {
     Task(Task),
     /// To look the host of so many nested zones up, from 1 to 100.
     Bench(u8),
-    /// To answer a session whose signatures are verified so, over a server at an address.
-    Ask(Verification, Protocol, ServerAddress),
+    /// To answer a session whose signatures are verified so, and to explain the answer or not, over a server at an address.
+    Ask(Verification, bool, Protocol, ServerAddress),
     /// To tell its forms.
     Help,
     /// To tell its version.
@@ -71,6 +71,9 @@ fn form_named(word: &[u8]) -> Option<Form>
     if word == b"roll".as_slice() {
         return Some(Form::Task(Task::Roll));
     }
+    if word == b"explain".as_slice() {
+        return Some(Form::Task(Task::Explain(Verification::ByList)));
+    }
     if word == b"--help".as_slice() {
         return Some(Form::Help);
     }
@@ -107,6 +110,9 @@ fn form_of_two(word: &[u8], next: &[u8]) -> Option<Form>
     if word == b"bench".as_slice() {
         return bench_form(next);
     }
+    if word == b"explain".as_slice() && next == b"verify".as_slice() {
+        return Some(Form::Task(Task::Explain(Verification::ByArithmetic)));
+    }
     None
 }
 
@@ -124,13 +130,13 @@ fn protocol_in(word: &[u8]) -> Option<Protocol>
 }
 
 // To ask a server at an address.
-fn ask_form(how: Verification, carried: &[u8], address: &[u8]) -> Option<Form>
-    ensures value { result ≡ ask_form how carried.now address.now }
+fn ask_form(how: Verification, explains: bool, carried: &[u8], address: &[u8]) -> Option<Form>
+    ensures value { result ≡ ask_form how explains carried.now address.now }
     ensures within { IsWithin result }
 {
     let protocol = protocol_in(carried)?;
     let server = ServerAddress::read(address)?;
-    Some(Form::Ask(how, protocol, server))
+    Some(Form::Ask(how, explains, protocol, server))
 }
 
 // What three words ask for.
@@ -139,7 +145,7 @@ fn form_of_three(word: &[u8], carried: &[u8], address: &[u8]) -> Option<Form>
     ensures within { IsWithin result }
 {
     if word == b"ask".as_slice() {
-        return ask_form(Verification::ByList, carried, address);
+        return ask_form(Verification::ByList, false, carried, address);
     }
     None
 }
@@ -150,7 +156,27 @@ fn form_of_four(word: &[u8], next: &[u8], carried: &[u8], address: &[u8]) -> Opt
     ensures within { IsWithin result }
 {
     if word == b"ask".as_slice() && next == b"verify".as_slice() {
-        return ask_form(Verification::ByArithmetic, carried, address);
+        return ask_form(Verification::ByArithmetic, false, carried, address);
+    }
+    if word == b"ask".as_slice() && next == b"explain".as_slice() {
+        return ask_form(Verification::ByList, true, carried, address);
+    }
+    None
+}
+
+// What five words ask for.
+fn form_of_five(
+    word: &[u8],
+    next: &[u8],
+    third: &[u8],
+    carried: &[u8],
+    address: &[u8],
+) -> Option<Form>
+    ensures value { result ≡ form_of_five word.now next.now third.now carried.now address.now }
+    ensures within { IsWithin result }
+{
+    if word == b"ask".as_slice() && next == b"explain".as_slice() && third == b"verify".as_slice() {
+        return ask_form(Verification::ByArithmetic, true, carried, address);
     }
     None
 }
@@ -168,6 +194,9 @@ pub(crate) fn form_of(words: &[Vec<u8>]) -> Option<Form>
         [word, next] => form_of_two(word, next),
         [word, carried, address] => form_of_three(word, carried, address),
         [word, next, carried, address] => form_of_four(word, next, carried, address),
+        [word, next, third, carried, address] => {
+            form_of_five(word, next, third, carried, address)
+        }
         _ => None,
     }
 }
@@ -176,7 +205,7 @@ pub(crate) fn form_of(words: &[Vec<u8>]) -> Option<Form>
 pub(crate) fn help_text() -> &'static [u8]
     ensures { result.now ≡ help_text }
 {
-    b"dns_check validate        reads a session and writes the report of its lookup\ndns_check validate trail  the same, and how the lookup came about, step by step\ndns_check verify          as validate, with signatures computed in place of the session's list\ndns_check verify trail    as validate trail, likewise\ndns_check audit           reads a session and a report behind it, and writes which of its parts hold\ndns_check questions       reads a session and writes which signatures a verifier must be asked for\ndns_check roll            reads sightings of a zone's keys and writes which of them are trusted\ndns_check bench N         looks a host up below N nested zones, 1 to 100, and writes what that took\ndns_check ask udp ADDRESS reads a session and writes the report of its lookup over a server, as 192.0.2.1:53\ndns_check ask tcp ADDRESS the same over a connection\ndns_check ask verify udp ADDRESS, ask verify tcp ADDRESS  the same, with signatures computed\ndns_check --help          writes these lines\ndns_check --version       writes the name and the version\n"
+    b"dns_check validate        reads a session and writes the report of its lookup\ndns_check validate trail  the same, and how the lookup came about, step by step\ndns_check verify          as validate, with signatures computed in place of the session's list\ndns_check verify trail    as validate trail, likewise\ndns_check explain         reads a session and writes the report and the trail of its lookup, and why each set isn't secure\ndns_check explain verify  the same, with signatures computed\ndns_check audit           reads a session and a report behind it, and writes which of its parts hold\ndns_check questions       reads a session and writes which signatures a verifier must be asked for\ndns_check roll            reads sightings of a zone's keys and writes which of them are trusted\ndns_check bench N         looks a host up below N nested zones, 1 to 100, and writes what that took\ndns_check ask udp ADDRESS reads a session and writes the report of its lookup over a server, as 192.0.2.1:53\ndns_check ask tcp ADDRESS the same over a connection\ndns_check ask verify udp ADDRESS, ask verify tcp ADDRESS  the same, with signatures computed\ndns_check ask explain ..  as ask, and as explain: ask explain udp ADDRESS, ask explain verify tcp ADDRESS\ndns_check --help          writes these lines\ndns_check --version       writes the name and the version\n"
 }
 
 /// The program's name and version.

@@ -8,7 +8,9 @@
 
 mod audit;
 mod bench;
+mod explain;
 mod form;
+mod judging;
 mod offline;
 mod outcome;
 mod program;

@@ -87,7 +87,7 @@ pub(crate) fn run_offline<S: Source, W: Sink>(
         Some(Form::Validate(how, shows)) => validate(alloc, how, shows, input, output),
         Some(Form::Task(task)) => do_task(alloc, task, input, output),
         Some(Form::Bench(number)) => write_bench(alloc, number, output),
-        Some(Form::Ask(_, _, _)) => unreachable!(),
+        Some(Form::Ask(_, _, _, _)) => unreachable!(),
         Some(Form::Help) => write_text(status::DONE, help_text(), output),
         Some(Form::Version) => write_text(status::DONE, version_text(), output),
         None => refuse_words(output),

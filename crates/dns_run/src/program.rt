@@ -83,9 +83,10 @@ pub fn run_seeded<S: Source, W: Sink, D: Dialer + Drop, K: Clock>(
         result.status input.old input.new output.old output.new }
 {
     match form_of(words) {
-        Some(Form::Ask(how, protocol, server)) => {
+        Some(Form::Ask(how, explains, protocol, server)) => {
             let given = ServerAsk {
                 how,
+                explains,
                 protocol,
                 server,
                 seed,

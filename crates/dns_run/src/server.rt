@@ -1,5 +1,6 @@
 //! What bytes come to that are a session, over a server in place of the session's replies.
 ghost use Rattle.std.specs.Prelude.{◌≡◌, ◌≢◌, ◌<◌, ◌^◌, ◌≤◌, length, IfOk, IsOk, MatchResult};
+ghost use Rattle.std.specs.Option.{option_map};
 ghost use Rattle.std.specs.Io.KnownBytes.{Appends};
 ghost use Rattle.dns_handle.specs.Replies.{reply_of};
 ghost use Rattle.dns_asking.specs.Servers.{network};
@@ -7,9 +8,13 @@ ghost use Rattle.dns_io.specs.Reading.{input_limit};
 ghost use Rattle.dns_io.specs.Runs.{outside, AnInput, KeepsOutside, KeepsSink};
 ghost use Rattle.dns_io.specs.Writing.{TakesPrefix};
 ghost use Rattle.dns_run.specs.Asks.{IsInquiryOf, IsReplyText};
+ghost use Rattle.dns_run.specs.BadLines.{NamesLine};
 ghost use Rattle.dns_run.specs.Calls.{AnswersBytes, AnswersInquiry, AnswersSessionAt, EndsAsked, WritesAnswer, WritesPrefixOf};
-ghost use Rattle.dns_run.specs.Tasks.{NamesLine};
+ghost use Rattle.dns_run.specs.Explaining.{judge_by};
+ghost use Rattle.dns_run.specs.ExplainingOver.{IsJudgingOf, IsToldText};
 
+use crate::explain::explained;
+use crate::judging::{Judging, judging_at};
 use dns_asking::{AskEnd, Inquiry, ServerAddress, ask_server};
 use dns_handle::{DnsHandle, DnsResponse, NetError, Protocol};
 use dns_io::status::{self, read_status, refuse_long, write_text};
@@ -31,6 +36,8 @@ use std::alloc::Global;
 pub(crate) struct ServerAsk<D: Drop> {
     /// How the signatures of the session are verified.
     pub(crate) how: Verification,
+    /// Whether the answer is explained.
+    pub(crate) explains: bool,
     pub(crate) protocol: Protocol,
     pub(crate) server: ServerAddress,
     /// What ids and ports are drawn from; None for the moment.
@@ -82,6 +89,22 @@ fn inquiry_at(
     })
 }
 
+// The same, with by what sets are judged, where the answer is to be explained.
+fn inquiry_with(
+    alloc: Global,
+    explains: bool,
+    how: Verification,
+    session: Session,
+    moment: u64,
+) -> Result<(Option<Judging>, Inquiry<SessionVerifier>), NoMemory>
+    ensures judging { IfOk result (λ x. IsJudgingOf explains how session moment x.0) }
+    ensures inquiry { IfOk result (λ x. IsInquiryOf how session moment x.1) }
+{
+    let judging = judging_if(alloc, explains, how, &session, moment)?;
+    let inquiry = inquiry_at(alloc, how, session, moment)?;
+    Ok((judging, inquiry))
+}
+
 // The report of an answer, or the line of a fault.
 #[tactic(auto, using(dns_handle::proofs::ErrorLemmas::untold_no_memory))]
 fn reply_ending(
@@ -115,20 +138,55 @@ fn refused(alloc: Global, number: u64) -> Result<(u8, Vec<u8>), NoMemory>
     Ok((status::BAD_INPUT, text))
 }
 
+// The status and the text of an answer, which is explained where it is known by what its sets are judged.
+fn told_ending(
+    alloc: Global,
+    judging: &Option<Judging>,
+    reply: &Result<DnsResponse, NetError>,
+) -> Result<(u8, Vec<u8>), NoMemory>
+    ensures ends { IfOk result (λ x. IsToldText (option_map (λ j. (judge_by j, j.limits)) judging.now) (reply_of reply.now) x.0 x.1.items) }
+    ensures low { IfOk result (λ x. x.0 < 4) }
+{
+    match judging {
+        Some(judging) => explained(alloc, judging, reply),
+        None => reply_ending(alloc, reply),
+    }
+}
+
+// By what the sets of a session's lookup are judged at a moment, where its answer is to be explained.
+fn judging_if(
+    alloc: Global,
+    explains: bool,
+    how: Verification,
+    session: &Session,
+    moment: u64,
+) -> Result<Option<Judging>, NoMemory>
+    ensures { IfOk result (IsJudgingOf explains how session.now moment) }
+{
+    if explains {
+        let judging = judging_at(alloc, how, session, moment)?;
+        Ok(Some(judging))
+    } else {
+        Ok(None)
+    }
+}
+
 // What a server answers to an inquiry.
 fn ask_inquiry<D: Dialer + Drop>(
     alloc: Global,
     given: ServerAsk<D>,
+    judging: &Option<Judging>,
     inquiry: Inquiry<SessionVerifier>,
 ) -> ServerEnding<D>
     ensures ends { AnswersInquiry
         (network D.counts D.given_bytes D.given_datagrams D.calls D.Link.counts D.Link.given D.Link.calls
         ⟦<UdpExchange<D, RandDraws> as DnsHandle>⟧ ⟦<TcpExchange<D::Link, RandDraws> as DnsHandle>⟧)
-        given inquiry result }
+        given judging.now inquiry result }
     ensures low { IfOk result.ending (λ x. x.0 < 4) }
 {
     let ServerAsk {
         how: _,
+        explains: _,
         protocol,
         server,
         seed,
@@ -136,7 +194,7 @@ fn ask_inquiry<D: Dialer + Drop>(
     } = given;
     let draws = RandDraws::from_seed(seed.unwrap_or(inquiry.moment));
     let AskEnd { reply, dial } = ask_server(alloc, dial, draws, protocol, server, inquiry);
-    let ending = reply_ending(alloc, &reply);
+    let ending = told_ending(alloc, judging, &reply);
     ServerEnding { ending, dial }
 }
 
@@ -153,8 +211,8 @@ fn ask_session<D: Dialer + Drop>(
         given session moment result }
     ensures low { IfOk result.ending (λ x. x.0 < 4) }
 {
-    match inquiry_at(alloc, given.how, session, moment) {
-        Ok(inquiry) => ask_inquiry(alloc, given, inquiry),
+    match inquiry_with(alloc, given.explains, given.how, session, moment) {
+        Ok((judging, inquiry)) => ask_inquiry(alloc, given, &judging, inquiry),
         Err(NoMemory) => ServerEnding {
             ending: Err(NoMemory),
             dial: given.dial,

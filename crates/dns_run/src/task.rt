@@ -1,17 +1,20 @@
 //! What is asked of an input besides the report of its lookup, and how a run ends that does it.
-ghost use Rattle.std.specs.Prelude.{◌≡◌, ◌≢◌, ◌<◌, ◌^◌, ◌≤◌, length, IfOk};
+ghost use Rattle.std.specs.Prelude.{◌≡◌, ◌≢◌, ◌<◌, ◌^◌, ◌≤◌, false, length, IfOk};
 ghost use Rattle.dns_io.specs.Reading.{input_limit};
 ghost use Rattle.dns_io.specs.Runs.{outside, AnInput, KeepsOutside, KeepsSink};
+ghost use Rattle.dns_run.specs.Forms.{explains_task};
 ghost use Rattle.dns_run.specs.Outcomes.{Leaves, Wrote, WrotePrefix, Fails};
 ghost use Rattle.dns_run.specs.Tasks.{TaskEnds, TaskTells, EndsTask};
 ghost use Rattle.dns_session_lookup.specs.declared.verification.Verification.TheVariants.{ByList};
 
 use crate::audit::audit_ending;
+use crate::explain::explain_ending;
 use crate::questions::questions_ending;
 use crate::roll::roll_ending;
 use dns_io::status::{self, read_status, refuse_long, write_text};
 use dns_io::{ReadStop, Sink, Source, read_all};
 use dns_record::NoMemory;
+use dns_session_lookup::Verification;
 use std::alloc::Global;
 
 /// What is asked of an input besides the report of its lookup.
@@ -23,6 +26,8 @@ pub enum Task {
     Questions,
     /// Which keys of a zone are trusted after sightings of them.
     Roll,
+    /// Why the sets of its lookup's trail aren't Secure, with signatures verified so.
+    Explain(Verification),
 }
 
 // What bytes come to by a task: a status, and a text.
@@ -35,6 +40,7 @@ fn task_ending(alloc: Global, task: Task, bytes: &[u8]) -> Result<(u8, Vec<u8>),
         Task::Audit => audit_ending(alloc, bytes),
         Task::Questions => questions_ending(alloc, bytes),
         Task::Roll => roll_ending(alloc, bytes),
+        Task::Explain(how) => explain_ending(alloc, how, bytes),
     }
 }
 
@@ -76,7 +82,7 @@ pub(crate) fn do_task<S: Source, W: Sink>(
     ensures ends { EndsTask task result (S.left input.old) (W.taken output.old) (W.taken output.new) }
 
     // What follows of that for single statuses.
-    ensures fault { result ≡ 1 → Leaves (Fails ByList) (S.left input.old) (W.taken output.old) (W.taken output.new) }
+    ensures fault { explains_task task ≡ false → result ≡ 1 → Leaves (Fails ByList) (S.left input.old) (W.taken output.old) (W.taken output.new) }
     ensures form { result ≢ 2 }
 
     ensures outside { KeepsOutside (outside S.left S.faults W.taken W.faults W.takes_memory) AnInput

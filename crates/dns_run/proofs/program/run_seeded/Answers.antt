@@ -4,12 +4,12 @@ use Rattle.dns_run.proofs.program.run_seeded.Goals as goal
 
 pub returns-in-Some-Ask-clause-ends : goal.returns-in-Some-Ask-clause-ends
 returns-in-Some-Ask-clause-ends g c =
-    ask_ends _ _ _ _ _ _ _ _ (sym c.form_of.ensures.value ∙ c.in-Some-Ask.is ∙ ap Some c.in-Some-Ask.field-0-is)
+    ask_ends _ _ _ _ _ _ _ _ _ (sym c.form_of.ensures.value ∙ c.in-Some-Ask.is ∙ ap Some c.in-Some-Ask.field-0-is)
     c.ask-status.ensures.form
 
 pub returns-in-Some-Ask-clause-over : goal.returns-in-Some-Ask-clause-over
 returns-in-Some-Ask-clause-over g c =
-    over_ends _ _ _ _ _ _ _ _ _ _ _ _
+    over_ends _ _ _ _ _ _ _ _ _ _ _ _ _
     (sym c.form_of.ensures.value ∙ c.in-Some-Ask.is ∙ ap Some c.in-Some-Ask.field-0-is) c.ask-status.ensures.ends
 
 pub returns-in_default-clause-over : goal.returns-in_default-clause-over

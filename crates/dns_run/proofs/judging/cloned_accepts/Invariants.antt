@@ -1,0 +1,6 @@
+use Rattle.std.proofs.Common.{◌≡◌, ◌++◌, drop}
+use Rattle.dns_run.proofs.judging.cloned_accepts.Given as goal
+
+-- the signatures so far and those that are left are all
+abbrev pub invariant-loop-next : goal.invariant-loop-next
+invariant-loop-next l = l.cloned.items ++ drop l.next-index l.accepts ≡ l.accepts
