@@ -1,4 +1,4 @@
-"""What a report's trail says of why a set isn't Secure, in words, for `tools/show` and `tools/picture`.
+"""What a report's trail says of why a set isn't Secure, in words, for `tools/show` and `tools/picture`. Where `explain` wrote it, its cause comes first.
 
 A report doesn't hold the time at which it was judged, nor why a reply is missing. The session has both: where they are given, signatures that had ended
 are named, and so is what came in place of a reply."""
@@ -12,6 +12,17 @@ from reading import dnskey_of, ds_of, folded, is_above
 
 DS, DNSKEY, NS, NSEC, NSEC3, NAME_ERROR = 43, 48, 2, 47, 50, 3
 ANSWERED = ("none", "absent", "expanded")
+# what the causes of `explain` say
+CAUSES = {
+    "rrsigs-not-present": "it has no signature that could be tried",
+    "net": "a query that it needs failed",
+    "rrsigs-unverified": "no signature proves it",
+    "dnskey-not-found": "no key of it is a trust anchor that signs it",
+    "ds-records-but-no-dnskey": "no key that a DS record of the zone matches signs it",
+    "ds-record-should-exist": "neither a DS record of its zone nor its absence is shown",
+    "ds-response-insecure": "its zone is shown to have no DS record",
+    "unknown-key-algorithm": "no DS record of its zone is of an algorithm and a digest type that are supported",
+}
 REFUSED = {"deep": "a query would have been too deep", "many": "there had been as many queries as may be"}
 FAULTS = {"timeout": "the server didn't answer in time", "io": "the connection failed", "busy": "the server was busy"}
 DAY, HOUR = 86_400, 3_600
@@ -97,6 +108,8 @@ def reasons(steps, step, entry, moment=None):
         yield "kept from an earlier lookup" if entry.origin == "cache" else f"as in step {entry.origin.removeprefix('repeat-')}"
     if entry.mark == "secure":
         return
+    if entry.cause and (entry.mark != "insecure" or not made_asks(entry.asks)):
+        yield CAUSES[entry.cause]
     yield from (REFUSED[ask] for ask in dict.fromkeys(entry.asks) if ask in REFUSED)
     if entry.mark == "insecure":
         yield from insecure_reasons(steps, entry)

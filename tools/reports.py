@@ -14,6 +14,9 @@ SECTIONS = ("answer", "authority", "additional")
 MARKS = ("secure", "insecure", "bogus", "indeterminate")
 DS, RRSIG, DNSKEY, IN = 43, 46, 48, 1
 MOST_STEPS = 1024
+# the words of causes, as docs/FORMATS.md has them
+CAUSES = ("none", "rrsigs-not-present", "net", "rrsigs-unverified", "dnskey-not-found", "ds-records-but-no-dnskey", "ds-record-should-exist",
+          "ds-response-insecure", "unknown-key-algorithm")
 
 
 class NoReport(Exception):
@@ -73,7 +76,7 @@ class Chain:
 
 @dataclass
 class Entry:
-    """What a step says of a set. An ask is the number of its step, or `deep` or `many` where it wasn't made."""
+    """What a step says of a set. An ask is the number of its step, or `deep` or `many` where it wasn't made; `cause` is the word of `explain`."""
     section: str
     owner: tuple
     kind: int
@@ -81,6 +84,7 @@ class Entry:
     origin: str
     place: Optional[int]
     asks: list
+    cause: Optional[str] = None
 
 
 @dataclass
@@ -112,12 +116,13 @@ class Step:
 
 @dataclass
 class Report:
-    """`steps` is None where the report has no trail."""
+    """`steps` is None where the report has no trail, and `fault` the line of an error that stands behind it."""
     code: int
     denial: list
     records: list
     chains: list
     steps: Optional[list]
+    fault: Optional[str] = None
 
 
 def covered_by(record):
@@ -148,8 +153,34 @@ def report_in(octets):
     if lines.first_word() == "trail":
         steps = trail_of(lines)
     lines.take("end").end()
+    fault = explained(lines, steps) if steps is not None and lines.first_word() in ("fault", "why") else None
     lines.end()
-    return Report(code, denial, records, chains, steps)
+    return Report(code, denial, records, chains, steps, fault)
+
+
+def explained(lines, steps):
+    """What `explain` writes behind a report: the line of an error, which is given back, and a line for each set of its trail."""
+    fault = None
+    if lines.first_word() == "fault":
+        line = lines.take("fault")
+        fault = " ".join(line.words)
+        while line.has_more():
+            line.word("fault")
+        line.end()
+    for step in steps:
+        for entry in step.sets:
+            entry.cause = cause_of(lines.take("why"), step, entry)
+    return fault
+
+
+def cause_of(line, step, entry):
+    """The cause of a set, whose line has its place."""
+    number, section, owner, kind = line.number_below("step", MOST_STEPS), line.one_of("section", SECTIONS), line.name(), line.kind()
+    if (number, section, folded(owner), kind) != (step.number, entry.section, folded(entry.owner), entry.kind):
+        raise line.bad("it is no line of the trail's next set")
+    cause = line.one_of("cause", CAUSES)
+    line.end()
+    return None if cause == "none" else cause
 
 
 def denial_of(line, choices):

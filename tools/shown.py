@@ -17,6 +17,11 @@ def denial_text(denial):
     return f"{absent if denial[0] == 'absent' else expanded}: this is {denial[1].capitalize()}"
 
 
+def fault_text(fault):
+    """The line of an error behind the report of the answer inside it."""
+    return f"the answer is refused: {fault}"
+
+
 def ending_text(step):
     ending = step.ending
     why = f": {denial_fault(step)}" if ending[0] == "denied" and step.code not in FAILURES else ""
@@ -82,7 +87,7 @@ def text_of(report, moment):
 
 
 def text_lines(report, moment):
-    yield f"{code_text(report.code)}; {denial_text(report.denial)}"
+    yield f"{code_text(report.code)}; {fault_text(report.fault) if report.fault else denial_text(report.denial)}"
     for section in SECTIONS:
         placed = [one for one in report.records if one.section == section]
         yield from ["", f"{section.capitalize()} section"] if placed else []
@@ -132,7 +137,7 @@ def step_items(steps, step, moment):
 # ---- the JSON value
 
 def value_of(report, moment):
-    return {"code": report.code, "code_name": code_text(report.code), "denial": denial_value(report.denial),
+    return {"code": report.code, "code_name": code_text(report.code), "denial": denial_value(report.denial), "fault": report.fault,
             "records": [placed_value(one) for one in report.records],
             "chains": [{"section": chain.section, "links": list(map(link_value, chain.links))} for chain in report.chains],
             "trail": None if report.steps is None else [step_value(report.steps, step, moment) for step in report.steps]}
@@ -181,5 +186,5 @@ def step_value(steps, step, moment):
 
 def entry_value(steps, step, entry, moment):
     return {"section": entry.section, "owner": name_text(entry.owner), "type": type_word(entry.kind), "mark": entry.mark,
-            "origin": entry.origin, "signature": entry.place, "asks": entry.asks,
+            "origin": entry.origin, "signature": entry.place, "asks": entry.asks, "cause": entry.cause,
             "why": list(reasons(steps, step, entry, moment))}

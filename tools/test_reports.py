@@ -143,6 +143,17 @@ class Grammar(unittest.TestCase):
                 reports.report_in(REPORT.replace(old, new, 1).encode())
             self.assertEqual(raised.exception.number, number, f"{new!r}: {raised.exception}")
 
+    def test_causes_stand_behind_a_report(self):
+        text = f"{REPORT}why 0 answer . DNSKEY none\nwhy 1 answer . NS net\n"
+        report = reports.report_in(text.encode())
+        self.assertEqual([entry.cause for step in report.steps for entry in step.sets], [None, "net"])
+        self.assertEqual(reports.report_in(text.replace("end\n", "end\nfault nsec bogus\n").encode()).fault, "nsec bogus")
+        for old, new, number in (("why 1 answer . NS net\n", "", 23), ("NS net", "NS never", 23), ("why 0", "why 1", 22),
+                                 ("why 0 answer . DNSKEY none\n", "", 22), ("NS net\n", "NS net\nend\n", 24), ("\nend\n", "\nend\nfault\nfault\n", 23)):
+            with self.assertRaises(report_lines.BadLine, msg=new) as raised:
+                reports.report_in(text.replace(old, new, 1).encode())
+            self.assertEqual(raised.exception.number, number, f"{new!r}: {raised.exception}")
+
     def test_each_stored_report_is_read_and_shown(self):
         count = 0
         for path, octets in stored_reports():
@@ -264,13 +275,17 @@ class Causes(unittest.TestCase):
         ("rows/ds-set-that-is-not-accepted", "the signature by key 44745 (ECDSAP256SHA256) of . isn't accepted"),
         ("rows/truncated-keys", "the query for example. DNSKEY has no answer, and its denial is Bogus: the reply was truncated"),
         ("rows/refused-keys", "the query for example. DNSKEY was answered with REFUSED"),
+        ("rows/explained-nested-busy", "a query that it needs failed; . has no keys to judge by; the query for . DNSKEY got no reply: the server was busy"),
+        ("rows/explained-search-up-to-the-root", "neither a DS record of its zone nor its absence is shown"),
+        ("rows/explained-nsec3-that-covers-too-little", "no NSEC3 record covers the wildcard *.x.w.example."),
+        ("examples/it501-nx", "names are hashed 501 times more, which is over 500"),
     )
 
     def test_causes(self):
         for name, said in self.CASES:
             with open(f"{TOP}/{name}.session", "rb") as file:
                 octets = file.read()
-            session, report = reading.session_in(octets), reports.report_in(model.written(octets, (b"validate", b"trail"))[0])
+            session, report = reading.session_in(octets), reports.report_in(model.written(octets, (b"explain",))[0])
             reasons.told_faults(report, session)
             self.assertIn(said, shown.text_of(report, session.moment))
 
