@@ -12,7 +12,7 @@ use Rattle.dns_measure.specs.declared.form.Form.{Form}
 use Rattle.dns_measure.specs.declared.form.Form.TheVariants.{Reading, Signed}
 use Rattle.dns_measure.specs.declared.form.Work.{Work}
 use Rattle.dns_measure.specs.declared.form.Work.TheVariants.{Decode, OnSession, Signatures}
-use Rattle.dns_measure.specs.declared.form.SessionWork.TheVariants.{LookUp, LookUpAnew, Report, Verdicts}
+use Rattle.dns_measure.specs.declared.form.SessionWork.TheVariants.{LookUp, LookUpAnew, Verdicts}
 
 -- how often is a number of 32 bits
 abbrev pub passes_in : List ℕ → Option ℕ
@@ -24,12 +24,11 @@ reading_form work passes = option_map (λ n. Reading work n) passes
 abbrev pub signed_form : Option ℕ → Option ℕ → Option Form
 signed_form records passes = option_and_then (λ r. option_map (λ n. Signed r n) passes) records
 
--- what words ask for: `report`, `verdicts`, `signatures`, `decode PASSES`, `lookup PASSES`, `anew PASSES`, or `signed RECORDS PASSES`
+-- what words ask for: `verdicts`, `signatures`, `decode PASSES`, `lookup PASSES`, `anew PASSES`, or `signed RECORDS PASSES`
 -- with at most 65535 records
 abbrev pub form_in : List (List ℕ) → Option Form
 form_in (name ∷ []) =
-    if bytes_eq name (codes "report") then Some (Reading (OnSession Report) 1)
-    else if bytes_eq name (codes "verdicts") then Some (Reading (OnSession Verdicts) 1)
+    if bytes_eq name (codes "verdicts") then Some (Reading (OnSession Verdicts) 1)
     else if bytes_eq name (codes "signatures") then Some (Reading Signatures 1)
     else None
 form_in (name ∷ passes ∷ []) =

@@ -12,8 +12,6 @@ pub enum SessionWork {
     LookUp,
     /// The same, each time with an empty cache.
     LookUpAnew,
-    /// Any answer to it is reported with its trail: an Ok one, or that inside a denial. Once alone.
-    Report,
     /// What the NSEC or NSEC3 records of each reply prove is told. Once alone.
     Verdicts,
 }
@@ -69,9 +67,6 @@ pub(crate) fn form_of(words: &[Vec<u8>]) -> Option<Form>
 {
     match words {
         [name] => {
-            if name.as_slice() == b"report".as_slice() {
-                return Some(Form::Reading(Work::OnSession(SessionWork::Report), 1));
-            }
             if name.as_slice() == b"verdicts".as_slice() {
                 return Some(Form::Reading(Work::OnSession(SessionWork::Verdicts), 1));
             }

@@ -1,6 +1,6 @@
-//! `dns_measure`: does one thing many times, so that a script can measure what it costs; and tells three things for tools: the report,
-//! with its trail, on any response to a session; what the NSEC or NSEC3 records in each reply of a session prove of its question, in the
-//! zone that the session's query names; and which signatures of some lines the verifier that computes accepts.
+//! `dns_measure`: does one thing many times, so that a script can measure what it costs; and tells two things for tools: what the NSEC or
+//! NSEC3 records in each reply of a session prove of its question, in the zone that the session's query names; and which signatures of
+//! some lines the verifier that computes accepts.
 #![tactic(auto)]
 
 mod counts;
@@ -11,7 +11,6 @@ mod program;
 mod signatures;
 mod signing;
 mod texts;
-mod trails;
 mod verdicts;
 
 use dns_io::{InputSource, OutputSink, status, words_of};

@@ -14,7 +14,6 @@ use crate::lookups::count_lookups;
 use crate::signatures::push_accepted;
 use crate::signing::signed_count;
 use crate::texts::{push_counts, push_line, push_lookups};
-use crate::trails::push_report;
 use crate::verdicts::push_lines;
 use dns_io::status::{self, read_status, refuse_long, refuse_words, write_text};
 use dns_io::{ReadStop, Sink, Source, read_all};
@@ -57,7 +56,6 @@ fn push_text(
     text: &mut Vec<u8>,
 ) -> Result<(), NoMemory> {
     match work {
-        SessionWork::Report => push_report(alloc, session, text),
         SessionWork::Verdicts => push_lines(alloc, session, text),
         SessionWork::LookUp => push_counted(alloc, passes, session, false, text),
         SessionWork::LookUpAnew => push_counted(alloc, passes, session, true, text),
@@ -186,9 +184,7 @@ fn write_signed<W: Sink>(alloc: Global, records: u16, passes: u32, output: &mut 
 
 /// Runs the program with its words, those after its name, and answers its status.
 ///
-/// `report` writes the report, with its trail, on any response to a session, an Ok one or that inside a denial, of which `dns_check` writes
-/// one line; and the line of the error where there is none. `verdicts` writes a line for each reply, and `signatures` one for each
-/// line that it reads. The others count.
+/// `verdicts` writes a line for each reply, and `signatures` one for each line that it reads. The others count.
 ///
 /// 0: the counts or the text are written. 2: the words aren't a form, and nothing was read. 3: the input isn't one for the words' work; its
 /// first frame that is cut off is named, or its first bad line. 4: a read failed, and nothing is written. 5: a write failed
