@@ -1,6 +1,7 @@
 -- For private functions of this crate only: how a lookup came to its answer.
 use Rattle.std.specs.Prelude.{ℕ, ◌≡◌, ◌≢◌, ◌≤◌, List, [], ◌++◌, None, Some, Err}
-use Rattle.dns_model.specs.Records.{Rr, MessageValue}
+use Rattle.dns_model.specs.Chains.{Judge}
+use Rattle.dns_model.specs.Records.{Rr, MessageValue, Question}
 use Rattle.dns_model.specs.SoundAnswers.{told_by}
 use Rattle.dns_rules.specs.CacheEntries.{EntryValue}
 use Rattle.dns_rules.specs.Asking.{most_sends, effective, judged_part}
@@ -12,15 +13,29 @@ use Rattle.dns_rules.specs.Parts.{TrailPart}
 use Rattle.dns_handle.specs.Errors as seen
 use Rattle.dns_handle.specs.Errors.{Reply, ErrorValue}
 use Rattle.dns_handle.specs.declared.handle.DnsHandle as handle
+use Rattle.dns_handle.specs.Requests.{RequestValue}
+use Rattle.dns_handle.specs.declared.request.DnsRequestOptions.{DnsRequestOptions}
+use Rattle.dns_cache.specs.Expiry.{TtlRangesValue}
+use Rattle.dns_evidence.specs.declared.limits.IterationLimits.{IterationLimits}
 use Rattle.dns_flow.specs.Phases.{judged_ask}
 use Rattle.dns_flow.specs.Endings.{IsStepEnd}
+use Rattle.dns_validation.specs.Requests.{asking_request, checked_request}
 use Rattle.dns_validation.specs.Received.{received_message, says_none}
 use Rattle.dns_validation.specs.Steps.{Findings, judged_answer}
 use Rattle.dns_validation.specs.Machine.{Terms}
 use Rattle.dns_validation.specs.Comes.{IsJudgement, top_context}
+use Rattle.dns_validation.specs.Validations.{terms_by}
 use Rattle.dns_lookup.specs.Caching.{ServeFrom}
 use Rattle.dns_lookup.specs.Calls.{Call, CacheUse, limits_of_call, ask_of_call, first_ask_of_call, terms_of_call}
 use Rattle.dns_lookup.specs.Sends.{SendsAlong}
+
+-- the terms of a lookup by its query's own request
+abbrev pub terms_for : Judge → Question → DnsRequestOptions → IterationLimits → TtlRangesValue → ℕ → Terms
+terms_for j q options iterations ranges now = terms_by j q (asking_request q options) options iterations ranges now
+
+-- the terms of a lookup by a request with its query
+abbrev pub terms_by_request : Judge → Question → RequestValue → IterationLimits → TtlRangesValue → ℕ → Terms
+terms_by_request j q request iterations ranges now = terms_by j q (checked_request request) request.options iterations ranges now
 
 -- the lookup that a validation with these terms makes
 abbrev pub call_by : {H : Type 0} → Terms → CacheUse → H → H → Call H

@@ -6,9 +6,8 @@ ghost use Rattle.dns_handle.specs.Replies.{reply_of};
 ghost use Rattle.dns_handle.specs.Requests.{first_question};
 ghost use Rattle.dns_trust.specs.Judge.{judge_of};
 ghost use Rattle.dns_validation.specs.Machine.{begin};
-ghost use Rattle.dns_validation.specs.Requests.{asking_request, checked_request};
-ghost use Rattle.dns_validation.specs.Validations.{terms_by, terms_in, state_of};
-ghost use Rattle.dns_lookup.specs.Answering.{AnswersLookup, call_by};
+ghost use Rattle.dns_validation.specs.Validations.{terms_in, state_of};
+ghost use Rattle.dns_lookup.specs.Answering.{AnswersLookup, call_by, terms_by_request, terms_for};
 ghost use Rattle.dns_lookup.specs.Caching.{UsesCache};
 ghost use Rattle.dns_lookup.specs.Calls.{use_of};
 ghost use Rattle.dns_lookup.specs.Driving.{HandsOn, LeftByKeeping, ServesOn, cache_state, kept_all};
@@ -43,20 +42,16 @@ pub(crate) fn look_up<H: DnsHandle, V: Verifier, C: AcceptedBy<V>>(
 ) -> Result<DnsResponse, NetError>
     ensures later { H.faults handle.old ≤ H.faults handle.new }
     ensures front { IsFront H.DnsHandle
-        (terms_by (judge_of V.answers judge.entry) query (asking_request query options) options bounds.iterations bounds.ranges
-        judge.entry.moment)
+        (terms_for (judge_of V.answers judge.entry) query options bounds.iterations bounds.ranges judge.entry.moment)
         (use_of C.ValidationCache cache.old cache.new) handle.old handle.new (reply_of result) }
     ensures sends { OrUnsent handle.old handle.new result (SendsOfTerms H.DnsHandle
-        (terms_by (judge_of V.answers judge.entry) query (asking_request query options) options bounds.iterations bounds.ranges
-        judge.entry.moment)
+        (terms_for (judge_of V.answers judge.entry) query options bounds.iterations bounds.ranges judge.entry.moment)
         handle.old handle.new) }
     ensures lookup { UnlessNoMemory result (AnswersLookup H.DnsHandle (call_by
-        (terms_by (judge_of V.answers judge.entry) query (asking_request query options) options bounds.iterations bounds.ranges
-        judge.entry.moment)
+        (terms_for (judge_of V.answers judge.entry) query options bounds.iterations bounds.ranges judge.entry.moment)
         (use_of C.ValidationCache cache.old cache.new) handle.old handle.new) (reply_of result)) }
     ensures cached { OfAnswer (reply_of result) (λ a ending. UsesCache (call_by
-        (terms_by (judge_of V.answers judge.entry) query (asking_request query options) options bounds.iterations bounds.ranges
-        judge.entry.moment)
+        (terms_for (judge_of V.answers judge.entry) query options bounds.iterations bounds.ranges judge.entry.moment)
         (use_of C.ValidationCache cache.old cache.new) handle.old handle.new) a.trail) }
 {
     let now = judge.moment;
@@ -79,20 +74,16 @@ pub(crate) fn look_up_by_request<H: DnsHandle, V: Verifier, C: AcceptedBy<V>>(
     requires asked { first_question request ≡ Some query }
     ensures later { H.faults handle.old ≤ H.faults handle.new }
     ensures front { IsFront H.DnsHandle
-        (terms_by (judge_of V.answers judge.entry) query (checked_request request) request.options bounds.iterations bounds.ranges
-        judge.entry.moment)
+        (terms_by_request (judge_of V.answers judge.entry) query request bounds.iterations bounds.ranges judge.entry.moment)
         (use_of C.ValidationCache cache.old cache.new) handle.old handle.new (reply_of result) }
     ensures sends { OrUnsent handle.old handle.new result (SendsOfTerms H.DnsHandle
-        (terms_by (judge_of V.answers judge.entry) query (checked_request request) request.options bounds.iterations bounds.ranges
-        judge.entry.moment)
+        (terms_by_request (judge_of V.answers judge.entry) query request bounds.iterations bounds.ranges judge.entry.moment)
         handle.old handle.new) }
     ensures lookup { UnlessNoMemory result (AnswersLookup H.DnsHandle (call_by
-        (terms_by (judge_of V.answers judge.entry) query (checked_request request) request.options bounds.iterations bounds.ranges
-        judge.entry.moment)
+        (terms_by_request (judge_of V.answers judge.entry) query request bounds.iterations bounds.ranges judge.entry.moment)
         (use_of C.ValidationCache cache.old cache.new) handle.old handle.new) (reply_of result)) }
     ensures cached { OfAnswer (reply_of result) (λ a ending. UsesCache (call_by
-        (terms_by (judge_of V.answers judge.entry) query (checked_request request) request.options bounds.iterations bounds.ranges
-        judge.entry.moment)
+        (terms_by_request (judge_of V.answers judge.entry) query request bounds.iterations bounds.ranges judge.entry.moment)
         (use_of C.ValidationCache cache.old cache.new) handle.old handle.new) a.trail) }
 {
     let now = judge.moment;
