@@ -9,7 +9,7 @@ use Rattle.dns_session.specs.LinePlaces.{pieces}
 use Rattle.dns_session.specs.Lines.{Words, words, after, triple, three_after}
 
 -- the bytes of all words
-total : Words → ℕ
+unfoldable pub total : Words → ℕ
 total [] = 0
 total (word ∷ rest) = length word + total rest
 
@@ -37,6 +37,13 @@ total_after word (first ∷ others) rest h =
       | inr isnt ↦ let none = rw isnt at h in cc
     ]
 
+-- the words after the first have no more bytes than the line
+pub total_behind : (word line : List ℕ) (rest : Words) → Some rest ≡ after word (words line) → total rest ≤ length line
+total_behind word line rest h =
+    let one = total_after word (words line) rest h in
+    let two = total_pieces 32 line in
+    omega (arith, one, two)
+
 triple_third : (all : Words) (x : List ℕ × List ℕ × List ℕ) → Some x ≡ triple all → length x.2 ≤ total all
 unfolding total
 triple_third [] x h = cc
@@ -50,9 +57,8 @@ third_of : (word line : List ℕ) (said : Option Words) (x : List ℕ × List �
 third_of word line None x e h = cc
 third_of word line (Some rest) x e h =
     let one = triple_third rest x h in
-    let two = total_after word (words line) rest e in
-    let three = total_pieces 32 line in
-    omega (arith, one, two, three)
+    let two = total_behind word line rest e in
+    omega (arith, one, two)
 
 -- the third word after the first is no longer than the line
 pub third_short : (word line a b c : List ℕ)
