@@ -29,6 +29,15 @@ impl<R: Net + Drop> SocketDialer<R> {
     ghost use Rattle.dns_link.specs.SocketCounts.{dialer_counts};
 
     /// A dialer over the network of a runtime.
+    ///
+    /// Whether anybody listens at an address is told within two seconds:
+    ///
+    /// ```
+    /// fn is_listening<R: Net + Clock + Copy + Drop>(net: R, server: SocketAddr) -> bool {
+    ///     let mut dial = SocketDialer::new(net);
+    ///     dial.connect(server, None, 2000).is_ok()
+    /// }
+    /// ```
     pub fn new(net: R) -> SocketDialer<R>
         ensures { dialer_counts result ≡ no_counts }
     {

@@ -51,7 +51,21 @@ impl<H: DnsHandle + Drop, V: Verifier + Drop> DnssecDnsHandle<H, V, DefaultCache
     ghost use Rattle.dns_lookup.specs.Limiting.{default_ranges};
     ghost use Rattle.dns_lookup.specs.Making.{IsNewValidator};
 
-    /// A validator that trusts these anchors and tests signatures by this verifier, with an empty cache of 65,536 entries.
+    /// A validator that trusts these anchors and tests signatures by this verifier, with an empty cache of 65,536 entries. This one trusts
+    /// a key of the root, under algorithm 13:
+    ///
+    /// ```
+    /// fn trusting<H: DnsHandle + Drop, V: Verifier + Drop>(
+    ///     alloc: Global,
+    ///     upstream: H,
+    ///     verifier: V,
+    ///     key: Octets,
+    /// ) -> Result<DnssecDnsHandle<H, V>, NoMemory> {
+    ///     let mut anchors = TrustAnchors::empty(alloc);
+    ///     let _ = anchors.insert_with_name(Name::root(alloc)?, 13, key)?;
+    ///     DnssecDnsHandle::new(alloc, upstream, anchors, verifier)
+    /// }
+    /// ```
     pub fn new(
         alloc: Global,
         handle: H,
@@ -97,7 +111,18 @@ impl<H: DnsHandle + Drop, V: Verifier + Drop, C: AcceptedBy<V> + Drop> DnssecDns
     ghost use Rattle.dns_lookup.specs.Limiting.{default_iterations, default_ranges, limited, range_by};
     ghost use Rattle.dns_lookup.specs.Sending.{sends_of, faults_of, CountsSend};
 
-    /// A validator that trusts these anchors and tests signatures by this verifier, over a cache of one's own.
+    /// A validator that trusts these anchors and tests signatures by this verifier, over a cache of one's own, as one of eight entries:
+    ///
+    /// ```
+    /// fn over_small_cache<H: DnsHandle + Drop, V: Verifier + Drop>(
+    ///     alloc: Global,
+    ///     upstream: H,
+    ///     anchors: TrustAnchors,
+    ///     verifier: V,
+    /// ) -> Result<DnssecDnsHandle<H, V, ListCache>, NoMemory> {
+    ///     DnssecDnsHandle::with_cache(upstream, anchors, verifier, ListCache::new(alloc, 8))
+    /// }
+    /// ```
     pub fn with_cache(
         handle: H,
         anchors: TrustAnchors,
@@ -183,6 +208,20 @@ impl<H: DnsHandle + Drop, V: Verifier + Drop, C: AcceptedBy<V> + Drop> DnssecDns
     /// Errors: one of the handle's own send for the query; `ForeignClassRecord` for a record of another class than the
     /// query's; `Dns(Nsec)`, with the answer inside, exactly where its records lack a denial that they need, or have one that
     /// doesn't hold; `NoMemory`.
+    ///
+    /// The mark of the first record of an answer, if it has one:
+    ///
+    /// ```
+    /// fn first_mark<H: DnsHandle + Drop, V: Verifier + Drop>(
+    ///     alloc: Global,
+    ///     validator: &mut DnssecDnsHandle<H, V>,
+    ///     query: Query,
+    ///     now: u64,
+    /// ) -> Result<Option<Proof>, NetError> {
+    ///     let response = validator.lookup(alloc, query, DnsRequestOptions::default(), now)?;
+    ///     Ok(response.message.answers.first().map(|record| record.proof))
+    /// }
+    /// ```
     pub fn lookup(
         &mut self,
         alloc: Global,

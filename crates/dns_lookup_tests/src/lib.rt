@@ -10,6 +10,8 @@ mod cached_tests;
 #[cfg(test)]
 mod driven_tests;
 #[cfg(test)]
+mod example_tests;
+#[cfg(test)]
 mod expiry_tests;
 #[cfg(test)]
 mod given;

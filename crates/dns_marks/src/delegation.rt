@@ -16,6 +16,17 @@ use std::alloc::Global;
 /// Secure exactly where one of some DS records matches a key (RFC 4035, 5.2). Of those of its owner, algorithm and tag
 /// the first two of the list count, whether or not they are supported. A key that can't be read and one of an algorithm
 /// that isn't supported are Insecure, any other that no DS matches is Bogus.
+///
+/// The mark of a key alone, without the cause:
+///
+/// ```
+/// fn mark_of_key<V: Verifier>(alloc: Global, verifier: &V, key: &Record, ds: &[Record]) -> Proof {
+///     match verify_dnskey(alloc, verifier, key, ds) {
+///         Ok(proof) => proof,
+///         Err(error) => error.proof,
+///     }
+/// }
+/// ```
 pub fn verify_dnskey<V: Verifier>(
     _alloc: Global,
     verifier: &V,

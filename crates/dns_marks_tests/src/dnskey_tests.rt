@@ -4,6 +4,7 @@ use crate::counting::Counting;
 use crate::parts::*;
 use crate::wanted::reads;
 use dns_cache::ProofError;
+use dns_evidence::Verifier;
 use dns_marks::verify_dnskey;
 use dns_model::Proof;
 use dns_record::{Record, RecordType};
@@ -125,4 +126,34 @@ fn a_key_is_matched_behind_70_000_ds_records(rt: HostRuntime) {
     let ds = many_and_one(&rt, rt.alloc(), RecordType::DS, DS_BESIDE, DS);
     let matched = finds(&rt, rt.alloc(), DNSKEY, KEY, &ds, "Secure");
     check_row(&rt, "the last DS matches", matched);
+}
+
+// The example of `verify_dnskey`, word for word.
+fn mark_of_key<V: Verifier>(alloc: Global, verifier: &V, key: &Record, ds: &[Record]) -> Proof {
+    match verify_dnskey(alloc, verifier, key, ds) {
+        Ok(proof) => proof,
+        Err(error) => error.proof,
+    }
+}
+
+/// The mark of this key of `example.` by one DS.
+fn mark_by_ds(rt: &impl Abort, alloc: Global, key: &[u8]) -> Proof {
+    let key = record(rt, alloc, "example.", DNSKEY, key, Proof::Indeterminate);
+    let ds = ds_records(rt, alloc, &[("example.", DS)]);
+    mark_of_key(alloc, &Counting::new(), &key, &ds)
+}
+
+#[test]
+fn the_example_of_a_key_gives_its_mark(rt: HostRuntime) {
+    let alloc = rt.alloc();
+    let matched = mark_by_ds(&rt, alloc, KEY);
+    check_row(&rt, "the key of the DS", matched == Proof::Secure);
+    let other = mark_by_ds(&rt, alloc, OTHER_KEY);
+    check_row(&rt, "another key", other == Proof::Bogus);
+    let unsupported = mark_by_ds(&rt, alloc, UNSUPPORTED_KEY);
+    check_row(
+        &rt,
+        "a key of another algorithm",
+        unsupported == Proof::Insecure,
+    );
 }

@@ -30,6 +30,25 @@ impl<V: Verifier + Drop, T: Wait + Copy> SharedCache<V, DefaultHasher, T> {
     ///
     /// The seed of the hasher is known. Whoever can choose records can choose keys that fall together under it: a cache that serves
     /// several clients wants `with_hasher` with a `RandomState`.
+    ///
+    /// What one holder puts in, another gets as long as it isn't up:
+    ///
+    /// ```
+    /// fn is_seen_by_another<T: Wait + Copy>(
+    ///     rt: T,
+    ///     alloc: Global,
+    ///     verifier: Listed,
+    ///     entry: Entry,
+    ///     now: u64,
+    /// ) -> Result<bool, NoMemory> {
+    ///     let key = entry.key.try_clone()?;
+    ///     let mut first = SharedCache::new(rt, alloc, 1000, verifier)?;
+    ///     let mut other = first.share()?;
+    ///     first.insert(alloc, entry)?;
+    ///     let given = other.get(alloc, &key, now)?;
+    ///     Ok(given.is_some())
+    /// }
+    /// ```
     pub fn new(
         rt: T,
         alloc: Global,

@@ -5,6 +5,8 @@
 #![tactic(auto)]
 
 #[cfg(test)]
+mod example_tests;
+#[cfg(test)]
 mod given;
 #[cfg(test)]
 mod large_tests;

@@ -148,6 +148,24 @@ impl<L: Link + Drop> TcpStream<L> {
 
     /// Reads once, at most the bytes that the length or the frame still lacks, and gives a message with its last byte. `Closed`
     /// where the link ended between two frames. `Io(BrokenPipe)` comes where it ended inside one, and where a length is 0.
+    ///
+    /// The next message, if so many reads bring one before the link ends:
+    ///
+    /// ```
+    /// fn next_message<L: Link + Drop>(
+    ///     stream: &mut TcpStream<L>,
+    ///     reads: u32,
+    /// ) -> Result<Option<SerialMessage>, NetError> {
+    ///     for _ in 0..reads {
+    ///         match stream.feed()? {
+    ///             Feed::Message(message) => return Ok(Some(message)),
+    ///             Feed::Closed => return Ok(None),
+    ///             Feed::More => {}
+    ///         }
+    ///     }
+    ///     Ok(None)
+    /// }
+    /// ```
     pub fn feed(&mut self) -> Result<Feed, NetError>
         ensures fed { Feeds (link_view L.counts L.given L.left L.taken L.calls) (link_of self.old) (link_of self.new)
             (state_of self.old) (state_of self.new) result }

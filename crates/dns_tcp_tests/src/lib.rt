@@ -8,6 +8,8 @@ mod answer_tests;
 #[cfg(test)]
 mod cut_tests;
 #[cfg(test)]
+mod example_tests;
+#[cfg(test)]
 mod exchange_loopback_tests;
 #[cfg(test)]
 mod exchange_parts;

@@ -18,6 +18,25 @@ use std::alloc::Global;
 /// a tree that was gone through in order, and each mark and each ending follows from what was told and from the steps
 /// before it, or from an entry that was kept before and isn't up at that moment (RFC 4035, 4.3, 4.5, 5.2 and 5.3). A kept entry that
 /// says Secure serves only where its chain proves the set by the same anchors, verifier and moment. It takes any trail and any entries.
+///
+/// Whether the trail of a response shows its marks, where nothing was kept before:
+///
+/// ```
+/// fn is_derived<V: Verifier>(
+///     alloc: Global,
+///     anchors: &TrustAnchors,
+///     verifier: &V,
+///     now: u64,
+///     response: &DnsResponse,
+/// ) -> Result<bool, NoMemory> {
+///     let limits = Limits {
+///         depth: 26,
+///         soft: IterationLimits::DEFAULT.soft,
+///         hard: IterationLimits::DEFAULT.hard,
+///     };
+///     check_trail(alloc, anchors, verifier, now, &limits, &[], &response.trail)
+/// }
+/// ```
 pub fn check_trail<V: Verifier>(
     alloc: Global,
     anchors: &TrustAnchors,

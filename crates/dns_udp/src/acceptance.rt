@@ -80,6 +80,26 @@ fn accept_bytes(
 /// `Answer`. `Ignored` where its questions are others.
 ///
 /// Memory is asked for only once server and id have been found to be the request's.
+///
+/// The answer in a datagram, if there is one, where the letters of names count:
+///
+/// ```
+/// fn answer_in(
+///     alloc: Global,
+///     request: &Message,
+///     server: SocketAddr,
+///     from: SocketAddr,
+///     bytes: &[u8],
+/// ) -> Result<Option<Message>, NoMemory> {
+///     if bytes.len() > 65_535 {
+///         return Ok(None);
+///     }
+///     match accept_datagram(alloc, request, server, true, from, bytes)? {
+///         Accepted::Answer(answer) => Ok(Some(answer)),
+///         _ => Ok(None),
+///     }
+/// }
+/// ```
 pub fn accept_datagram(
     alloc: Global,
     request: &Message,

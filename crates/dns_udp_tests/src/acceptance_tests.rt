@@ -1,5 +1,6 @@
-use crate::parts::{ASKED, check};
+use crate::parts::{ANSWER, ASKED, check};
 use dns_message::{DecodeError, DecodeKind, Message};
+use dns_record::NoMemory;
 use dns_udp::{Accepted, accept_datagram};
 use std::alloc::Global;
 use std::net::{IpAddr, Ipv4Addr, Ipv6Addr, SocketAddr};
@@ -121,4 +122,41 @@ fn a_long_datagram_is_read(rt: HostRuntime) {
         "the first byte too many is told",
         kind == Kind::Undecodable(DecodeKind::Trailing, 19),
     );
+}
+
+// The example of `accept_datagram`, word for word.
+fn answer_in(
+    alloc: Global,
+    request: &Message,
+    server: SocketAddr,
+    from: SocketAddr,
+    bytes: &[u8],
+) -> Result<Option<Message>, NoMemory> {
+    if bytes.len() > 65_535 {
+        return Ok(None);
+    }
+    match accept_datagram(alloc, request, server, true, from, bytes)? {
+        Accepted::Answer(answer) => Ok(Some(answer)),
+        _ => Ok(None),
+    }
+}
+
+/// Whether a datagram from an address holds an answer.
+fn has_answer(rt: &impl Abort, alloc: Global, from: Origin, bytes: &[u8]) -> bool {
+    let request = Message::from_vec(alloc, ASKED).expect(rt, "a message");
+    let server = address(Origin::Server);
+    let answer = answer_in(alloc, &request, server, address(from), bytes);
+    let answer = answer.expect(rt, "memory");
+    answer.is_some()
+}
+
+#[test]
+fn the_example_of_a_datagram_gives_its_answer(rt: HostRuntime) {
+    let alloc = rt.alloc();
+    let answered = has_answer(&rt, alloc, Origin::Server, ANSWER);
+    check(&rt, "the server's answer", answered);
+    let from_another = has_answer(&rt, alloc, Origin::OtherPort, ANSWER);
+    check(&rt, "another port's", !from_another);
+    let in_other_case = has_answer(&rt, alloc, Origin::Server, UPPER);
+    check(&rt, "letters in the other case", !in_other_case);
 }
