@@ -3,6 +3,7 @@
 use Rattle.std.specs.Prelude.{◌≡◌, Bool, true, List, Option, slice_get}
 use Rattle.std.specs.List.{filter_map, find, list_all, enumerate_from}
 use Rattle.std.specs.Option.{option_map}
+use Rattle.dns_model.specs.Keys.{bytes_eq}
 use Rattle.dns_model.specs.Records.{Rr, RrSet}
 use Rattle.dns_model.specs.Chains.{Judge}
 use Rattle.dns_rules.specs.Validity.{is_good_by}
@@ -25,6 +26,10 @@ TellsRdata may test = (a b : Rr) → may a ≡ true → may b ≡ true → a.rda
 -- of keys with one rdata there is still the first: for whatever test that tells keys by their rdata the same key is the first
 abbrev pub AreOnce : List Rr → List Rr → Type 0
 AreOnce once keys = (may test : Rr → Bool) → list_all may keys ≡ true → TellsRdata may test → find test once ≡ find test keys
+
+-- two keys have one rdata
+abbrev pub have_one_rdata : Rr → Rr → Bool
+have_one_rdata a b = bytes_eq a.rdata b.rdata
 
 -- the first of some signatures that is good by one of some keys
 unfoldable pub first_signed_by : Judge → RrSet → List Rr → List Rr → Option SignedKeys

@@ -1,13 +1,13 @@
 //! The first signature of a key set that is good by one of some keys of it, among those that are tried (RFC 4035, 5.3.3).
 
 ghost use Rattle.std.specs.Prelude.{◌≡◌, ◌≤◌, IfOk, length, take};
-ghost use Rattle.std.specs.List.{find};
+ghost use Rattle.std.specs.List.{IsDistinct, find};
 ghost use Rattle.std.specs.Option.{option_map, option_copied};
 ghost use Rattle.dns_rules.specs.Marks.{most_signatures};
 ghost use Rattle.dns_trust.specs.Judge.{judge_of};
 ghost use Rattle.dns_trust.specs.Delegating.{shown};
 ghost use Rattle.dns_trust.specs.SetSignatures.{IsRead, is_good_of};
-ghost use Rattle.dns_trust.specs.Signers.{AreOnce, signed_value, first_signed_by, signing_key};
+ghost use Rattle.dns_trust.specs.Signers.{AreOnce, have_one_rdata, signed_value, first_signed_by, signing_key};
 
 use crate::good::is_good_read;
 use crate::{Judge, SetSignature};
@@ -44,7 +44,8 @@ pub fn first_signatures(set: &RecordSet) -> &[Record]
 ///
 /// The only error is that memory ran out.
 pub fn each_once<'a>(alloc: Global, keys: &[&'a Record]) -> Result<Vec<&'a Record>, NoMemory>
-    ensures { IfOk result (λ v. AreOnce (shown v.items) (shown keys.now)) }
+    ensures found { IfOk result (λ v. AreOnce (shown v.items) (shown keys.now)) }
+    ensures once { IfOk result (λ v. IsDistinct have_one_rdata (shown v.items)) }
 {
     let mut seen = BTreeSet::new(alloc);
     let mut once = Vec::new(alloc);

@@ -27,4 +27,5 @@ returns c =
     let test = is_asked c.args.zone.now (λ key. is_trusted (standing_in c.args.table.now.known key)) c.args.asked in
     let whole = c.loop-next.invariant ∙ ap (filter test) (take_all c.loop-next.next-index c.args.records.now c.loop-next-test.false) in
     let same : c.deref.result.now ≡ c.loop-next.all.items = search rules in
-    IfOk-weaker c.each_once.result _ _ (λ v are. subst (AreOnce (shown v.items)) (ap shown same ∙ whole) are) c.each_once.ensures
+    IfOk-weaker c.each_once.result _ _
+    (λ v are. subst (AreOnce (shown v.items)) (ap shown same ∙ whole) are) c.each_once.ensures.found

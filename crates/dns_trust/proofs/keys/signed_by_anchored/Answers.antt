@@ -14,5 +14,6 @@ returns g c =
     subst (λ w. IfOk c.first_signed.result (λ s. option_map signed_value s ≡ w))
     (ap (λ ks. first_signed_by j c.args.set.now (shown ks) (take most_signatures c.args.set.now.signatures)) c.deref-2.ensures.value
     ∙ anchored_once j c.args.set.now (shown c.in_ok-keys.keys.items) (shown c.in_ok-anchored.anchored.items) c.in_ok-anchored.ensures
-    (subst (λ ks. AreOnce (shown c.in_ok-keys.keys.items) (shown ks)) c.deref.ensures.value c.in_ok-keys.ensures))
+    (subst (λ ks. AreOnce (shown c.in_ok-keys.keys.items) (shown ks)) c.deref.ensures.value
+    c.in_ok-keys.ensures.found))
     c.first_signed.ensures

@@ -15,5 +15,6 @@ returns g c =
     (ap (λ ks. first_signed_by j c.args.set.now (shown ks) (take most_signatures c.args.set.now.signatures)) c.deref-2.ensures.value
     ∙ matched_once j c.args.set.now c.args.ds.now.records (shown c.in_ok-keys.keys.items) (shown c.in_ok-matched.matched.items)
     c.in_ok-matched.ensures
-    (subst (λ ks. AreOnce (shown c.in_ok-keys.keys.items) (shown ks)) c.deref.ensures.value c.in_ok-keys.ensures))
+    (subst (λ ks. AreOnce (shown c.in_ok-keys.keys.items) (shown ks)) c.deref.ensures.value
+    c.in_ok-keys.ensures.found))
     c.first_signed.ensures

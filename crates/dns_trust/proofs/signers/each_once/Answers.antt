@@ -18,8 +18,8 @@ loop-key-preserved c =
     let same = c.as_slice-rdata.ensures.bytes ∙ ap (λ (r : Rr). r.rdata) c.key.view_is in
     elim c.if-branch.branch [
       | then-branch+in_ok-push w ↦
-          kept_new keys c.loop-key.key-index _ _ _ _ c.key-item.result.now c.as_slice-rdata.result within at same c.loop-key.invariant
-          c.in_ok-insert.ensures.updates
+          kept_new keys c.loop-key.key-index _ _ _ _ c.key-item.result.now c.as_slice-rdata.result _ within at same c.loop-key.invariant
+          c.in_ok-insert.ensures.updates c.in_ok-insert.ensures.added w.if-branch.true
           (ap (λ o. shown o.items) w.once-is ∙ ap shown w.in_ok-push.ensures.items ∙ map-append (λ r. r.now) c.loop-key.once.items _)
       | else-branch w ↦
           subst (λ o. Kept keys (c.loop-key.key-index + 1) (shown o.items) c.insert.new.self) (sym w.once-is)
@@ -28,6 +28,8 @@ loop-key-preserved c =
     ]
 
 pub returns : goal.returns
-returns c =
-    kept_all (shown c.args.keys.now) c.loop-key.key-index _ _
-    (shown_end c.args.keys.now c.loop-key.key-index c.loop-key-test.false) c.loop-key.invariant
+returns c = record {
+  found = kept_all (shown c.args.keys.now) c.loop-key.key-index _ _
+      (shown_end c.args.keys.now c.loop-key.key-index c.loop-key-test.false) c.loop-key.invariant;
+  once = c.loop-key.invariant.distinct;
+}
