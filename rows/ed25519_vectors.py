@@ -1,10 +1,13 @@
 #!/usr/bin/env python3
 """Writes `rows/ed25519.txt`: keys and signatures of Ed25519 at the edges of RFC 8032, with what a verifier has to say of each and why.
 
-    python3 rows/ed25519_vectors.py > rows/ed25519.txt
+    python3 rows/ed25519_vectors.py WYCHEPROOF > rows/ed25519.txt
 
-They are made by the affine law in `tools/edwards.py`, and from numbers in place of secrets. TEST 1024 is of RFC 8032, 7.1."""
+WYCHEPROOF is the folder `src/third_party/wycheproof_testvectors` of Debian's source package android-platform-external-boringssl, of version 13.0.0+r24-2:
+all 145 cases of its `eddsa_test.json` are here, each with the reason of its answer. The others are made by the affine law in `tools/edwards.py`,
+and from numbers in place of secrets. TEST 1024 is of RFC 8032, 7.1."""
 import hashlib
+import json
 import os
 import sys
 
@@ -156,7 +159,47 @@ def digests(data):
         signed(hashlib.sha512(b"SigEd25519 no Ed25519 collisions\0\0" + first + key + data).digest()), False)
 
 
-def main():
+def of_point(name, octets):
+    """Why these 32 bytes are no point, if they are none (RFC 8032, 5.1.3)."""
+    value = int.from_bytes(octets, "little")
+    if value % 2**255 >= CURVE.p:
+        return [f"{name}'s y isn't below the prime"]
+    if CURVE.point(octets) is None:
+        return [f"{name}'s x is 0, and its sign bit is 1" if value % 2**255 in (1, CURVE.p - 1) else f"no x belongs to {name}'s y"]
+    return []
+
+
+def reason(key, data, signature):
+    """Why a signature is accepted or refused: what RFC 8032, 5.1.7 tests of it, in that order."""
+    if len(signature) != 64:
+        return f"a signature of {len(signature)} bytes" if signature else "no signature"
+    first, s = signature[:32], int.from_bytes(signature[32:], "little")
+    faults = of_point("R", first) + (["S isn't below the order"] if s >= CURVE.n else []) + of_point("the key", key)
+    if faults:
+        return ", and ".join(faults)
+    made = CURVE.times(s, CURVE.base())
+    wanted = CURVE.add(CURVE.point(first), CURVE.times(CURVE.challenge(first, key, data), CURVE.point(key)))
+    if made == wanted:
+        return "the equation holds"
+    is_cofactor = CURVE.times(8, made) == CURVE.times(8, wanted)
+    return "the equation holds only with the cofactor" if is_cofactor else "the equation doesn't hold, not even with the cofactor"
+
+
+def wycheproof(folder):
+    """Wycheproof's cases, each by its number there, what is said of it there, and the reason of its answer."""
+    with open(os.path.join(folder, "eddsa_test.json"), encoding="utf-8") as file:
+        groups = json.load(file)["testGroups"]
+    for group in groups:
+        key = bytes.fromhex(group["key"]["pk"])
+        for case in group["tests"]:
+            data, signature = bytes.fromhex(case["msg"]), bytes.fromhex(case["sig"])
+            said = f"{case['result']}, {case['comment'].strip()}".rstrip(", ")
+            put(f"Wycheproof, eddsa_test.json, {case['tcId']} ({said}): {reason(key, data, signature)}", key, data, signature, case["result"] == "valid")
+
+
+def main(words):
+    if len(words) != 1:
+        sys.exit(__doc__)
     print("# Keys and signatures of Ed25519, made by rows/ed25519_vectors.py, each after the reason of its answer. Lines are as in rows/signatures.txt.")
     data = b"some signed bytes"
     put("RFC 8032, 7.1, TEST 1024", TEST_1024_KEY, TEST_1024, TEST_1024_SIGNATURE, True)
@@ -177,7 +220,8 @@ def main():
     small_orders(point)
     mixed_orders(point)
     digests(data)
+    wycheproof(words[0])
 
 
 if __name__ == "__main__":
-    main()
+    main(sys.argv[1:])
