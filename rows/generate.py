@@ -15,7 +15,7 @@ import texts
 import unsigned
 import walk
 from scene import Scene, ds_of, finds
-from texts import A, DNSKEY, KEY, MX, NS, OPAQUE, Record, Signed
+from texts import A, ALGORITHM, DNSKEY, KEY, MX, NS, OPAQUE, Record, Signed
 from walk import EXAMPLE, KEYS, WWW
 
 # the model goes as deep as a lookup does, some frames an ask
@@ -268,6 +268,28 @@ def seventy_thousand_lines_of_each_kind():
     return session, stored_report(), 0
 
 
+def roll(keys, accepts, sights, trusted):
+    """A text of sightings of the root, with the keys that are trusted after it."""
+    lines = ["dns-roll 1", "zone .", f"algorithms {ALGORITHM}", *(f"key {key.hex()}" for key in keys), *accepts, *sights, "end"]
+    return "".join(one + "\n" for one in lines).encode(), b"".join(b"trusted %s\n" % key.hex().encode() for key in trusted), 0, b"roll\n"
+
+
+def roll_of_seventy_thousand_lines_of_each_kind():
+    """As many keys that are trusted, accepted signatures, and messages that show no key set. All keys stay trusted."""
+    keys = [texts.key_of(texts.number(k, 4)) for k in range(MANY)]
+    accepts = [f"accept {ALGORITHM} {key[4:].hex()} - c0de" for key in keys]
+    return roll(keys, accepts, [f"sight {k} -" for k in range(MANY)], keys)
+
+
+def revoked_among_three_thousand_keys():
+    """A trusted key revokes itself in a set that shows 3,000 others before it, of which one is trusted too: that one alone stays trusted."""
+    keys = [texts.key_of(texts.number(k, 4)) for k in range(3_000)]
+    revoked = KEY[:1] + bytes([KEY[1] | 0x80]) + KEY[2:]
+    signed = Signed([Record(ROOT, DNSKEY, key) for key in (*keys, revoked)], revoked)
+    shown = texts.message(ROOT, DNSKEY, signed.section())
+    return roll([KEY, keys[0]], [signed.accept()], [f"sight {texts.MOMENT} {shown.hex()}"], [keys[0]])
+
+
 def bad_line_behind_seventy_thousand():
     """Its number has five digits."""
     lines = ["dns-session 1", "moment 1", "algorithms", "query . A", *["fault . A busy"] * MANY, "reply . A"]
@@ -367,6 +389,7 @@ MADE = (forty_keys, sixty_links, two_hundred_sets, hundred_chains, audit_of_a_hu
         unsigned.deepest_searches, denials.denial_by_a_thousand_records, hashed.hashed_denial_by_a_thousand_records,
         hashed.unsigned_by_a_thousand_records, chain_of_three_hundred_links, forty_ds_records,
         set_of_4500_records, rdata_of_sixty_thousand_bytes, seventy_thousand_lines_of_each_kind, bad_line_behind_seventy_thousand,
+        roll_of_seventy_thousand_lines_of_each_kind, revoked_among_three_thousand_keys,
         referral_to_two_thousand_servers, long_name_of_another_class, three_hundred_words, word_of_100_000_letters, words_of_more_than_255_bytes, number_of_300_digits,
         algorithm_of_300_digits, type_of_300_letters, fault_of_300_letters, line_with_a_word_of_300_letters, *attacks.LARGE)
 
