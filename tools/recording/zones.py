@@ -1,4 +1,4 @@
-"""Signed zones of four levels, made by Debian's ldnsutils and served on this machine by Debian's nsd, for `tools/try_record`.
+"""Signed zones of four levels, made by Debian's ldnsutils and served on this machine by Debian's nsd, for `tools/try_record`; and what the other tries over servers share.
 
 The root and `two.one.` deny by NSEC, `one.` by NSEC3, `out.one.` by NSEC3 with opt-out. Below `one.` are an unsigned zone, one
 whose signatures have ended, one whose DS record has another digest, and one whose DS record is of an algorithm that nobody knows."""
@@ -8,6 +8,7 @@ import subprocess
 import sys
 import time
 
+TOOL = f"tools/{os.path.basename(sys.argv[0])}"
 ALGORITHMS = {".": "ECDSAP256SHA256", "one.": "RSASHA256", "two.one.": "ED25519", "out.one.": "ECDSAP384SHA384",
               "ended.one.": "ECDSAP256SHA256", "wrong.one.": "ECDSAP256SHA256"}
 SOA = "{zone} 3600 IN SOA ns.one. host.one. 1 3600 600 86400 300\n{zone} 3600 IN NS ns.one.\n"
@@ -36,9 +37,9 @@ def run(command, folder):
     try:
         ran = subprocess.run(command, cwd=folder, capture_output=True, check=False)
     except FileNotFoundError:
-        sys.exit(f"tools/try_record: no {command[0]} (Debian: apt-get install ldnsutils nsd)")
+        sys.exit(f"{TOOL}: no {command[0]} (Debian: apt-get install ldnsutils nsd)")
     if ran.returncode:
-        sys.exit(f"tools/try_record: {' '.join(command)}: {ran.stderr.decode()[-500:]}")
+        sys.exit(f"{TOOL}: {' '.join(command)}: {ran.stderr.decode()[-500:]}")
     return ran.stdout.decode().split()
 
 
@@ -84,6 +85,17 @@ def is_child(name, zone):
     return upper == zone
 
 
+def delv_anchor(folder, key):
+    """The root's key as BIND's delv takes it."""
+    with open(key, encoding="ascii") as file:
+        fields = file.read().split(";")[0].split()
+    flags, protocol, algorithm, *text = fields[fields.index("DNSKEY") + 1:]
+    path = os.path.join(folder, "delv.keys")
+    with open(path, "w", encoding="ascii") as file:
+        file.write(f"trust-anchors {{ \".\" static-key {flags} {protocol} {algorithm} \"{''.join(text)}\"; }};\n")
+    return path
+
+
 def free_port():
     with socket.socket(socket.AF_INET, socket.SOCK_DGRAM) as one:
         one.bind(("127.0.0.1", 0))
@@ -105,5 +117,5 @@ def serve(folder, files):
         sys.exit("tools/try_record: no nsd (Debian: apt-get install nsd)")
     time.sleep(1)
     if server.poll() is not None:
-        sys.exit(f"tools/try_record: nsd ended: {server.stderr.read().decode()[-500:]}")
+        sys.exit(f"{TOOL}: nsd ended: {server.stderr.read().decode()[-500:]}")
     return server, port
