@@ -47,6 +47,8 @@ pub(crate) enum Work {
     Asked,
     /// As many bytes go over a plain socket of std, and come back.
     Plain,
+    /// The keys of a zone are followed over so many sightings.
+    Roll,
 }
 
 /// A kind of work: its name, and how many numbers follow.
@@ -79,6 +81,7 @@ const KINDS: &[Kind] = &[
     Kind { name: b"cut", numbers: 1, work: Work::Cut },
     Kind { name: b"asked", numbers: 1, work: Work::Asked },
     Kind { name: b"plain", numbers: 1, work: Work::Plain },
+    Kind { name: b"roll", numbers: 1, work: Work::Roll },
 ];
 
 /// What the program is asked for: work, and as many of the numbers as it takes; the others are 0.

@@ -1,5 +1,5 @@
 //! `dns_trial`: plays random events on a multiplexer and random calls on caches, each beside a plain one, carries messages over
-//! connections, and does one thing with one of them many times, so that a script can measure what it costs.
+//! connections, and does one thing with one of them or with a roll of keys many times, so that a script can measure what it costs.
 //!
 //! Its contracts say when it ends with which status; that both answer alike is only tested.
 #![tactic(auto)]
@@ -12,6 +12,7 @@ mod cuts;
 mod entries;
 mod events;
 mod few_ids;
+mod follow_load;
 mod form;
 mod measured;
 mod mux_load;

@@ -8,6 +8,7 @@ use crate::cache_load::worked_on;
 use crate::caches_played::Caches;
 use crate::carried::carried;
 use crate::cuts::cut;
+use crate::follow_load::followed;
 use crate::form::{Form, Work, form_of};
 use crate::mux_load::{decoded, load};
 use crate::shared_load::shared_work;
@@ -63,6 +64,7 @@ fn done<T: Threads + Wait + Copy + Send + Sync>(
         ),
         Work::SharedLookups => shared_lookups(*threads, alloc, form.first, form.second),
         Work::Cut => cut(alloc, form.first),
+        Work::Roll => followed(alloc, form.first),
         Work::Asked | Work::Plain => Ok(answered(rt, threads, alloc, form.work, form.first)),
     }
 }
@@ -121,6 +123,9 @@ fn answer<T: Threads + Wait + Copy + Send + Sync, W: Sink>(
 /// messages to so many links. `cut COUNT` cuts the frame of one message of so many bytes, at most 65,535, before each of its bytes in turn and then
 /// into single bytes, and reads it each time. `asked COUNT` sends requests to a server of this machine, and `plain COUNT` carries as many
 /// bytes by plain sockets.
+///
+/// `roll COUNT` follows the keys of a zone over so many sightings, a second apart, of a set of four keys with one signature that a key accepts which
+/// is trusted.
 ///
 /// Each writes `done` and how often it went well. `all SEED COUNT SIZE` plays random events on a multiplexer and on a plain machine, and then
 /// random calls on both caches and on a plain list, and then on a shelf and on a plain list. Of each it writes `alike COUNT`, or `different` with the number of the first event or
