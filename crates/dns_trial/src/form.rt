@@ -49,6 +49,10 @@ pub(crate) enum Work {
     Plain,
     /// The keys of a zone are followed over so many sightings.
     Roll,
+    /// A zone, or what has changed in it since a serial number, is transferred from a server at a port of this machine.
+    Transfer,
+    /// The update with a number is sent to such a server.
+    Update,
 }
 
 /// A kind of work: its name, and how many numbers follow.
@@ -82,6 +86,8 @@ const KINDS: &[Kind] = &[
     Kind { name: b"asked", numbers: 1, work: Work::Asked },
     Kind { name: b"plain", numbers: 1, work: Work::Plain },
     Kind { name: b"roll", numbers: 1, work: Work::Roll },
+    Kind { name: b"transfer", numbers: 2, work: Work::Transfer },
+    Kind { name: b"update", numbers: 2, work: Work::Update },
 ];
 
 /// What the program is asked for: work, and as many of the numbers as it takes; the others are 0.

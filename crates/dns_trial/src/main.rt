@@ -25,6 +25,9 @@ mod shared_lookups;
 mod shelf_played;
 mod sockets;
 mod texts;
+mod transferring;
+mod trial_zone;
+mod updating;
 mod weighing;
 
 use dns_io::{OutputSink, status, words_of};

@@ -16,6 +16,8 @@ use crate::shared_lookups::shared_lookups;
 use crate::shelf_played::Shelved;
 use crate::sockets::answered;
 use crate::texts::push_line;
+use crate::transferring::transferred;
+use crate::updating::updated;
 use crate::{calls, events};
 use dns_io::Sink;
 use dns_io::status::{self, refuse_words, write_text};
@@ -42,12 +44,13 @@ fn push_all(alloc: Global, text: &mut Vec<u8>, seed: u32, count: u32) -> Result<
     push_played(text, different, count)
 }
 
-// Does what is asked for: how often it went well.
+// Does what is asked for, and puts other lines of it behind a text: how often it went well.
 fn done<T: Threads + Wait + Copy + Send + Sync>(
     rt: &HostRuntime,
     threads: &T,
     alloc: Global,
     form: Form,
+    text: &mut Vec<u8>,
 ) -> Result<u64, NoMemory> {
     match form.work {
         Work::All => cut(alloc, form.third),
@@ -65,6 +68,8 @@ fn done<T: Threads + Wait + Copy + Send + Sync>(
         Work::SharedLookups => shared_lookups(*threads, alloc, form.first, form.second),
         Work::Cut => cut(alloc, form.first),
         Work::Roll => followed(alloc, form.first),
+        Work::Transfer => transferred(rt, alloc, form.first, form.second, text),
+        Work::Update => updated(rt, alloc, form.first, form.second, text),
         Work::Asked | Work::Plain => Ok(answered(rt, threads, alloc, form.work, form.first)),
     }
 }
@@ -80,7 +85,7 @@ fn push_lines<T: Threads + Wait + Copy + Send + Sync>(
     if let Work::All = form.work {
         push_all(alloc, text, form.first, form.second)?;
     }
-    let count = done(rt, threads, alloc, form)?;
+    let count = done(rt, threads, alloc, form, text)?;
     push_line(text, b"done ", count)
 }
 
@@ -126,6 +131,11 @@ fn answer<T: Threads + Wait + Copy + Send + Sync, W: Sink>(
 ///
 /// `roll COUNT` follows the keys of a zone over so many sightings, a second apart, of a set of four keys with one signature that a key accepts which
 /// is trusted.
+///
+/// `transfer PORT SERIAL` asks a server at this port of 127.0.0.1 for the zone `trial.example.`, or, where the serial number isn't 0, for what has changed since.
+/// It writes `record` with name, type, class, ttl and rdata of each record, in hexadecimal and decimal; done counts them where the transfer ended well,
+/// and else is 0. `update PORT NUMBER` sends such a server one of ten messages about that zone, and writes `sent` with its bytes, under id 0, and `code` with the
+/// response code.
 ///
 /// Each writes `done` and how often it went well. `all SEED COUNT SIZE` plays random events on a multiplexer and on a plain machine, and then
 /// random calls on both caches and on a plain list, and then on a shelf and on a plain list. Of each it writes `alike COUNT`, or `different` with the number of the first event or
