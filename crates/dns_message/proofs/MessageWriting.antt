@@ -221,7 +221,7 @@ message_same m g =
     }
 
 -- what is written is read
-message_again : (m : MessageValue) → IsMessageAgain m → message_at (written m) ≡ Ok m
+pub message_again : (m : MessageValue) → IsMessageAgain m → message_at (written m) ≡ Ok m
 unfolding message_at written
 message_again m g =
     let head : List ℕ = header_bytes m in
