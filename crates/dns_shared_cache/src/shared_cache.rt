@@ -3,13 +3,17 @@
 ghost use Rattle.std.specs.Prelude.{◌≡◌, IfOk};
 
 use crate::Shelf;
+use crossbeam_utils::Backoff;
 use dns_cache::{Acceptance, AcceptedBy, CacheKey, Entry, ValidationCache};
 use dns_evidence::Verifier;
 use dns_record::NoMemory;
 use lru::DefaultHasher;
 use std::alloc::Global;
 use std::hash::{BuildHasher, BuildHasherDefault};
-use std::sync::{Arc, Mutex, Wait};
+use std::sync::{Arc, Mutex, MutexGuard, Wait};
+
+/// How often a call tries for the lock before it sleeps. A turn is mostly over sooner than the system wakes a thread.
+const TRIES: u32 = 200;
 
 /// A holder of a cache that others may hold too, in this thread or in others (RFC 4035, 4.5). A `Shelf` lies under a lock: a call of a
 /// holder gets the lock, calls the shelf, and lets the lock go. So it may wait for other holders, and keeps the runtime for that.
@@ -106,7 +110,7 @@ impl<V: Verifier + Drop, S: BuildHasher + Drop, T: Wait + Copy> ValidationCache
     ghost told = { λ _. None };
 
     fn get(&mut self, alloc: Global, key: &CacheKey, now: u64) -> Result<Option<Entry>, NoMemory> {
-        let given = self.shelf.lock(&self.rt).get(alloc, key, now)?;
+        let given = locked(&self.shelf, &self.rt).get(alloc, key, now)?;
         match given {
             Some(found) => {
                 self.hits = self.hits.saturating_add(1);
@@ -117,7 +121,7 @@ impl<V: Verifier + Drop, S: BuildHasher + Drop, T: Wait + Copy> ValidationCache
     }
 
     fn insert(&mut self, alloc: Global, entry: Entry) -> Result<(), NoMemory> {
-        self.shelf.lock(&self.rt).insert(alloc, entry)
+        locked(&self.shelf, &self.rt).insert(alloc, entry)
     }
 }
 
@@ -130,10 +134,7 @@ impl<V: Verifier + Drop, S: BuildHasher + Drop, T: Wait + Copy> AcceptedBy<V>
         now: u64,
         verifier: &V,
     ) -> Result<Option<(Entry, Acceptance)>, NoMemory> {
-        let given = self
-            .shelf
-            .lock(&self.rt)
-            .get_for(alloc, key, now, verifier)?;
+        let given = locked(&self.shelf, &self.rt).get_for(alloc, key, now, verifier)?;
         match given {
             Some(found) => {
                 self.hits = self.hits.saturating_add(1);
@@ -142,4 +143,19 @@ impl<V: Verifier + Drop, S: BuildHasher + Drop, T: Wait + Copy> AcceptedBy<V>
             None => Ok(None),
         }
     }
+}
+
+// The shelf, once no other holder has it.
+fn locked<'a, V: Verifier + Drop, S: BuildHasher + Drop, T: Wait>(
+    shelf: &'a Mutex<Shelf<V, S>>,
+    rt: &T,
+) -> MutexGuard<'a, Shelf<V, S>> {
+    let backoff = Backoff::new();
+    for _ in 0..TRIES {
+        if let Some(guard) = shelf.try_lock() {
+            return guard;
+        }
+        backoff.snooze();
+    }
+    shelf.lock(rt)
 }
