@@ -1,0 +1,12 @@
+use Rattle.std.proofs.Common.{◌≡◌, ◌++◌, length}
+use Rattle.std.specs.List.{flat_map}
+use Rattle.dns_model.specs.NameText.{printed}
+use Rattle.dns_presentation.specs.Spelling.{marked_byte}
+use Rattle.dns_presentation.proofs.names.push_name.Given as goal
+
+abbrev pub invariant-bytes : goal.invariant-bytes
+invariant-bytes l = l.into.items ++ flat_map marked_byte l.rest
+    ≡ l.initial.into.items ++ flat_map marked_byte (printed l.name)
+
+abbrev pub decreases-bytes : goal.decreases-bytes
+decreases-bytes l = length l.rest
