@@ -1,0 +1,12 @@
+pub mod Firsts
+pub mod Stack
+pub mod Chains
+pub mod Search
+pub mod PlaceOrder
+pub mod NameKeys
+pub mod Mapped
+pub mod NsecParts
+pub mod StepBounds
+pub mod HashRound
+pub mod HashPlaces
+pub mod HashParts
