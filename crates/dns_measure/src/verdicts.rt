@@ -1,13 +1,18 @@
 //! What a response proves of its question by the NSEC or NSEC3 records in its authority section (RFC 4035, 5.3.4 and 5.4;
-//! RFC 5155, 8).
+//! RFC 5155, 8). An index of the records has to prove what their list does.
+ghost use Rattle.std.specs.Prelude.{◌≡◌, ◌<◌, ◌^◌, length};
 
 use dns_denial::{verify_nsec, verify_nsec3};
+use dns_denial_index::{Nsec3Index, NsecIndex};
+use dns_evidence::Steps;
 use dns_message::{DecodeError, Message};
 use dns_model::{Answered, Proof};
 use dns_rdata::{Nsec3Record, NsecRecord, Rrsig};
-use dns_record::{Name, NoMemory, Query, Record};
+use dns_record::{Name, NoMemory, Query, Record, ResponseCode};
 use dns_session::{ReplyKind, Session, SessionReply};
 use std::alloc::Global;
+use std::marker::Brand;
+use std::sync::ledger::{Blank, Ledger};
 
 // How a record of the answer section answers for a name: a signature with fewer labels shows a wildcard (RFC 4035, 5.3.4).
 fn signed_for(name: &Name, from: &Record) -> Answered {
@@ -68,21 +73,115 @@ fn nsec3s_in(alloc: Global, section: &[Record]) -> Result<Vec<Nsec3Record>, NoMe
 /// The limit of iterations, hard and soft.
 const MOST_ITERATIONS: u16 = 500;
 
+/// More records than a message has.
+const MANY: usize = 1_000_000;
+
+// What is asked of the records: of which question in which zone, and how the message answers it.
+#[derive(Clone, Copy)]
+struct Asked<'a> {
+    zone: &'a Name,
+    question: &'a Query,
+    code: ResponseCode,
+    answered: Answered,
+}
+
+// What an index of NSEC records proves.
+fn indexed_nsec<L: Ledger>(asked: Asked<'_>, index: &NsecIndex, blank: Blank) -> Proof
+    requires name { blank.name ≡ L.name }
+    requires parts { blank.parts ≡ L.parts }
+    requires some { 0 < blank.parts }
+{
+    let mut steps = Steps::<L>::new(blank);
+    index.verify(
+        asked.question,
+        asked.zone,
+        asked.code,
+        asked.answered,
+        &mut steps,
+    )
+}
+
+// What NSEC records prove; `None` where their list and an index of them don't agree.
+fn proof_by_nsec(asked: Asked<'_>, nsecs: Vec<NsecRecord>) -> Result<Option<Proof>, NoMemory>
+    requires { length nsecs.items < 2 ^ 32 }
+{
+    let listed = verify_nsec(
+        asked.question,
+        asked.zone,
+        asked.code,
+        asked.answered,
+        &nsecs,
+    );
+    let index = NsecIndex::new(nsecs)?;
+    if indexed_nsec::<Brand>(asked, &index, Blank::new(1)) == listed {
+        Ok(Some(listed))
+    } else {
+        Ok(None)
+    }
+}
+
+// What an index of NSEC3 records proves.
+fn indexed_nsec3<L: Ledger>(asked: Asked<'_>, index: &Nsec3Index, blank: Blank) -> Proof
+    requires name { blank.name ≡ L.name }
+    requires parts { blank.parts ≡ L.parts }
+    requires some { 0 < blank.parts }
+{
+    let mut steps = Steps::<L>::new(blank);
+    let most = MOST_ITERATIONS;
+    index.verify(
+        asked.question,
+        asked.zone,
+        asked.code,
+        asked.answered,
+        most,
+        most,
+        &mut steps,
+    )
+}
+
+// What NSEC3 records prove; `None` where their list and an index of them don't agree.
+fn proof_by_nsec3(asked: Asked<'_>, nsec3s: Vec<Nsec3Record>) -> Result<Option<Proof>, NoMemory>
+    requires { length nsec3s.items < 2 ^ 32 }
+{
+    let most = MOST_ITERATIONS;
+    let listed = verify_nsec3(
+        asked.question,
+        asked.zone,
+        asked.code,
+        asked.answered,
+        &nsec3s,
+        most,
+        most,
+    );
+    let index = Nsec3Index::new(nsec3s)?;
+    if indexed_nsec3::<Brand>(asked, &index, Blank::new(1)) == listed {
+        Ok(Some(listed))
+    } else {
+        Ok(None)
+    }
+}
+
 // What records prove: those of NSEC3, if there are any, else those of NSEC.
 fn proof_by_records(
     zone: &Name,
     question: &Query,
     message: &Message,
-    nsecs: &[NsecRecord],
-    nsec3s: &[Nsec3Record],
-) -> Proof {
-    let code = message.response_code;
-    let answered = answered_by_first(&question.name, &message.answers);
+    nsecs: Vec<NsecRecord>,
+    nsec3s: Vec<Nsec3Record>,
+) -> Result<Option<Proof>, NoMemory> {
+    let asked = Asked {
+        zone,
+        question,
+        code: message.response_code,
+        answered: answered_by_first(&question.name, &message.answers),
+    };
+    if MANY < nsecs.len() || MANY < nsec3s.len() {
+        return Ok(None);
+    }
     if nsec3s.is_empty() {
-        verify_nsec(question, zone, code, answered, nsecs)
+        proof_by_nsec(asked, nsecs)
     } else {
-        let most = MOST_ITERATIONS;
-        verify_nsec3(question, zone, code, answered, nsec3s, most, most)
+        proof_by_nsec3(asked, nsec3s)
     }
 }
 
@@ -92,32 +191,37 @@ fn message_proof(
     zone: &Name,
     question: &Query,
     message: &Result<Message, DecodeError>,
-) -> Result<Proof, NoMemory> {
+) -> Result<Option<Proof>, NoMemory> {
     match message {
         Ok(message) => {
             let nsecs = nsecs_in(alloc, &message.authorities)?;
             let nsec3s = nsec3s_in(alloc, &message.authorities)?;
-            Ok(proof_by_records(zone, question, message, &nsecs, &nsec3s))
+            proof_by_records(zone, question, message, nsecs, nsec3s)
         }
-        Err(_) => Ok(Proof::Bogus),
+        Err(_) => Ok(Some(Proof::Bogus)),
     }
 }
 
 // What a reply proves of its question in a zone: by its message, whatever becomes of it; a fault proves nothing.
-fn reply_proof(alloc: Global, zone: &Name, reply: &SessionReply) -> Result<Proof, NoMemory> {
+fn reply_proof(
+    alloc: Global,
+    zone: &Name,
+    reply: &SessionReply,
+) -> Result<Option<Proof>, NoMemory> {
     match &reply.kind {
         ReplyKind::Message(message) => message_proof(alloc, zone, &reply.query, message),
         ReplyKind::Empty(message) => message_proof(alloc, zone, &reply.query, message),
-        ReplyKind::Fault(_) => Ok(Proof::Bogus),
+        ReplyKind::Fault(_) => Ok(Some(Proof::Bogus)),
     }
 }
 
-// The line of a verdict.
-fn proof_line(proof: Proof) -> &'static [u8] {
+// The line of a verdict, or of two that differ.
+fn proof_line(proof: Option<Proof>) -> &'static [u8] {
     match proof {
-        Proof::Secure => b"Secure\n",
-        Proof::Insecure => b"Insecure\n",
-        _ => b"Bogus\n",
+        Some(Proof::Secure) => b"Secure\n",
+        Some(Proof::Insecure) => b"Insecure\n",
+        Some(_) => b"Bogus\n",
+        None => b"Differs\n",
     }
 }
 
