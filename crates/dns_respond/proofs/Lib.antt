@@ -1,0 +1,2 @@
+pub mod AuthenticLemmas
+pub mod RespondLemmas
