@@ -5,7 +5,7 @@ use Rattle.dns_session.specs.Grammar.{session_of}
 use Rattle.dns_session.specs.Stops.{session_status}
 use Rattle.dns_measure.specs.Forms.{EndsWork}
 use Rattle.dns_measure.specs.declared.form.Work.{Work}
-use Rattle.dns_measure.specs.declared.form.Work.TheVariants.{Decode, OnSession, Signatures}
+use Rattle.dns_measure.specs.declared.form.Work.TheVariants.{Decode, OnSession, Signatures, Replies, Responses}
 
 small : (told : Result SessionValue ℕ) → session_status told < 4
 small (Ok session) = omega arith
@@ -22,4 +22,8 @@ work_done Decode bytes status (inl is) = omega (arith, is)
 work_done Decode bytes status (inr is) = omega (arith, is)
 work_done Signatures bytes status (inl is) = omega (arith, is)
 work_done Signatures bytes status (inr is) = omega (arith, is)
+work_done Replies bytes status (inl is) = omega (arith, is)
+work_done Replies bytes status (inr is) = omega (arith, is)
+work_done Responses bytes status (inl is) = omega (arith, is)
+work_done Responses bytes status (inr is) = omega (arith, is)
 work_done (OnSession on) bytes status is = session_done bytes status is

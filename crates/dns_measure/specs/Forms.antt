@@ -11,7 +11,7 @@ use Rattle.dns_session.specs.Stops.{session_status}
 use Rattle.dns_measure.specs.declared.form.Form.{Form}
 use Rattle.dns_measure.specs.declared.form.Form.TheVariants.{Reading, Signed}
 use Rattle.dns_measure.specs.declared.form.Work.{Work}
-use Rattle.dns_measure.specs.declared.form.Work.TheVariants.{Decode, OnSession, Signatures}
+use Rattle.dns_measure.specs.declared.form.Work.TheVariants.{Decode, OnSession, Signatures, Replies, Responses}
 use Rattle.dns_measure.specs.declared.form.SessionWork.TheVariants.{LookUp, LookUpAnew, Verdicts}
 
 -- how often is a number of 32 bits
@@ -24,12 +24,14 @@ reading_form work passes = option_map (λ n. Reading work n) passes
 abbrev pub signed_form : Option ℕ → Option ℕ → Option Form
 signed_form records passes = option_and_then (λ r. option_map (λ n. Signed r n) passes) records
 
--- what words ask for: `verdicts`, `signatures`, `decode PASSES`, `lookup PASSES`, `anew PASSES`, or `signed RECORDS PASSES`
--- with at most 65535 records
+-- what words ask for: `verdicts`, `signatures`, `forwarded`, `responded`, `decode PASSES`, `lookup PASSES`, `anew PASSES`, or
+-- `signed RECORDS PASSES` with at most 65535 records
 abbrev pub form_in : List (List ℕ) → Option Form
 form_in (name ∷ []) =
     if bytes_eq name (codes "verdicts") then Some (Reading (OnSession Verdicts) 1)
     else if bytes_eq name (codes "signatures") then Some (Reading Signatures 1)
+    else if bytes_eq name (codes "forwarded") then Some (Reading Replies 1)
+    else if bytes_eq name (codes "responded") then Some (Reading Responses 1)
     else None
 form_in (name ∷ passes ∷ []) =
     if bytes_eq name (codes "decode") then reading_form Decode (passes_in passes)
@@ -50,10 +52,13 @@ form_asks None = FixedText
 form_asks (Some (Signed records passes)) = NoInput
 form_asks (Some (Reading work passes)) = AnInput
 
--- the status of work on bytes: 3 where they are no frames, no session or no lines of signatures
+-- the status of work on bytes: 3 where they are no frames, no session, or no lines of signatures or of requests, or no
+-- request with a session behind it
 abbrev pub EndsWork : Work → List ℕ → ℕ → Type 0
 EndsWork Decode bytes status = (status ≡ 0) ⊎ (status ≡ 3)
 EndsWork Signatures bytes status = (status ≡ 0) ⊎ (status ≡ 3)
+EndsWork Replies bytes status = (status ≡ 0) ⊎ (status ≡ 3)
+EndsWork Responses bytes status = (status ≡ 0) ⊎ (status ≡ 3)
 EndsWork (OnSession work) bytes status = status ≡ session_status (session_of bytes)
 
 -- a status below 4, by what the words ask for; where a source tells no bytes, by some bytes

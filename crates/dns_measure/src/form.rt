@@ -25,6 +25,10 @@ pub enum Work {
     OnSession(SessionWork),
     /// Each of its lines is a signature, which is verified. Once alone.
     Signatures,
+    /// Each of its lines is a request with what its lookup came to, which is replied to. Once alone.
+    Replies,
+    /// It is a request and a session, over which that is answered. Once alone.
+    Responses,
 }
 
 /// What the program is asked for.
@@ -72,6 +76,12 @@ pub(crate) fn form_of(words: &[Vec<u8>]) -> Option<Form>
             }
             if name.as_slice() == b"signatures".as_slice() {
                 return Some(Form::Reading(Work::Signatures, 1));
+            }
+            if name.as_slice() == b"forwarded".as_slice() {
+                return Some(Form::Reading(Work::Replies, 1));
+            }
+            if name.as_slice() == b"responded".as_slice() {
+                return Some(Form::Reading(Work::Responses, 1));
             }
             None
         }

@@ -1,6 +1,6 @@
-//! `dns_measure`: does one thing many times, so that a script can measure what it costs; and tells two things for tools: what the NSEC or
-//! NSEC3 records in each reply of a session prove of its question, in the zone that the session's query names; and which signatures of
-//! some lines the verifier that computes accepts.
+//! `dns_measure`: does one thing many times, so that a script can measure what it costs; and tells three things for tools: what the NSEC or
+//! NSEC3 records in each reply of a session prove of its question, in the zone that the session's query names; which signatures of
+//! some lines the verifier that computes accepts; and which replies a forwarder gives, to the requests of some lines or over a session.
 #![tactic(auto)]
 
 mod counts;
@@ -8,6 +8,8 @@ mod form;
 mod frames;
 mod lookups;
 mod program;
+mod replies;
+mod responses;
 mod signatures;
 mod signing;
 mod texts;

@@ -5,12 +5,14 @@ ghost use Rattle.dns_io.specs.Runs.{outside, AnInput, KeepsOutside, KeepsSink};
 ghost use Rattle.dns_session.specs.Grammar.{session_of};
 ghost use Rattle.dns_session.specs.Stops.{session_status};
 ghost use Rattle.dns_measure.specs.Forms.{asked_form, form_asks, EndsAsAsked, EndsWork};
-ghost use Rattle.dns_measure.specs.declared.form.Work.TheVariants.{Decode, Signatures};
+ghost use Rattle.dns_measure.specs.declared.form.Work.TheVariants.{Decode, Replies, Responses, Signatures};
 
 use crate::counts::count_passes;
 use crate::form::{Form, SessionWork, Work, form_of};
 use crate::frames::cut_off;
 use crate::lookups::count_lookups;
+use crate::replies::push_replies;
+use crate::responses::push_response;
 use crate::signatures::push_accepted;
 use crate::signing::signed_count;
 use crate::texts::{push_counts, push_line, push_lookups};
@@ -101,6 +103,36 @@ fn verify(alloc: Global, bytes: &[u8], text: &mut Vec<u8>) -> Result<u8, NoMemor
     }
 }
 
+// Replies to the request on each line of the bytes, and puts a line for each behind a text; behind them which line is bad.
+fn reply(alloc: Global, bytes: &[u8], text: &mut Vec<u8>) -> Result<u8, NoMemory>
+    requires { length bytes.now ≤ input_limit }
+    ensures { IfOk result (λ status. EndsWork Replies bytes.now status) }
+{
+    match push_replies(alloc, bytes, text) {
+        Ok(()) => Ok(status::DONE),
+        Err(SessionStop::BadLine(number)) => {
+            push_line(text, b"bad line ", number)?;
+            Ok(status::BAD_INPUT)
+        }
+        Err(SessionStop::NoMemory) => Err(NoMemory),
+    }
+}
+
+// Answers the request on the first line of the bytes over the session behind it, and puts the reply behind a text, or which line is bad.
+fn respond(alloc: Global, bytes: &[u8], text: &mut Vec<u8>) -> Result<u8, NoMemory>
+    requires { length bytes.now ≤ input_limit }
+    ensures { IfOk result (λ status. EndsWork Responses bytes.now status) }
+{
+    match push_response(alloc, bytes, text) {
+        Ok(()) => Ok(status::DONE),
+        Err(SessionStop::BadLine(number)) => {
+            push_line(text, b"bad line ", number)?;
+            Ok(status::BAD_INPUT)
+        }
+        Err(SessionStop::NoMemory) => Err(NoMemory),
+    }
+}
+
 // Works on the bytes so many times.
 fn measure(
     alloc: Global,
@@ -116,6 +148,8 @@ fn measure(
         Work::Decode => decode(alloc, passes, bytes, text),
         Work::OnSession(work) => work_on(alloc, work, passes, bytes, text),
         Work::Signatures => verify(alloc, bytes, text),
+        Work::Replies => reply(alloc, bytes, text),
+        Work::Responses => respond(alloc, bytes, text),
     }
 }
 
@@ -184,7 +218,8 @@ fn write_signed<W: Sink>(alloc: Global, records: u16, passes: u32, output: &mut 
 
 /// Runs the program with its words, those after its name, and answers its status.
 ///
-/// `verdicts` writes a line for each reply, and `signatures` one for each line that it reads. The others count.
+/// `verdicts` writes a line for each reply, `signatures` and `forwarded` one for each line that they read, and `responded` one. The
+/// others count.
 ///
 /// 0: the counts or the text are written. 2: the words aren't a form, and nothing was read. 3: the input isn't one for the words' work; its
 /// first frame that is cut off is named, or its first bad line. 4: a read failed, and nothing is written. 5: a write failed
