@@ -35,7 +35,8 @@ fn rows() -> &'static [Row] {
     ROWS
 }
 
-fn large_set(rt: &impl Abort, alloc: Global) -> RecordSet {
+/// The set of 70,000 addresses.
+pub(crate) fn large_set(rt: &impl Abort, alloc: Global) -> RecordSet {
     let mut set = set(rt, alloc, &ADDRESS);
     let address = first(rt, alloc, &ADDRESS);
     for _record in 1u32..70_000 {
@@ -91,7 +92,7 @@ fn a_zone_is_changed_by_70_000_records(rt: HostRuntime) {
 }
 
 /// A name of 255 bytes, as long as one may be.
-const LONGEST: &str =
+pub(crate) const LONGEST: &str =
     "aaaaaaaaaaaaaaaaaaaaaaaaaaaaaaaaaaaaaaaaaaaaaaaaaaaaaaaaaaaaaaa.aaaaaaaaaaaaaaaaaaaaaaaaaaaaaaaaaaaaaaaaaaaaaaaaaaaaaaaaaaaaaaa.aaaaaaaaaaaaaaaaaaaaaaaaaaaaaaaaaaaaaaaaaaaaaaaaaaaaaaaaaaaaaaa.aaaaaaaaaaaaaaaaaaaaaaaaaaaaaaaaaaaaaaaaaaaaaaaaaaaaaaaaaaaaa.";
 
 /// Whether all of a zone with the longest name can be deleted, a set of it and all sets, and asked for.

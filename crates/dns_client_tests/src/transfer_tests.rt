@@ -55,6 +55,16 @@ const WHOLE: &[Part] = &[Part::Soa(3), Part::Address, Part::Address];
 
 const REST: &[Part] = &[Part::Address, Part::Address, Part::Soa(3)];
 
+/// The changes of a zone from serial number 1 to 3.
+const CHANGES: &[Part] = &[
+    Part::Soa(3),
+    Part::Soa(1),
+    Part::Address,
+    Part::Soa(3),
+    Part::Address,
+    Part::Soa(3),
+];
+
 #[rattlefmt::skip]
 const ROWS: &[(&str, Row)] = &[
     ("a zone in two messages", Row { incremental: false,
@@ -84,6 +94,9 @@ const ROWS: &[(&str, Row)] = &[
     ("no changes", Row { incremental: true,
         inner: &[Inner::Message(&[Part::Soa(3)])],
         came: &[Came::Answers(1), Came::End, Came::End], is_ended: false }),
+    ("changes in one message", Row { incremental: true,
+        inner: &[Inner::Message(CHANGES), Inner::Message(REST)],
+        came: &[Came::Answers(6), Came::End], is_ended: true }),
     ("changes that are cut off where they are added", Row { incremental: true,
         inner: &[Inner::Message(&[Part::Soa(3), Part::Soa(1), Part::Address, Part::Soa(3)])],
         came: &[Came::Answers(4), Came::End], is_ended: false }),
@@ -136,6 +149,12 @@ fn came(poll: &Poll<Option<Result<DnsResponse, NetError>>>) -> Came {
     }
 }
 
+/// What a poll of a transfer gives.
+pub(crate) fn polled(transfer: &mut ClientStreamXfr<DnsResponseStream>, task: &MockTask) -> Came {
+    let poll = task.enter(|cx| poll_transfer(transfer, cx));
+    came(&poll)
+}
+
 /// Whether polls of a transfer give these.
 fn gives(
     transfer: &mut ClientStreamXfr<DnsResponseStream>,
@@ -143,8 +162,7 @@ fn gives(
     task: &MockTask,
 ) -> bool {
     for next in wanted {
-        let poll = task.enter(|cx| poll_transfer(transfer, cx));
-        if came(&poll) != *next {
+        if polled(transfer, task) != *next {
             return false;
         }
     }
@@ -188,23 +206,13 @@ fn a_transfer_waits_and_gives_its_stream_back(rt: HostRuntime) {
     check(&rt, "waits", waits_and_gives_back(&rt, rt.alloc(), &task));
 }
 
-/// The changes of a zone from serial number 1 to 3.
-const CHANGES: [Part; 6] = [
-    Part::Soa(3),
-    Part::Soa(1),
-    Part::Address,
-    Part::Soa(3),
-    Part::Address,
-    Part::Soa(3),
-];
-
 /// Whether changes that are cut into messages as the bits say are ended by the last record alone, with an empty message at each
 /// cut where that is asked for.
 fn is_ended_by_the_last(rt: &impl Abort, alloc: Global, cuts: u32, with_empty: bool) -> bool {
     let mut transfer = TransferState::new(true);
     let mut records = Vec::new(alloc);
     let mut bits = cuts | 32;
-    for part in CHANGES.iter() {
+    for part in CHANGES {
         if transfer.is_ended() {
             return false;
         }
@@ -225,12 +233,63 @@ fn is_ended_by_the_last(rt: &impl Abort, alloc: Global, cuts: u32, with_empty: b
     transfer.is_ended()
 }
 
+/// Changes that are cut into responses as the bits say, with an empty one at each cut where that is asked for.
+fn cut_stream(rt: &impl Abort, alloc: Global, cuts: u32, with_empty: bool) -> DnsResponseStream {
+    let mut items = Vec::new(alloc);
+    let mut parts = Vec::new(alloc);
+    let mut bits = cuts | 32;
+    for part in CHANGES {
+        parts.push(*part).expect(rt, "memory");
+        if bits % 2 == 1 {
+            let response = response_of(rt, alloc, &parts);
+            items.push(Ok(response)).expect(rt, "memory");
+            parts.clear();
+            if with_empty {
+                let empty = response_of(rt, alloc, &[]);
+                items.push(Ok(empty)).expect(rt, "memory");
+            }
+        }
+        bits /= 2;
+    }
+    DnsResponseStream::from_items(items)
+}
+
+/// How many answers a transfer gives up to its end, if it has one and all has come.
+fn answers_of(transfer: &mut ClientStreamXfr<DnsResponseStream>, task: &MockTask) -> Option<usize> {
+    let mut count: usize = 0;
+    for _response in 0u32..20 {
+        match polled(transfer, task) {
+            Came::Answers(more) => count = count.saturating_add(more),
+            Came::End => {
+                return if transfer.is_ended() {
+                    Some(count)
+                } else {
+                    None
+                };
+            }
+            _ => return None,
+        }
+    }
+    None
+}
+
+/// Whether a transfer gives all records of changes that are cut as the bits say.
+fn gives_all(rt: &impl Abort, alloc: Global, cuts: u32, with_empty: bool, task: &MockTask) -> bool {
+    let stream = cut_stream(rt, alloc, cuts, with_empty);
+    let mut transfer = ClientStreamXfr::new(stream, true);
+    answers_of(&mut transfer, task) == Some(CHANGES.len())
+}
+
 #[test]
 fn changes_may_be_cut_anywhere(rt: HostRuntime) {
+    let task = MockTask::new(&rt).ok().expect(&rt, "a task");
     for cuts in 0u32..32 {
-        let whole = is_ended_by_the_last(&rt, rt.alloc(), cuts, false);
-        let with_empty = is_ended_by_the_last(&rt, rt.alloc(), cuts, true);
-        check(&rt, "a cut", whole && with_empty);
+        for with_empty in [false, true] {
+            let ended = is_ended_by_the_last(&rt, rt.alloc(), cuts, with_empty);
+            check(&rt, "ended by the last record", ended);
+            let given = gives_all(&rt, rt.alloc(), cuts, with_empty, &task);
+            check(&rt, "all records", given);
+        }
     }
 }
 
