@@ -14,10 +14,23 @@ module _ {E : Type 0} where
   apart_turned one other apart = λ place here there. apart place there here
 
 module _ {S : Type 0} where
-  agrees_on : (one mid other : Option S) → Agrees one mid → Agrees mid other → Agrees one other
+  pub agrees_on : (one mid other : Option S) → Agrees one mid → Agrees mid other → Agrees one other
   agrees_on None mid other is next = tt
   agrees_on (Some about) None other is next = cc
   agrees_on (Some about) (Some known) other is next = next ∙ is
+
+  agrees_to : (one mid other : Option S) → Agrees one mid → mid ≡ other → Agrees one other
+  agrees_to None mid other is same = tt
+  agrees_to (Some about) mid other is same = sym same ∙ is
+
+  agrees_itself : (one : Option S) → Agrees one one
+  agrees_itself None = tt
+  agrees_itself (Some about) = refl
+
+  -- what two passes know agrees
+  agrees_too : (one other known : Option S) → Agrees one known → Agrees other known → Agrees other (either one other)
+  agrees_too None other known first second = agrees_itself other
+  agrees_too (Some about) other known first second = subst (λ (a : Option S). Agrees other a) first second
 
   agrees_either : (one other known : Option S) → Agrees one known → Agrees other known → Agrees (either one other) known
   agrees_either None other known first second = second
@@ -116,7 +129,7 @@ module _ {S E : Type 0} where
 
   first-fits : Fits {S = S} {E = E} None [] founder
   unfolding Stands Rises
-  first-fits = record { about_is = tt; seen = refl; told = refl; heard = refl; stands = tt; rises = tt }
+  first-fits = record { about_is = tt; seen = refl; told = refl; heard = refl; agreed = tt; stands = tt; rises = tt }
 
   pub founds : Kept no_value (founder ∷ [])
   founds = record {
@@ -158,6 +171,8 @@ module _ {S E : Type 0} where
         seen = rw (sym journal_is) (begins_itself journal);
         told = begins_on x.journal v.journal v.told begun fits.told;
         heard = begins_on x.journal v.journal v.heard begun fits.heard;
+        agreed = agrees_on v.heard_about v.about (Some x.about) fits.agreed
+            (agrees_to v.about about (Some x.about) fits.about_is about_is);
         stands = stands_on x.journal v.journal v.own begun fits.stands;
         rises = fits.rises;
       }
@@ -194,7 +209,7 @@ module _ {S E : Type 0} where
         },
         (
           subst (λ (j : List E). Begins j v.journal) journal_is fits.seen,
-          agreed v.about kept.about (Some x.about) fits.about_is about_is,
+          agrees_to v.about kept.about (Some x.about) fits.about_is about_is,
           refl,
         ),
       )
@@ -204,10 +219,6 @@ module _ {S E : Type 0} where
       set_at [] pass v w at = absurd (some-ne-none v (sym at))
       set_at (u ∷ views) zero v w at = refl
       set_at (u ∷ views) (suc pass) v w at = set_at views pass v w at
-
-      agreed : (one mid other : Option S) → Agrees one mid → mid ≡ other → Agrees one other
-      agreed None mid other is same = tt
-      agreed (Some about) mid other is same = sym same ∙ is
 
   pub takes : (pass : ℕ) (v : Known S E) → Pops Kept pass v (Takes v)
   takes pass v x items views kept at =
@@ -230,13 +241,14 @@ module _ {S E : Type 0} where
     seen = begins_on x.journal v.journal u.journal begun (subst (λ (j : List E). Begins j u.journal) journal_is fits.seen);
     told = fits.told;
     heard = fits.heard;
+    agreed = fits.agreed;
     stands = fits.stands;
     rises = fits.rises;
   }
 
   given-fits : (v : Known S E) (x : Held S E) (about : Option S) (journal : List E) → Begins x.journal v.journal
-      → Fits about journal v → Fits (Some x.about) x.journal (given v x)
-  given-fits v x about journal begun fits =
+      → Agrees v.about (Some x.about) → Fits about journal v → Fits (Some x.about) x.journal (given v x)
+  given-fits v x about journal begun agrees fits =
       let before = length v.journal in
       let new : List (ℕ × E) = placed_from before (drop before x.journal) in
       let stand : Stands x.journal new = subst (λ (j : List E). Stands j new) (sym (rest_of x.journal v.journal begun))
@@ -246,6 +258,7 @@ module _ {S E : Type 0} where
         seen = begins_itself x.journal;
         told = begins_on x.journal v.journal v.told begun fits.told;
         heard = begins_on x.journal v.journal v.heard begun fits.heard;
+        agreed = agrees_on v.heard_about v.about (Some x.about) fits.agreed agrees;
         stands = stands_both x.journal v.own new (stands_on x.journal v.journal v.own begun fits.stands) stand;
         rises = rises_both 0 before v.own new (omega arith) fits.rises
             (λ place has. place_below v.journal v.own place fits.stands has)
@@ -286,7 +299,7 @@ module _ {S E : Type 0} where
                 (λ seat u differ there. is_idle u (λ marked. differ (turn.only seat u there marked)));
           });
           each = all_set (λ seat u. Fits (Some x.about) x.journal u) views pass w
-              (given-fits v x kept.about kept.journal begun (kept.each pass v at))
+              (given-fits v x kept.about kept.journal begun agrees (kept.each pass v at))
               (λ seat u differ there. fits-still v u x kept.about kept.journal turn.about_is turn.journal_is begun agrees
               (kept.each seat u there));
           apart = apart_set views pass w kept.apart
@@ -300,8 +313,15 @@ module _ {S E : Type 0} where
 
   newcomer-fits : (about : Option S) (journal : List E) (v : Known S E) → Fits about journal v → Fits about journal (newcomer v)
   unfolding Stands Rises
-  newcomer-fits about journal v fits = record
-      { about_is = fits.about_is; seen = fits.seen; told = fits.told; heard = fits.heard; stands = tt; rises = tt }
+  newcomer-fits about journal v fits = record {
+    about_is = fits.about_is;
+    seen = fits.seen;
+    told = fits.told;
+    heard = fits.heard;
+    agreed = fits.agreed;
+    stands = tt;
+    rises = tt;
+  }
 
   all_more : (F : Known S E → Type 0) (views : List (Known S E)) (new : Known S E)
       → ((seat : ℕ) (v : Known S E) → get_elem? views seat ≡ some v → F v) → F new
@@ -375,6 +395,7 @@ module _ {S E : Type 0} where
         seen = longer_begins journal v.journal w.journal one.seen two.seen;
         told = first;
         heard = second;
+        agreed = agrees_too v.about w.about about one.about_is two.about_is;
         stands = merged_stands all v.own w.own (stands_on all v.journal v.own first one.stands)
             (stands_on all w.journal w.own second two.stands);
         rises = merged_rises 0 v.own w.own one.rises two.rises apart;
@@ -382,7 +403,15 @@ module _ {S E : Type 0} where
 
   spent-fits : (about : Option S) (journal : List E) → Fits {S = S} {E = E} about journal spent
   unfolding Stands Rises
-  spent-fits about journal = record { about_is = tt; seen = begins_none journal; told = refl; heard = refl; stands = tt; rises = tt }
+  spent-fits about journal = record {
+    about_is = tt;
+    seen = begins_none journal;
+    told = refl;
+    heard = refl;
+    agreed = tt;
+    stands = tt;
+    rises = tt;
+  }
 
   module _ (items : List (Held S E)) (views : List (Known S E)) (pass other : ℕ) (v w : Known S E) (kept : Kept items views)
       (at : get_elem? views pass ≡ some v) (differ : other ≢ pass) (there : get_elem? views other ≡ some w)
@@ -493,4 +522,10 @@ module _ {S E : Type 0} where
   pub learns : (pass : ℕ) (v : Known S E) → Learns Kept pass v (λ items. IsSound v)
   learns pass v items views kept at =
       let fits = kept.each pass v at in
-      record { told = fits.told; heard = fits.heard; stands = fits.stands; rises = fits.rises }
+      record {
+        told = fits.told;
+        heard = fits.heard;
+        agreed = fits.agreed;
+        stands = fits.stands;
+        rises = fits.rises;
+      }

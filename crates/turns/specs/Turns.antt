@@ -12,7 +12,8 @@ pub record Held (S E : Type 0) : Type 0 where
   pub journal : List E
 
 -- a pass: what the value was founded with, where that is known; whether the value is out with this pass; the journal as it was
--- seen; its own events, each with its place in the journal; and the two journals that a join put together last
+-- seen; its own events, each with its place in the journal; and of the last join the two journals that it put together, and what
+-- the second pass knew of the founding
 pub record Known (S E : Type 0) : Type 0 where
   pub about : Option S
   pub is_out : Bool
@@ -20,6 +21,7 @@ pub record Known (S E : Type 0) : Type 0 where
   pub own : List (ℕ × E)
   pub told : List E
   pub heard : List E
+  pub heard_about : Option S
 
 module _ {E : Type 0} where
   -- the list begins with another
@@ -78,7 +80,8 @@ module _ {S E : Type 0} where
 
   -- the first pass, with which the value is until it gives it away
   abbrev pub founder : Known S E
-  founder = record { about = None; is_out = true; journal = []; own = []; told = []; heard = [] }
+  founder = record
+      { about = None; is_out = true; journal = []; own = []; told = []; heard = []; heard_about = None }
 
   -- the value is taken: all of its journal is seen
   abbrev pub taken : Known S E → Held S E → Known S E
@@ -106,11 +109,13 @@ module _ {S E : Type 0} where
     own = merged v.own w.own;
     told = v.journal;
     heard = w.journal;
+    heard_about = w.about;
   }
 
   -- what is left of the other
   abbrev pub spent : Known S E
-  spent = record { about = None; is_out = false; journal = []; own = []; told = []; heard = [] }
+  spent = record
+      { about = None; is_out = false; journal = []; own = []; told = []; heard = []; heard_about = None }
 
   -- ---- the rule
 
@@ -120,6 +125,7 @@ module _ {S E : Type 0} where
     pub seen : Begins journal v.journal
     pub told : Begins v.journal v.told
     pub heard : Begins v.journal v.heard
+    pub agreed : Agrees v.heard_about v.about
     pub stands : Stands v.journal v.own
     pub rises : Rises 0 v.own
 
@@ -161,5 +167,6 @@ module _ {S E : Type 0} where
   pub record IsSound (v : Known S E) : Type 0 where
     pub told : Begins v.journal v.told
     pub heard : Begins v.journal v.heard
+    pub agreed : Agrees v.heard_about v.about
     pub stands : Stands v.journal v.own
     pub rises : Rises 0 v.own
