@@ -1,6 +1,9 @@
 -- What a call leaves in a journal, and what a refused one leaves.
 use Rattle.std.specs.Prelude.{ℕ, ◌≡◌, ◌≤◌, Bool, true, false, List, [], ◌∷◌, ◌++◌, reverse, slice_get, Option, None, Some, Result, Ok, Err}
 use Rattle.turns.specs.Turns.{Held}
+use Rattle.dns_handle.specs.declared.error.NetError.{NetError}
+use Rattle.dns_handle.specs.declared.error.NetError.TheVariants as net
+use Rattle.dns_handle.specs.declared.notice.Notice.TheVariants as notices
 use Rattle.dns_handle.specs.Errors.{ErrorValue}
 use Rattle.dns_handle.specs.Replies.{error_of}
 use Rattle.dns_multiplexer.specs.Messages.{SerialMessageValue}
@@ -75,6 +78,12 @@ IsSendRefused draws old request moment new failed.NoMemory = IsUnsent draws (sen
 abbrev pub refused_by : Refusal → ExchangeError
 refused_by HistoryFull = failed.HistoryFull
 refused_by NoMemory = failed.NoMemory
+
+-- the same as an error of a request
+abbrev pub refused_as : ExchangeError → NetError
+refused_as failed.HistoryFull = net.Message notices.HistoryFull
+refused_as (failed.Net error) = error
+refused_as failed.NoMemory = net.NoMemory
 
 -- the generator whose ids are kept
 abbrev pub draws_of : {R : Type 0} → RecordedDraws R → R

@@ -1,10 +1,10 @@
 //! Why a call of a shared exchange is refused.
 ghost use Rattle.std.specs.Prelude.{◌≡◌};
 ghost use Rattle.dns_journal.specs.declared.exchange_error.ExchangeError.TheVariants.{NoMemory};
-ghost use Rattle.dns_journal.specs.Calls.{refused_by};
+ghost use Rattle.dns_journal.specs.Calls.{refused_as, refused_by};
 
 use crate::Refusal;
-use dns_handle::NetError;
+use dns_handle::{NetError, Notice};
 use dns_record::NoMemory;
 use std::fmt;
 use thiserror::Error;
@@ -45,6 +45,19 @@ impl From<Refusal> for ExchangeError {
         match refusal {
             Refusal::HistoryFull => ExchangeError::HistoryFull,
             Refusal::NoMemory => ExchangeError::NoMemory,
+        }
+    }
+}
+
+/// The same as an error of a request.
+impl From<ExchangeError> for NetError {
+    ghost from_gives = { λ refusal error. error ≡ refused_as refusal };
+
+    fn from(refusal: ExchangeError) -> Self {
+        match refusal {
+            ExchangeError::HistoryFull => NetError::Message(Notice::HistoryFull),
+            ExchangeError::Net(error) => error,
+            ExchangeError::NoMemory => NetError::NoMemory,
         }
     }
 }
