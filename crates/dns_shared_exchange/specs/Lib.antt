@@ -1,0 +1,2 @@
+-- What contracts of this crate name.
+pub mod Tokens
