@@ -29,7 +29,7 @@ use Rattle.std.specs.Option.{option_map, option_map_or}
 same_pair : {A : Type 0} (a b : A × ℕ) → (let r : Result (A × ℕ) DecodeError = Ok a in r) ≡ Ok b → a ≡ b
 same_pair a b h = cc
 
-question_good : (bytes : List ℕ) (pos : ℕ) (x : Question × ℕ) → question_at bytes pos ≡ Ok x → is_name x.0.owner ≡ true
+pub question_good : (bytes : List ℕ) (pos : ℕ) (x : Question × ℕ) → question_at bytes pos ≡ Ok x → is_name x.0.owner ≡ true
 unfolding question_at
 question_good bytes pos x h =
     let a = bind_ok (name_at bytes pos) _ x h in
@@ -41,7 +41,7 @@ question_good bytes pos x h =
 abbrev pub HasName : Question → Type 0
 HasName q = is_name q.owner ≡ true
 
-questions_good : (count : ℕ) (bytes : List ℕ) (pos : ℕ) (x : List Question × ℕ) → questions_at count bytes pos ≡ Ok x
+pub questions_good : (count : ℕ) (bytes : List ℕ) (pos : ℕ) (x : List Question × ℕ) → questions_at count bytes pos ≡ Ok x
     → AllByRecursion HasName x.0
 unfolding questions_at
 questions_good zero bytes pos x h = subst (λ (y : List Question × ℕ). AllByRecursion HasName y.0) (same_pair ([], pos) x h) tt
@@ -321,15 +321,15 @@ good_parts h q a n d (Some opt) p r gq ga gn gd =
       edns = subst (IsOptAgain opt.0) (sym same) gd.taken;
     }
 
-same_message : (a b : MessageValue) → (let r : Result MessageValue DecodeError = Ok a in r) ≡ Ok b → a ≡ b
+pub same_message : (a b : MessageValue) → (let r : Result MessageValue DecodeError = Ok a in r) ≡ Ok b → a ≡ b
 same_message a b h = cc
 
-no_trailing : (test : Bool) (place : ℕ) (a b : MessageValue)
+pub no_trailing : (test : Bool) (place : ℕ) (a b : MessageValue)
     → cond {A = Result MessageValue DecodeError} test (Err (fault Trailing place)) (Ok a) ≡ Ok b → a ≡ b
 no_trailing true place a b h = absurd cc
 no_trailing false place a b h = same_message a b h
 
-message_good : (bytes : List ℕ) (m : MessageValue) → AreBytes bytes → message_at bytes ≡ Ok m → IsMessageAgain m
+pub message_good : (bytes : List ℕ) (m : MessageValue) → AreBytes bytes → message_at bytes ≡ Ok m → IsMessageAgain m
 unfolding message_at
 message_good bytes m fits h =
     let a = bind_ok (header_at bytes) _ m h in
@@ -349,7 +349,7 @@ message_good bytes m fits h =
 pub written_again : (m : MessageValue) (bytes : List ℕ) → AreBytes bytes → message_at bytes ≡ Ok m → message_at (written m) ≡ Ok m
 written_again m bytes fits h = message_again m (message_good bytes m fits h)
 
-encoded_is : (test : Bool) (m : MessageValue) (out : List ℕ)
+pub encoded_is : (test : Bool) (m : MessageValue) (out : List ℕ)
     → cond {A = Result (List ℕ) EncodeError} test (Ok (written m)) (Err TooLong) ≡ Ok out → written m ≡ out
 encoded_is true m out h = cc
 encoded_is false m out h = absurd cc

@@ -90,7 +90,7 @@ read_at-step label text = step_same (labels_read text) read_at label text (λ l 
 -- ---- what is printed is read
 
 -- the digits of a byte give it
-digits_read : (byte : ℕ) (rest : List ℕ) → byte < 256 → escape_in (three_digits byte ++ rest) ≡ Some (byte, rest)
+pub digits_read : (byte : ℕ) (rest : List ℕ) → byte < 256 → escape_in (three_digits byte ++ rest) ≡ Some (byte, rest)
 unfolding escape_in number_in
 digits_read byte rest small =
     let a : is_digit (48 + byte / 100) ≡ true = grind (arith, nat_tests) in
@@ -123,7 +123,7 @@ plain_read label byte rest is shown =
     let no_slash : (byte == backslash) ≡ false = grind (arith, nat_tests) in
     read_at-step label (byte ∷ rest) ∙ rw (no_dot, no_slash, shown) refl
 
-byte_read : (label : Label) (byte : ℕ) (rest : List ℕ) → byte < 256
+pub byte_read : (label : Label) (byte : ℕ) (rest : List ℕ) → byte < 256
     → read_at label (printed_byte byte ++ rest) ≡ read_at (label ++ byte ∷ []) rest
 unfolding printed_byte
 byte_read label byte rest small = byte_cases (is_special byte) (is_printable byte) refl refl
@@ -135,7 +135,7 @@ byte_read label byte rest small = byte_cases (is_special byte) (is_printable byt
     byte_cases false true is shown = plain_read label byte rest (sym is) (sym shown)
     byte_cases false false is shown = escaped_read label byte (three_digits byte ++ rest) rest (digits_read byte rest small)
 
-bytes_read : (before label : Label) (rest : List ℕ) → is_bytes label ≡ true
+pub bytes_read : (before label : Label) (rest : List ℕ) → is_bytes label ≡ true
     → read_at before (flat_map printed_byte label ++ rest) ≡ read_at (before ++ label) rest
 bytes_read before [] rest good = ap (λ (l : Label). read_at l rest) (sym (append-nil before))
 bytes_read before (byte ∷ label) rest good =
@@ -146,7 +146,7 @@ bytes_read before (byte ∷ label) rest good =
     ∙ bytes_read (before ++ byte ∷ []) label rest parts.1
     ∙ ap (λ (l : Label). read_at l rest) (append_assoc before (byte ∷ []) label)
 
-label_read : (label : Label) (rest : List ℕ) → is_bytes label ≡ true
+pub label_read : (label : Label) (rest : List ℕ) → is_bytes label ≡ true
     → read_at [] (printed_label label ++ rest) ≡ ended label (after_dot read_at rest)
 label_read label rest good =
     ap (read_at []) (append_assoc (flat_map printed_byte label) (dot ∷ []) rest)
@@ -196,7 +196,7 @@ labels_read_back label (next ∷ name) good bytes =
       length-append (flat_map printed_byte next) (dot ∷ []),
     )
 
-no_dot_alone : (text : List ℕ) → 1 < length text → pointwise nat_eq text (dot ∷ []) ≡ false
+pub no_dot_alone : (text : List ℕ) → 1 < length text → pointwise nat_eq text (dot ∷ []) ≡ false
 no_dot_alone [] lt = absurd (omega arith)
 no_dot_alone (a ∷ []) lt = absurd (omega arith)
 no_dot_alone (a ∷ b ∷ text) lt = elim (nat_eq a dot) as (λ (v : Bool). (v && false) ≡ false) [ true ↦ refl | false ↦ refl ]
@@ -212,7 +212,7 @@ two_long (byte ∷ label) name good =
       length-append (printed_byte byte) (flat_map printed_byte label),
     )
 
-whole : (text : List ℕ) (read : Read) → read_at [] text ≡ read → labels_read (0 ∷ text) [] text ≡ read
+pub whole : (text : List ℕ) (read : Read) → read_at [] text ≡ read → labels_read (0 ∷ text) [] text ≡ read
 unfolding read_at
 whole text read h = h
 

@@ -18,7 +18,7 @@ use Rattle.dns_model.specs.Gives.{or_error}
 
 -- ---- lines and pieces
 
-split_line : (line rest : List ℕ) → list_any (λ b. b == 10) line ≡ false
+pub split_line : (line rest : List ℕ) → list_any (λ b. b == 10) line ≡ false
     → pieces 10 (line ++ 10 ∷ rest) ≡ line ∷ pieces 10 rest
 split_line [] rest whole = refl
 split_line (x ∷ line) rest whole =
@@ -142,7 +142,7 @@ bound : {A B : Type 0} (r : Result A ℕ) (more : A → Result B ℕ) (y : B) �
 bound (Ok x) more y h = record { value = x; was = refl; gives = h }
 bound (Err number) more y h = cc
 
-nothing_left : (ps : List (List ℕ)) → is_nothing ps ≡ true → ps ≡ [] ∷ []
+pub nothing_left : (ps : List (List ℕ)) → is_nothing ps ≡ true → ps ≡ [] ∷ []
 nothing_left [] h = cc
 nothing_left ([] ∷ []) h = refl
 nothing_left ((c ∷ cs) ∷ []) h = cc

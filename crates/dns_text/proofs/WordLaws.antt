@@ -83,11 +83,11 @@ abbrev NumbersDiffer : List Row → Type 0
 NumbersDiffer [] = Unit {0}
 NumbersDiffer (row ∷ rows) = (own_word rows row.0 ≡ None) × NumbersDiffer rows
 
-bytes_alike : (a b : List ℕ) → a ≡ b → bytes_eq a b ≡ true
+pub bytes_alike : (a b : List ℕ) → a ≡ b → bytes_eq a b ≡ true
 bytes_alike a b h = (bytes_decides a b).1 h
 
 -- a number's own word is read as the number
-named_back : (rows : List Row) (n : ℕ) (word : List ℕ) → WordsDiffer rows → own_word rows n ≡ Some word
+pub named_back : (rows : List Row) (n : ℕ) (word : List ℕ) → WordsDiffer rows → own_word rows n ≡ Some word
     → own_number rows word ≡ Some n
 unfolding own_word own_number
 named_back [] n word differ h = cc
@@ -128,13 +128,13 @@ named_from (row ∷ rows) n word differ h =
 
 -- ---- words with a prefix
 
-prefix_back : (prefix rest : List ℕ) → after_prefix prefix (prefix ++ rest) ≡ Some rest
+pub prefix_back : (prefix rest : List ℕ) → after_prefix prefix (prefix ++ rest) ≡ Some rest
 prefix_back prefix rest =
     let front : take (length prefix) (prefix ++ rest) ≡ prefix = take-append_seam prefix rest in
     let back : drop (length prefix) (prefix ++ rest) ≡ rest = drop-append_seam prefix rest in
     rw (front, back, bytes_alike prefix prefix refl) refl
 
-prefix_from : (prefix word rest : List ℕ) → after_prefix prefix word ≡ Some rest → word ≡ prefix ++ rest
+pub prefix_from : (prefix word rest : List ℕ) → after_prefix prefix word ≡ Some rest → word ≡ prefix ++ rest
 prefix_from prefix word rest h =
     elim (cases_Bool (bytes_eq (take (length prefix) word) prefix)) [
       | inl is ↦
@@ -150,7 +150,7 @@ abbrev NonePrefixed : List ℕ → List Row → Type 0
 NonePrefixed prefix [] = Unit {0}
 NonePrefixed prefix (row ∷ rows) = (after_prefix prefix row.1 ≡ None) × NonePrefixed prefix rows
 
-prefixed_unnamed : (prefix rest : List ℕ) (rows : List Row) → NonePrefixed prefix rows
+pub prefixed_unnamed : (prefix rest : List ℕ) (rows : List Row) → NonePrefixed prefix rows
     → own_number rows (prefix ++ rest) ≡ None
 unfolding own_number
 prefixed_unnamed prefix rest [] apart = refl

@@ -48,7 +48,7 @@ hex_digits_word (c ∷ cs) h =
     rw (hex_digit_above c parts.0) (hex_digits_word cs parts.1)
 
 -- bytes, as hexadecimal digits ask for them
-bytes_below : (bytes : List ℕ) → is_bytes bytes ≡ true → IsBytes bytes
+pub bytes_below : (bytes : List ℕ) → is_bytes bytes ≡ true → IsBytes bytes
 bytes_below [] h i = omega arith
 bytes_below (b ∷ bs) h zero = let parts = and_parts (nat_lt b 256) (is_bytes bs) h in ltb-true b 256 parts.0
 bytes_below (b ∷ bs) h (suc i) = let parts = and_parts (nat_lt b 256) (is_bytes bs) h in bytes_below bs parts.1 i
