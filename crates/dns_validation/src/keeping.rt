@@ -2,6 +2,7 @@
 
 ghost use Rattle.std.specs.Prelude.{◌≡◌, ◌∷◌, None, Some, IfOk, OnOk, length, map};
 ghost use Rattle.std.specs.Option.{option_map};
+ghost use Rattle.dns_model.specs.Keys.{VerifierAnswers};
 ghost use Rattle.dns_model.specs.SoundAnswers.{is_secure as is_secure_mark};
 ghost use Rattle.dns_rules.specs.CacheKeys.{key_of as key_in};
 ghost use Rattle.dns_rules.specs.Serving.{links_of as links_in, still_holds as holds_of};
@@ -321,4 +322,15 @@ pub(crate) fn next_kept(state: &mut State) -> Option<Entry>
     ensures leaves { state.new ≡ given_out state.old }
 {
     state.kept.pop_front()
+}
+
+/// Remembers the chain of an entry that is given out, unless the validation has come to its end: then no set asks for keys any more,
+/// and the copy would serve nothing.
+pub(crate) fn remember(state: &State, accepted: &mut AcceptedChains, entry: &Entry)
+    ensures { (answers : VerifierAnswers) → AreAccepted answers accepted.old.chains → HasAccepted answers entry.now
+        → AreAccepted answers accepted.new.chains }
+{
+    if state.ended.is_none() {
+        accepted.add(entry);
+    }
 }

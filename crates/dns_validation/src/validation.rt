@@ -17,7 +17,7 @@ ghost use Rattle.dns_validation.specs.Validations.{AcceptedWhereKept, asking_at,
 use crate::accepted::AcceptedChains;
 use crate::context::Context;
 use crate::hearing::hear;
-use crate::keeping::{find, next_kept};
+use crate::keeping::{find, next_kept, remember};
 use crate::made::MadeList;
 use crate::requests::{checked, request_for};
 use crate::state::{State, none_open, settle};
@@ -174,7 +174,7 @@ impl<'a, V: Verifier> Validation<'a, V> {
             → Run (terms_in V.answers self.old) cached sends (state_of self.old) → IsLeft (terms_in V.answers self.old) sends e) }
     {
         let entry = next_kept(&mut self.state)?;
-        self.accepted.add(&entry);
+        remember(&self.state, &mut self.accepted, &entry);
         Some(entry)
     }
 

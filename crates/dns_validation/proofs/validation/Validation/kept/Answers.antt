@@ -10,7 +10,7 @@ invariant_of-self-2 g c =
     let judge = c.self.inside.context.judge in
     record {
       stands = reached_given t c.self.inside.state _ c.in_ok-entry.ensures.leaves c.self.invariant.stands;
-      accepted = c.add.ensures (g.V.Verifier.answers judge.verifier.now) c.self.invariant.accepted
+      accepted = c.remember.ensures (g.V.Verifier.answers judge.verifier.now) c.self.invariant.accepted
           (first_accepted (g.V.Verifier.answers judge.verifier.now) judge.anchors.now judge.moment t c.self.inside.state
           (Some c.in_ok-entry.entry) refl c.in_ok-entry.ensures.gives c.self.invariant.stands);
     }
