@@ -1,11 +1,10 @@
 -- The last of each key is at its place.
-use Rattle.std.proofs.Common.{ℕ, ◌≡◌, Bool, true, false, cond, List, [], ◌∷◌, ◌++◌, reverse, length, take, Option, None, Some, slice_get, if◌then◌else◌, refl, sym, ap, ◌∙◌, subst}
+use Rattle.std.proofs.Common.{ℕ, ◌≡◌, ◌+◌, ◌<◌, Bool, true, false, cond, List, [], ◌∷◌, ◌++◌, reverse, length, take, get_or, Option, None, Some, slice_get, if◌then◌else◌, refl, sym, ap, ◌∙◌, subst, arith}
 use Rattle.std.specs.Option.{option_map_or}
 use Rattle.std.specs.BTreeMap.{BTreeMap, get, Updates}
 use Rattle.std.specs.Ordering.{is_eq}
 use Rattle.std.specs.Map.{lookup}
-use Rattle.std.proofs.Math.Seq.{take-append_seam}
-use Rattle.std.proofs.lemmas.List.{length-reverse, reverse-append, reverse-reverse}
+use Rattle.std.proofs.lemmas.List.{length-reverse, length-take-le, reverse-append, reverse-reverse, take_more}
 use Rattle.dns_model.specs.declared.trail.MarkOrigin.{MarkOrigin}
 use Rattle.dns_model.specs.declared.trail.MarkOrigin.TheVariants.{Cache}
 use Rattle.dns_model.proofs.Lists.{slice_get_appended}
@@ -15,7 +14,7 @@ use Rattle.dns_rules.proofs.StayLemmas.{slice_get-stays}
 use Rattle.dns_cache.specs.KeyLaws.{key_ties}
 use Rattle.dns_cache.specs.KeyOrder.{key_cmp}
 use Rattle.dns_validation.specs.Machine.{MadeValue, origin_by, origin_of}
-use Rattle.dns_validation.specs.MadePlaces.{ArePlaces, SamePlaces, origin_at, place_in}
+use Rattle.dns_validation.specs.MadePlaces.{ArePlaces, origin_at, place_in}
 
 -- ---- places as one more is given out
 
@@ -46,21 +45,36 @@ places_more old new all m key n places same count updates = λ k.
     ∙ same_step (key_eq m.key k) (Some n) (Some (length (reverse all))) (place_in (reverse all) k) here
     ∙ ap (λ xs. place_in xs k) (sym (reverse_last all m))
 
-pub places_same : (old new : BTreeMap CacheKeyValue ℕ) (all : List MadeValue) → ArePlaces old all → SamePlaces old new
-    → ArePlaces new all
-places_same old new all places same = λ k. same k ∙ places k
+-- as one more of a list is placed
+pub places_next : (old new : BTreeMap CacheKeyValue ℕ) (all : List MadeValue) (m : MadeValue) (key : CacheKeyValue)
+    (n : ℕ) → ArePlaces old (take n all)
+    → n < length all → m ≡ get_or all n m → key ≡ m.key → Updates key_cmp old new key (Some n)
+    → ArePlaces new (take (n + 1) all)
+places_next old new all m key n places lt is same updates =
+    let front : take (n + 1) all ≡ take n all ++ m ∷ [] =
+    take_more all n m lt ∙ ap (λ x. take n all ++ x ∷ []) (sym is) in
+    let count : n ≡ length (take n all) = sym (length-take-le n all (omega arith)) in
+    subst (ArePlaces new) (sym front) (places_more old new (take n all) m key n places same count updates)
 
--- one that was pushed and is taken back
-pub places_back : (old new : BTreeMap CacheKeyValue ℕ) (all more rest : List MadeValue) (m : MadeValue) (n : ℕ)
-    → ArePlaces old all
-    → SamePlaces old new → n ≡ length all → more ≡ all ++ m ∷ [] → rest ≡ take n more → ArePlaces new rest
-places_back old new all more rest m n places same count pushed cut =
-    let back : rest ≡ all =
-    cut ∙ ap (take n) pushed ∙ ap (λ k. take k (all ++ m ∷ [])) count ∙ take-append_seam all (m ∷ []) in
-    subst (ArePlaces new) (sym back) (places_same old new all places same)
+-- ---- a walk
 
-pub places_unchanged : (old new : BTreeMap CacheKeyValue ℕ) → new.entries ≡ old.entries → SamePlaces old new
-places_unchanged old new is = λ k. ap (λ es. lookup (λ q. is_eq (key_cmp k q)) es) is
+pub walked_past : (all earlier : List MadeValue) (m : MadeValue) (e : EntryValue) → all ≡ earlier ++ m ∷ []
+    → key_eq m.key e.key ≡ false → origin_of (reverse all) e ≡ origin_of (reverse earlier) e
+unfolding origin_of
+walked_past all earlier m e is other =
+    ap (λ xs. origin_of (reverse xs) e) is ∙ ap (λ xs. origin_of xs e) (reverse_last earlier m)
+    ∙ ap (λ b. if b then origin_by m e else origin_of (reverse earlier) e) other
+
+pub walked_to : (all earlier : List MadeValue) (m : MadeValue) (e : EntryValue) → all ≡ earlier ++ m ∷ []
+    → key_eq m.key e.key ≡ true → origin_of (reverse all) e ≡ origin_by m e
+unfolding origin_of
+walked_to all earlier m e is same =
+    ap (λ xs. origin_of (reverse xs) e) is ∙ ap (λ xs. origin_of xs e) (reverse_last earlier m)
+    ∙ ap (λ b. if b then origin_by m e else origin_of (reverse earlier) e) same
+
+pub walked_all : (all : List MadeValue) (e : EntryValue) → all ≡ [] → origin_of (reverse all) e ≡ Cache
+unfolding origin_of
+walked_all all e is = ap (λ xs. origin_of (reverse xs) e) is
 
 -- ---- what stands at a place
 

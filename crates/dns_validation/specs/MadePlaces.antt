@@ -18,10 +18,6 @@ place_in (m ∷ made) key = if key_eq m.key key then Some (length made) else pla
 abbrev pub ArePlaces : BTreeMap CacheKeyValue ℕ → List MadeValue → Type 0
 ArePlaces places all = (key : CacheKeyValue) → get key_cmp places key ≡ place_in (reverse all) key
 
--- each key has the place that it had
-abbrev pub SamePlaces : BTreeMap CacheKeyValue ℕ → BTreeMap CacheKeyValue ℕ → Type 0
-SamePlaces old new = (key : CacheKeyValue) → get key_cmp new key ≡ get key_cmp old key
-
 -- the origin of an entry whose key has a place, if it has one
 abbrev pub origin_at : List MadeValue → EntryValue → Option ℕ → MarkOrigin
 origin_at all e place = option_map_or (λ m. origin_by m e) (option_and_then (slice_get all) place) Cache

@@ -1,10 +1,11 @@
-//! What was given out to be kept, so that the last of each key is found without a walk.
+//! What was given out to be kept. The last of a key is found among few by a walk, and among more by its place.
 
-ghost use Rattle.std.specs.Prelude.{◌≡◌, ◌∷◌, [], Some, IfOk, OnErr, OnOk};
+ghost use Rattle.std.specs.Prelude.{◌≡◌, ◌∷◌, ◌++◌, [], List, Some, IfOk, IfSome, OnOk, length, reverse};
 ghost use Rattle.std.specs.BTreeMap.{Updates, get as get_in};
+ghost use Rattle.dns_rules.specs.CacheKeys.{key_eq};
 ghost use Rattle.dns_cache.specs.KeyOrder.{key_cmp};
-ghost use Rattle.dns_validation.specs.Machine.{made_by as made_of, origin_by as origin_by_made, origin_of as origin_in};
-ghost use Rattle.dns_validation.specs.MadePlaces.{SamePlaces, origin_at as origin_at_place};
+ghost use Rattle.dns_validation.specs.Machine.{MadeValue, made_by as made_of, origin_by as origin_by_made, origin_of as origin_in};
+ghost use Rattle.dns_validation.specs.MadePlaces.{ArePlaces, origin_at as origin_at_place};
 
 use dns_cache::{CacheKey, Entry};
 use dns_chain_check::{mark_of, sig_of};
@@ -13,6 +14,9 @@ use dns_record::NoMemory;
 use std::alloc::Global;
 use std::collections::BTreeMap;
 use std::marker::Model;
+
+// The most that are walked. Most lookups give out no more sets, and a place for each would take a copy of its key.
+const FEW: usize = 16;
 
 /// What was given out of one set.
 #[derive(Drop)]
@@ -38,12 +42,12 @@ impl Model for Made {
 pub(crate) struct MadeList {
     /// The last one last.
     all: Vec<Made>,
-    /// Where the last one of each key stands.
-    places: BTreeMap<CacheKey, usize>,
+    /// Where the last one of each key stands; None of few.
+    places: Option<BTreeMap<CacheKey, usize>>,
 }
 
 impl Model for MadeList {
-    ghost use Rattle.std.specs.Prelude.{List, reverse};
+    ghost use Rattle.std.specs.Prelude.{List, IfSome, reverse};
     ghost use Rattle.dns_validation.specs.Machine.{MadeValue};
     ghost use Rattle.dns_validation.specs.MadePlaces.{ArePlaces};
 
@@ -51,7 +55,7 @@ impl Model for MadeList {
 
     ghost view = { λ l. reverse l.all.items };
 
-    ghost invariant = { λ l. ArePlaces l.places l.all.items };
+    ghost invariant = { λ l. IfSome l.places (λ places. ArePlaces places l.all.items) };
 }
 
 impl MadeList {
@@ -61,7 +65,7 @@ impl MadeList {
     {
         MadeList {
             all: Vec::new(alloc),
-            places: BTreeMap::new(alloc),
+            places: None,
         }
     }
 
@@ -69,37 +73,98 @@ impl MadeList {
     pub(crate) fn push(&mut self, made: Made) -> Result<(), NoMemory>
         ensures { OnOk result (self.new ≡ made ∷ self.old) }
     {
-        let key = made.key.try_clone()?;
-        let place = self.all.len();
+        let places = more_places(self.places.take(), &made, self.all.len())?;
         self.all.push(made)?;
-        match note_place(&mut self.places, key, place) {
-            Ok(()) => Ok(()),
-            Err(error) => {
-                self.all.truncate(place);
-                Err(error)
-            }
-        }
+        self.places = places_of_many(places, &self.all)?;
+        Ok(())
     }
 
     /// The last step that gave out the key of an entry, where it found the same; else the entry was kept before.
     pub(crate) fn origin_of(&self, entry: &Entry) -> MarkOrigin
         ensures { result ≡ origin_in self.now entry.now }
     {
-        found_origin(&self.places, &self.all, entry)
+        match &self.places {
+            Some(places) => found_origin(places, &self.all, entry),
+            None => walked_origin(&self.all, entry),
+        }
     }
 }
 
-// Gives a key another place. After an error each key has the place that it had.
-fn note_place(
-    places: &mut BTreeMap<CacheKey, usize>,
-    key: CacheKey,
+// The places with that of one more, where there are places.
+fn more_places(
+    places: Option<BTreeMap<CacheKey, usize>>,
+    made: &Made,
     place: usize,
-) -> Result<(), NoMemory>
-    ensures ok { OnOk result (Updates key_cmp places.old places.new key (Some place)) }
-    ensures err { OnErr result (SamePlaces places.old places.new) }
+) -> Result<Option<BTreeMap<CacheKey, usize>>, NoMemory>
+    ensures { IfOk result (λ o. (all : List MadeValue) → place ≡ length all
+        → IfSome places (λ old. ArePlaces old all) → IfSome o (λ new. ArePlaces new (all ++ made.now ∷ []))) }
 {
-    places.insert(key, place)?;
-    Ok(())
+    match places {
+        Some(places) => {
+            let more = with_place(places, made, place)?;
+            Ok(Some(more))
+        }
+        None => Ok(None),
+    }
+}
+
+// Gives the key of one that was given out another place.
+fn with_place(
+    places: BTreeMap<CacheKey, usize>,
+    made: &Made,
+    place: usize,
+) -> Result<BTreeMap<CacheKey, usize>, NoMemory>
+    ensures { IfOk result (λ new. Updates key_cmp places new made.now.key (Some place)) }
+{
+    let mut places = places;
+    places.insert(made.key.try_clone()?, place)?;
+    Ok(places)
+}
+
+// The places of all, where there are more than few.
+fn places_of_many(
+    places: Option<BTreeMap<CacheKey, usize>>,
+    all: &Vec<Made>,
+) -> Result<Option<BTreeMap<CacheKey, usize>>, NoMemory>
+    requires { IfSome places (λ places. ArePlaces places all.now.items) }
+    ensures { IfOk result (λ o. IfSome o (λ places. ArePlaces places all.now.items)) }
+{
+    if places.is_none() && all.len() > FEW {
+        Ok(Some(places_of(*all.allocator(), all)?))
+    } else {
+        Ok(places)
+    }
+}
+
+// The places of all.
+fn places_of(alloc: Global, all: &[Made]) -> Result<BTreeMap<CacheKey, usize>, NoMemory>
+    ensures { IfOk result (λ places. ArePlaces places all.now) }
+{
+    let mut places = BTreeMap::new(alloc);
+    'each: for (place, made) in all.iter().enumerate() {
+        places = with_place(places, made, place)?;
+    }
+    Ok(places)
+}
+
+// The origin of an entry, by the last one that has its key.
+fn walked_origin(mut all: &[Made], entry: &Entry) -> MarkOrigin
+    ensures { result ≡ origin_in (reverse all.entry.now) entry.now }
+{
+    'all: while let Some((made, earlier)) = all.split_last() {
+        if has_key(made, entry) {
+            return origin_by(made, entry);
+        }
+        all = earlier;
+    }
+    MarkOrigin::Cache
+}
+
+// Its key is that of an entry.
+fn has_key(made: &Made, entry: &Entry) -> bool
+    ensures { result ≡ key_eq made.now.key entry.now.key }
+{
+    made.key == entry.key
 }
 
 // The origin of an entry, by the place of its key.

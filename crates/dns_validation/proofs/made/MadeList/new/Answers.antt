@@ -1,5 +1,0 @@
-use Rattle.dns_validation.proofs.MadePlaceLemmas.{no_places}
-use Rattle.dns_validation.proofs.made.MadeList.new.Goals as goal
-
-pub invariant_of-result : goal.invariant_of-result
-invariant_of-result c = no_places c.new-2.result c.new.result.items c.new-2.ensures.empty c.new.ensures.items
