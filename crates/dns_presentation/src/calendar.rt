@@ -28,13 +28,15 @@ fn is_leap_year(year: u32) -> bool
     year % 4 == 0 && (year % 100 != 0 || year % 400 == 0)
 }
 
-fn days_in_year(year: u32) -> u32
+/// The days of a year of the Gregorian calendar.
+pub fn days_in_year(year: u32) -> u32
     ensures { result ≡ year_days year }
 {
     if is_leap_year(year) { 366 } else { 365 }
 }
 
-fn days_in_month(year: u32, month: u32) -> u32
+/// The days of a month of the Gregorian calendar; January is 1.
+pub fn days_in_month(year: u32, month: u32) -> u32
     ensures { result ≡ month_days year month }
 {
     match month {

@@ -39,8 +39,8 @@ pub(crate) fn push_tlsa(into: &mut Vec<u8>, rdata: &[u8]) -> Result<(), NoMemory
     push_octets_word(into, &rdata[3..])
 }
 
-// Whether bytes are letters and digits, at least one.
-fn is_tag(tag: &[u8]) -> bool
+/// Whether bytes are letters and digits, at least one, as a tag of a CAA record is (RFC 8659, 4.1.1).
+pub fn is_tag(tag: &[u8]) -> bool
     ensures { result ≡ is_tag_text tag.now }
 {
     if tag.is_empty() {
