@@ -1,16 +1,12 @@
 -- The words of types and classes are read as their numbers.
-use Rattle.std.proofs.Common.{◌≡◌, ℕ, ◌≤◌, true, ◌==◌, List, [], ◌∷◌, ◌++◌, length, take, drop, codes, Option, None, Some, unwrap_or, refl, sym, ap, subst, rules, ◌∙◌, arith, inl, inr}
+use Rattle.std.proofs.Common.{◌≡◌, ℕ, ◌≤◌, ◌==◌, List, [], ◌∷◌, ◌++◌, codes, Option, None, Some, unwrap_or, refl, sym, ap, rules, ◌∙◌, arith, inl, inr}
 use Rattle.std.specs.Fmt.{decimal}
-use Rattle.std.specs.Cmp.Lexicographic.{bytes_decides}
 use Rattle.std.specs.Option.{option_or}
-use Rattle.std.proofs.lemmas.Bool.{cases_Bool, eqb-true}
-use Rattle.std.proofs.Math.Seq.{take-append_seam, drop-append_seam}
-use Rattle.std.proofs.lemmas.Option.{same_Some, none-some}
-use Rattle.dns_model.specs.Keys.{bytes_eq}
-use Rattle.dns_model.proofs.ChainLemmas.{bytes_same}
+use Rattle.std.proofs.lemmas.Bool.{cases_Bool}
+use Rattle.std.proofs.lemmas.Option.{same_Some}
 use Rattle.dns_record.specs.Words.{Row, class_rows, class_word, own_number, own_word, type_rows, type_word}
 use Rattle.dns_text.specs.Codes.{after_prefix}
-use Rattle.dns_text.proofs.WordLaws.{decimal_back}
+use Rattle.dns_text.proofs.WordLaws.{decimal_back, named_back, prefix_back, prefixed_unnamed}
 use Rattle.dns_presentation.specs.TypeTexts.{further_rows, type_text}
 use Rattle.dns_master_file.specs.Codes.{class_in, numbered_in, type_in}
 
@@ -29,28 +25,6 @@ abbrev NonePrefixed : List ℕ → List Row → Type 0
 NonePrefixed prefix [] = Unit {0}
 NonePrefixed prefix (row ∷ rows) = (after_prefix prefix row.1 ≡ None) × NonePrefixed prefix rows
 
-bytes_alike : (a b : List ℕ) → a ≡ b → bytes_eq a b ≡ true
-bytes_alike a b h = (bytes_decides a b).1 h
-
-named_back : (rows : List Row) (n : ℕ) (word : List ℕ) → WordsDiffer rows → own_word rows n ≡ Some word
-    → own_number rows word ≡ Some n
-unfolding own_word own_number
-named_back [] n word differ h = cc
-named_back (row ∷ rows) n word differ h =
-    elim (cases_Bool (row.0 == n)) [
-      | inl is ↦
-          let same : row.1 ≡ word = same_Some _ _ (rw is at h) in
-          rw (bytes_alike row.1 word same) (ap Some (eqb-true row.0 n is))
-      | inr isnt ↦
-          let rest : own_number rows word ≡ Some n = named_back rows n word differ.1 (rw isnt at h) in
-          elim (cases_Bool (bytes_eq row.1 word)) [
-            | inl same ↦
-                let none : own_number rows word ≡ None = rw (sym (bytes_same row.1 word same)) differ.0 in
-                cc
-            | inr other ↦ rw other rest
-          ]
-    ]
-
 named_apart : (others rows : List Row) (n : ℕ) (word : List ℕ) → WordsApart others rows → own_word rows n ≡ Some word
     → own_number others word ≡ None
 unfolding own_word
@@ -61,26 +35,6 @@ named_apart others (row ∷ rows) n word apart h =
           let same : row.1 ≡ word = same_Some _ _ (rw is at h) in
           ap (own_number others) (sym same) ∙ apart.0
       | inr isnt ↦ named_apart others rows n word apart.1 (rw isnt at h)
-    ]
-
-prefix_back : (prefix rest : List ℕ) → after_prefix prefix (prefix ++ rest) ≡ Some rest
-prefix_back prefix rest =
-    let front : take (length prefix) (prefix ++ rest) ≡ prefix = take-append_seam prefix rest in
-    let back : drop (length prefix) (prefix ++ rest) ≡ rest = drop-append_seam prefix rest in
-    rw (front, back, bytes_alike prefix prefix refl) refl
-
-prefixed_unnamed : (prefix rest : List ℕ) (rows : List Row) → NonePrefixed prefix rows
-    → own_number rows (prefix ++ rest) ≡ None
-unfolding own_number
-prefixed_unnamed prefix rest [] apart = refl
-prefixed_unnamed prefix rest (row ∷ rows) apart =
-    elim (cases_Bool (bytes_eq row.1 (prefix ++ rest))) [
-      | inl is ↦
-          let P : List ℕ → Type 0 = λ word. after_prefix prefix word ≡ Some rest in
-          let some : after_prefix prefix row.1 ≡ Some rest =
-          subst P (sym (bytes_same _ _ is)) (prefix_back prefix rest) in
-          absurd (none-some rest (sym apart.0 ∙ some))
-      | inr isnt ↦ rw isnt (prefixed_unnamed prefix rest rows apart.1)
     ]
 
 numbered_back : (prefix : List ℕ) (n : ℕ) → n ≤ 65535 → numbered_in prefix (prefix ++ decimal n) ≡ Some n

@@ -19,24 +19,30 @@ use Rattle.dns_model.specs.Bytes.{is_bytes, u16_bytes, u32_bytes}
 use Rattle.dns_model.specs.Names.{Labels, is_name, wire}
 use Rattle.dns_text.specs.Words.{octets_word}
 use Rattle.dns_text.proofs.OctetLaws.{octets_back}
+use Rattle.dns_text.proofs.WordShapes.{bytes_below}
 use Rattle.dns_text.proofs.WordLaws.{decimal_back}
-use Rattle.dns_master_file.specs.Fields.{field_in, fields_in, takes_rest}
+use Rattle.dns_master_file.specs.Fields.{field_in, fields_in, is_text, one_in, takes_rest}
 use Rattle.dns_presentation.specs.Forms.{base64_word}
 use Rattle.dns_master_file.specs.Front.{after_blanks, ends_word, is_blank, is_bracket, joined_in, semicolon}
 use Rattle.dns_master_file.specs.Meanings.{base64_meant, digits_meant, filled, meant}
 use Rattle.dns_presentation.specs.Spelling.{name_text, quote}
 use Rattle.dns_master_file.specs.declared.field.Field.{Field}
-use Rattle.dns_master_file.specs.declared.field.Field.TheVariants.{Byte, TwoBytes, FourBytes, DomainName, Salt, Digits, Base64}
+use Rattle.dns_master_file.specs.declared.field.Field.TheVariants.{Byte, TwoBytes, FourBytes, DomainName, Salt, Digits, Base64, TypeWord, Time}
+use Rattle.dns_presentation.specs.Calendar.{time_text}
+use Rattle.dns_presentation.specs.TypeTexts.{type_text}
+use Rattle.dns_master_words.proofs.TimeLaws.{time_back}
+use Rattle.dns_master_file.proofs.CodeLaws.{type_back}
 use Rattle.dns_master_file.proofs.NameLaws.{name_back, name_is_word}
-use Rattle.dns_master_file.proofs.WordLemmas.{IsWord, bytes_below, decimal_is_word, is_plain, is_plain_byte, left, left_more, next_word, not_so, octets_plain, plain_word}
+use Rattle.dns_master_file.proofs.WordLemmas.{IsWord, decimal_is_word, is_plain, is_plain_byte, left, left_more, next_word, not_so, octets_plain, plain_word, time_is_word, type_is_word}
 
 -- ---- steps
 
 -- a field that is a word
-field_step : (field : Field) (word octets : List ℕ) (words : List (List ℕ)) → takes_rest field ≡ false → IsWord word
-    → meant field word ≡ Some octets → field_in field (left (word ∷ words)) ≡ Ok (octets, left words)
-unfolding field_in
-field_step field word octets words one is means = rw (one, next_word word words is, means) refl
+pub field_step : (field : Field) (word octets : List ℕ) (words : List (List ℕ)) → takes_rest field ≡ false
+    → is_text field ≡ false → IsWord word → meant field word ≡ Some octets
+    → one_in field (left (word ∷ words)) ≡ Ok (octets, left words)
+unfolding one_in
+field_step field word octets words one plain is means = rw (one, plain, next_word word words is, means) refl
 
 -- words that are joined
 pub joined_plain : (word : List ℕ) → is_plain word ≡ true → joined_in word ≡ Ok word
@@ -54,14 +60,14 @@ joined_plain (b ∷ bs) h =
 
 -- a field that is all that is left
 last_step : (field : Field) (word octets : List ℕ) → takes_rest field ≡ true → is_plain word ≡ true → 0 < length word
-    → meant field word ≡ Some octets → field_in field (left (word ∷ [])) ≡ Ok (octets, [])
-unfolding field_in
+    → meant field word ≡ Some octets → one_in field (left (word ∷ [])) ≡ Ok (octets, [])
+unfolding one_in
 last_step field word octets rest plain some means =
     let stays : left (word ∷ []) ≡ word = left_more word [] (plain_word word plain some) ∙ append-nil word in
     rw (rest, stays, joined_plain word plain, means) refl
 
 -- one field more
-more_fields : (field : Field) (fields : List Field) (bytes octets rest more : List ℕ)
+pub more_fields : (field : Field) (fields : List Field) (bytes octets rest more : List ℕ)
     → field_in field bytes ≡ Ok (octets, rest)
     → fields_in fields rest ≡ Ok more → fields_in (field ∷ fields) bytes ≡ Ok (octets ++ more)
 unfolding fields_in
@@ -79,7 +85,7 @@ pub byte_step : (n : ℕ) (fields : List Field) (words : List (List ℕ)) (more 
 unfolding meant
 byte_step n fields words more small others =
     more_fields Byte fields _ (n ∷ []) _ more
-    (field_step Byte (decimal n) (n ∷ []) words refl (decimal_is_word n (omega arith))
+    (field_step Byte (decimal n) (n ∷ []) words refl refl (decimal_is_word n (omega arith))
     (rw (decimal_back 255 n (omega arith) (omega arith)) refl)) others
 
 pub two_step : (n : ℕ) (fields : List Field) (words : List (List ℕ)) (more : List ℕ) → n < 65536
@@ -88,7 +94,7 @@ pub two_step : (n : ℕ) (fields : List Field) (words : List (List ℕ)) (more :
 unfolding meant
 two_step n fields words more small others =
     more_fields TwoBytes fields _ (u16_bytes n) _ more
-    (field_step TwoBytes (decimal n) (u16_bytes n) words refl (decimal_is_word n (omega arith))
+    (field_step TwoBytes (decimal n) (u16_bytes n) words refl refl (decimal_is_word n (omega arith))
     (rw (decimal_back 65535 n (omega arith) (omega arith)) refl)) others
 
 pub four_step : (n : ℕ) (fields : List Field) (words : List (List ℕ)) (more : List ℕ) → n < 4294967296
@@ -97,7 +103,7 @@ pub four_step : (n : ℕ) (fields : List Field) (words : List (List ℕ)) (more 
 unfolding meant
 four_step n fields words more small others =
     more_fields FourBytes fields _ (u32_bytes n) _ more
-    (field_step FourBytes (decimal n) (u32_bytes n) words refl (decimal_is_word n (omega arith))
+    (field_step FourBytes (decimal n) (u32_bytes n) words refl refl (decimal_is_word n (omega arith))
     (rw (decimal_back 4294967295 n (omega arith) (omega arith)) refl)) others
 
 pub name_step : (name : Labels) (fields : List Field) (words : List (List ℕ)) (more : List ℕ) → is_name name ≡ true
@@ -106,8 +112,25 @@ pub name_step : (name : Labels) (fields : List Field) (words : List (List ℕ)) 
 unfolding meant
 name_step name fields words more good bytes others =
     more_fields DomainName fields _ (wire name) _ more
-    (field_step DomainName (name_text name) (wire name) words refl (name_is_word name good bytes)
+    (field_step DomainName (name_text name) (wire name) words refl refl (name_is_word name good bytes)
     (rw (name_back name good bytes) refl)) others
+
+pub type_step : (n : ℕ) (fields : List Field) (words : List (List ℕ)) (more : List ℕ) → n < 65536
+    → fields_in fields (left words) ≡ Ok more
+    → fields_in (TypeWord ∷ fields) (left (type_text n ∷ words)) ≡ Ok (u16_bytes n ++ more)
+unfolding meant
+type_step n fields words more small others =
+    more_fields TypeWord fields _ (u16_bytes n) _ more
+    (field_step TypeWord (type_text n) (u16_bytes n) words refl refl (type_is_word n (omega arith))
+    (rw (type_back n (omega arith)) refl)) others
+
+pub time_step : (n : ℕ) (fields : List Field) (words : List (List ℕ)) (more : List ℕ) → n < 4294967296
+    → fields_in fields (left words) ≡ Ok more
+    → fields_in (Time ∷ fields) (left (time_text n ∷ words)) ≡ Ok (u32_bytes n ++ more)
+unfolding meant
+time_step n fields words more small others =
+    more_fields Time fields _ (u32_bytes n) _ more
+    (field_step Time (time_text n) (u32_bytes n) words refl refl (time_is_word n) (rw (time_back n small) refl)) others
 
 -- ---- bytes
 
@@ -139,7 +162,7 @@ digits_end bytes h some =
     (digits_mean bytes h some)) no_fields
     ∙ ap Ok (append-nil bytes)
 
-salt_means : (salt : List ℕ) → is_bytes salt ≡ true → length salt ≤ 255
+pub salt_means : (salt : List ℕ) → is_bytes salt ≡ true → length salt ≤ 255
     → meant Salt (octets_word salt) ≡ Some (length salt ∷ salt)
 unfolding meant
 salt_means salt h short =
@@ -156,7 +179,7 @@ pub salt_end : (salt : List ℕ) → is_bytes salt ≡ true → length salt ≤ 
 salt_end salt h short =
     let word = plain_word (octets_word salt) (octets_plain salt h) (octets_some salt) in
     more_fields Salt [] _ (length salt ∷ salt) (left []) []
-    (field_step Salt (octets_word salt) (length salt ∷ salt) [] refl word (salt_means salt h short)) no_words
+    (field_step Salt (octets_word salt) (length salt ∷ salt) [] refl refl word (salt_means salt h short)) no_words
     ∙ ap Ok (append-nil (length salt ∷ salt))
 
 -- the last name of an rdata

@@ -1,8 +1,14 @@
 pub mod FrontLemmas
+pub mod ItemLemmas
 pub mod RowLemmas
 pub mod WordLemmas
 pub mod NameLaws
 pub mod FieldLaws
+pub mod QuotedLaws
 pub mod TypeLaws
+pub mod SignatureLaws
+pub mod TextTypeLaws
+pub mod DenialLaws
+pub mod FormLaws
 pub mod CodeLaws
 pub mod LineLaws

@@ -1,5 +1,5 @@
 -- A record's line is read as the record.
-use Rattle.std.proofs.Common.{◌≡◌, ℕ, ◌+◌, ◌<◌, ◌≤◌, true, false, not, ◌||◌, ◌==◌, List, [], ◌∷◌, ◌++◌, length, codes, Option, None, Some, is_some, Ok, refl, sym, ap, ◌∙◌, arith, append-nil, inl, inr}
+use Rattle.std.proofs.Common.{◌≡◌, ℕ, ◌<◌, ◌≤◌, true, false, ◌==◌, List, [], ◌∷◌, ◌++◌, length, codes, Option, None, Some, Ok, refl, sym, ap, ◌∙◌, arith, append-nil, inl, inr}
 use Rattle.std.specs.Prelude.{nat_le, nat_lt}
 use Rattle.std.specs.Fmt.{decimal}
 use Rattle.std.specs.List.{list_all}
@@ -14,25 +14,24 @@ use Rattle.dns_model.specs.Records.{Rr}
 use Rattle.dns_model.specs.Types.{has_shapes}
 use Rattle.dns_record.specs.Words.{class_word}
 use Rattle.dns_text.specs.Words.{decimal_in, octets_word}
+use Rattle.dns_text.proofs.WordShapes.{bytes_below}
 use Rattle.dns_text.proofs.WordLaws.{decimal_back}
 use Rattle.dns_presentation.specs.Forms.{Words, form_words}
 use Rattle.dns_presentation.specs.Presentation.{data_words, generic_words, or_generic, presentation, rdata_words}
 use Rattle.dns_presentation.specs.Spelling.{name_text, spaced}
 use Rattle.dns_presentation.specs.TypeTexts.{type_text}
 use Rattle.dns_master_file.specs.Codes.{class_in, type_in}
-use Rattle.dns_master_file.specs.Fields.{fields_of}
 use Rattle.dns_master_file.specs.Front.{after_blanks, is_blank, is_over, joined_in, word_as, word_in}
-use Rattle.dns_master_file.specs.Laws.{IsReadBack, is_readable, told}
+use Rattle.dns_master_file.specs.Laws.{IsReadBack, told}
 use Rattle.dns_master_file.specs.Meanings.{digits_meant, name_meant}
 use Rattle.dns_master_file.specs.Reading.{LineValue, after_mark, entry_in, generic_in, line_in, owner_in, rdata_in, ttl_in}
-use Rattle.dns_master_file.specs.declared.field.Field.{Field}
 use Rattle.dns_master_file.specs.declared.stop.Refusal.{Refusal}
 use Rattle.dns_master_file.specs.declared.stop.Refusal.TheVariants.{BadClass, BadName, BadNumber, BadType}
 use Rattle.dns_master_file.proofs.CodeLaws.{class_back, type_back}
 use Rattle.dns_master_file.proofs.FieldLaws.{joined_plain, octets_some}
 use Rattle.dns_master_file.proofs.NameLaws.{Begins, escaped_runs, name_back, name_is_word, text_begins}
-use Rattle.dns_master_file.proofs.TypeLaws.{form_law}
-use Rattle.dns_master_file.proofs.WordLemmas.{IsWord, bytes_below, begins_so, class_is_word, decimal_is_word, first_word, left, left_more, next_word, octets_plain, plain_word, same_first, type_is_word, word_stays}
+use Rattle.dns_master_file.proofs.FormLaws.{form_law}
+use Rattle.dns_master_file.proofs.WordLemmas.{IsWord, begins_so, class_is_word, decimal_is_word, first_word, left, left_more, never_over, next_word, octets_plain, plain_word, same_first, type_is_word, word_stays}
 
 -- ---- any rdata
 
@@ -112,30 +111,25 @@ any_back class rtype rdata h short =
 
 -- ---- an rdata in its type's form
 
-own_back : (class rtype : ℕ) (rdata : List ℕ) (words : Words) (fields : Option (List Field)) → is_bytes rdata ≡ true
-    → length rdata ≤ 65535 → has_shapes class ≡ true → form_words rtype rdata ≡ Some words → fields_of rtype ≡ fields
-    → is_some fields ≡ true → rdata_in class rtype (left words) ≡ Ok rdata
+own_back : (class rtype : ℕ) (rdata : List ℕ) (words : Words) → is_bytes rdata ≡ true → length rdata ≤ 65535
+    → has_shapes class ≡ true → form_words rtype rdata ≡ Some words → rdata_in class rtype (left words) ≡ Ok rdata
 unfolding rdata_in
-own_back class rtype rdata words None h short shaped e f is = cc
-own_back class rtype rdata words (Some fields) h short shaped e f is =
-    let law = form_law rtype rdata words fields h e f in
-    rw (law.own_form, shaped, f, law.reads, short_enough rdata short) refl
+own_back class rtype rdata words h short shaped e =
+    let law = form_law rtype rdata words h e in
+    rw (law.form.own_form, shaped, law.known, law.form.reads, short_enough rdata short) refl
 
 shaped_back : (class rtype : ℕ) (rdata : List ℕ) (form : Option Words) → is_bytes rdata ≡ true → length rdata ≤ 65535
-    → has_shapes class ≡ true → form_words rtype rdata ≡ form → not (is_some form) || is_some (fields_of rtype) ≡ true
+    → has_shapes class ≡ true → form_words rtype rdata ≡ form
     → rdata_in class rtype (left (or_generic form rdata)) ≡ Ok rdata
-shaped_back class rtype rdata None h short shaped e is = any_back class rtype rdata h short
-shaped_back class rtype rdata (Some words) h short shaped e is =
-    own_back class rtype rdata words (fields_of rtype) h short shaped e refl is
+shaped_back class rtype rdata None h short shaped e = any_back class rtype rdata h short
+shaped_back class rtype rdata (Some words) h short shaped e = own_back class rtype rdata words h short shaped e
 
 rdata_back : (class rtype : ℕ) (rdata : List ℕ) → is_bytes rdata ≡ true → length rdata ≤ 65535
-    → not (has_shapes class) || not (is_some (form_words rtype rdata)) || is_some (fields_of rtype) ≡ true
     → rdata_in class rtype (left (rdata_words class rtype rdata)) ≡ Ok rdata
 unfolding rdata_words
-rdata_back class rtype rdata h short is =
+rdata_back class rtype rdata h short =
     elim (cases_Bool (has_shapes class)) [
-      | inl shaped ↦ rw shaped (shaped_back class rtype rdata (form_words rtype rdata) h short shaped refl
-          (rw shaped at is))
+      | inl shaped ↦ rw shaped (shaped_back class rtype rdata (form_words rtype rdata) h short shaped refl)
       | inr other ↦ rw other (any_back class rtype rdata h short)
     ]
 
@@ -156,10 +150,6 @@ owner_back (b ∷ bs) words name begins is means =
     let no_blank : is_blank b ≡ false = grind (arith, nat_tests, edge) in
     let no_directive : (b == 36) ≡ false = ap (λ c. c == 36) (sym same) ∙ begins.no_directive in
     rw (no_blank, no_directive) (first_means BadName name_meant (b ∷ bs) name words is means)
-
-never_over : (text more : List ℕ) → IsWord text → is_over (text ++ more) ≡ false
-never_over [] more is = let none : [] ≡ is.first ∷ is.rest = is.spelled in cc
-never_over (b ∷ bs) more is = let edge = begins_so b bs is in grind (arith, nat_tests, edge)
 
 ttl_back : (ttl : ℕ) (words : Words) → ttl < 4294967296
     → ttl_in (left (decimal ttl ∷ words)) ≡ Ok (Some ttl, left words)
@@ -189,10 +179,9 @@ line_of line v more entry = rw (more, entry) refl
 
 -- the record's line is read as the record
 pub line_back : (r : Rr) → is_name r.owner ≡ true → list_all is_bytes r.owner ≡ true → r.ttl < 4294967296
-    → r.class ≤ 65535 → r.rtype ≤ 65535 → is_bytes r.rdata ≡ true → length r.rdata ≤ 65535 → is_readable r ≡ true
-    → IsReadBack r
+    → r.class ≤ 65535 → r.rtype ≤ 65535 → is_bytes r.rdata ≡ true → length r.rdata ≤ 65535 → IsReadBack r
 unfolding presentation
-line_back r good bytes ttl class rtype octets short is =
+line_back r good bytes ttl class rtype octets short =
     let rdata = rdata_words r.class r.rtype r.rdata in
     let typed = type_text r.rtype ∷ rdata in
     let classed = class_word r.class ∷ typed in
@@ -208,4 +197,4 @@ line_back r good bytes ttl class rtype octets short is =
     (class_back r.class class))
     (word_means BadType type_in (type_text r.rtype) r.rtype rdata (type_is_word r.rtype rtype)
     (type_back r.rtype rtype))
-    (rdata_back r.class r.rtype r.rdata octets short is))
+    (rdata_back r.class r.rtype r.rdata octets short))

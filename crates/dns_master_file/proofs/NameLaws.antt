@@ -1,5 +1,5 @@
 -- A name that is written is a word, and is read as the same name.
-use Rattle.std.proofs.Common.{◌≡◌, ℕ, suc, ◌+◌, ◌/◌, ◌%◌, ◌<◌, Bool, true, false, ◌&&◌, ◌||◌, ◌==◌, List, [], ◌∷◌, ◌++◌, length, codes, Some, Ok, if◌then◌else◌, refl, sym, ap, ◌∙◌, arith, length-append, inl, inr, subst}
+use Rattle.std.proofs.Common.{◌≡◌, ℕ, suc, ◌+◌, ◌/◌, ◌%◌, ◌<◌, true, false, ◌||◌, ◌==◌, List, [], ◌∷◌, ◌++◌, length, codes, Some, Ok, if◌then◌else◌, refl, sym, ap, ◌∙◌, arith, length-append, inl, inr, subst}
 use Rattle.std.specs.Prelude.{nat_eq, nat_le, nat_lt}
 use Rattle.std.specs.Cmp.Lexicographic.{pointwise}
 use Rattle.std.specs.List.{list_all, flat_map}
@@ -10,10 +10,10 @@ use Rattle.std.proofs.lemmas.Grind.{flat_map-append}
 use Rattle.std.proofs.lemmas.List.{append_assoc, append-nil}
 use Rattle.dns_model.specs.Bytes.{is_bytes}
 use Rattle.dns_model.specs.Names.{Label, Labels, wire, is_label, is_name}
-use Rattle.dns_model.specs.NameText.{dot, backslash, is_special, is_printable, is_digit, three_digits, printed_byte, printed_label, number_of_digits, number_in, escape_in, byte_in, Read, ended, after_dot, labels_read, text_read, within, read_name}
+use Rattle.dns_model.specs.NameText.{dot, backslash, is_special, is_printable, is_digit, three_digits, printed_byte, printed_label, escape_in, byte_in, Read, ended, after_dot, labels_read, text_read, within, read_name}
 use Rattle.dns_model.specs.ResultSteps.{◌>>=◌}
 use Rattle.dns_record.specs.LabelRuns.{read_at}
-use Rattle.dns_record.proofs.TextLemmas.{checked_label, read_at-step}
+use Rattle.dns_record.proofs.TextLemmas.{checked_label, digits_read, no_dot_alone, read_at-step, whole}
 use Rattle.dns_model.specs.Keys.{bytes_eq}
 use Rattle.dns_master_file.specs.Front.{ends_word, run_size}
 use Rattle.dns_master_file.specs.Meanings.{name_meant}
@@ -244,17 +244,6 @@ name_is_word (label ∷ name) good bytes =
 
 -- ---- it is read as the name
 
-digits_read : (byte : ℕ) (rest : List ℕ) → byte < 256 → escape_in (three_digits byte ++ rest) ≡ Some (byte, rest)
-unfolding escape_in number_in
-digits_read byte rest small =
-    let a : is_digit (48 + byte / 100) ≡ true = grind (arith, nat_tests) in
-    let b : is_digit (48 + byte / 10 % 10) ≡ true = grind (arith, nat_tests) in
-    let c : is_digit (48 + byte % 10) ≡ true = grind (arith, nat_tests) in
-    let whole : number_of_digits (48 + byte / 100) (48 + byte / 10 % 10) (48 + byte % 10) ≡ byte = omega arith in
-    let fits : nat_le (number_of_digits (48 + byte / 100) (48 + byte / 10 % 10) (48 + byte % 10)) 255 ≡ true =
-    rw whole (grind (arith, nat_tests)) in
-    rw (a, b, c, fits, whole) refl
-
 after_escape : (label : Label) (byte : ℕ) (text rest : List ℕ) → escape_in text ≡ Some (byte, rest)
     → read_at label (backslash ∷ text) ≡ read_at (label ++ byte ∷ []) rest
 unfolding byte_in
@@ -334,12 +323,6 @@ labels_read_back label (next ∷ name) good bytes =
     dotted (flat_map label_text (next ∷ name)) (names_some next name) in
     label_read label (flat_map label_text (next ∷ name)) of_bytes.0 ∙ rw (checked_label label parts.0, some, more) refl
 
-no_dot_alone : (text : List ℕ) → 1 < length text → pointwise nat_eq text (dot ∷ []) ≡ false
-no_dot_alone [] some = absurd (omega arith)
-no_dot_alone (a ∷ []) some = absurd (omega arith)
-no_dot_alone (a ∷ b ∷ text) some =
-    elim (nat_eq a dot) as (λ (v : Bool). (v && false) ≡ false) [ true ↦ refl | false ↦ refl ]
-
 spelled_some : (byte : ℕ) → 0 < length (spelled_byte byte)
 spelled_some byte =
     elim (cases_Bool (is_special byte || is_marked byte)) [
@@ -360,10 +343,6 @@ two_long (byte ∷ label) name good =
       length-append (flat_map spelled_byte (byte ∷ label)) (dot ∷ []),
       length-append (spelled_byte byte) (flat_map spelled_byte label),
     )
-
-whole : (text : List ℕ) (read : Read) → read_at [] text ≡ read → labels_read (0 ∷ text) [] text ≡ read
-unfolding read_at
-whole text read h = h
 
 names_read : (label : Label) (name : Labels) → is_name (label ∷ name) ≡ true → list_all is_bytes (label ∷ name) ≡ true
     → read_name (flat_map label_text (label ∷ name)) ≡ Ok (label ∷ name)

@@ -21,9 +21,10 @@ use Rattle.dns_model.specs.OptionSteps.{◌>>=◌}
 use Rattle.dns_model.proofs.WireLemmas.{name_in_inverse}
 use Rattle.dns_record.proofs.ReadSteps.{is_bytes-labels}
 use Rattle.dns_text.specs.Words.{octets_word}
+use Rattle.dns_text.proofs.WordShapes.{bytes_below}
 use Rattle.dns_text.proofs.WordLaws.{own}
-use Rattle.dns_master_file.specs.Fields.{fields_in, fields_of}
-use Rattle.dns_presentation.specs.Forms.{Words, base64_word, dnskey_words, ds_words, form_words, mx_words, name_words, nsec3param_words, soa_fields, soa_words, srv_fields, srv_in, srv_of, srv_words, sshfp_words, tlsa_words, whole_counted}
+use Rattle.dns_master_file.specs.Fields.{fields_in}
+use Rattle.dns_presentation.specs.Forms.{Words, base64_word, dnskey_words, ds_words, mx_words, name_words, nsec3param_words, soa_fields, soa_words, srv_fields, srv_in, srv_of, srv_words, sshfp_words, tlsa_words, whole_counted}
 use Rattle.dns_master_file.specs.Front.{word_in}
 use Rattle.dns_master_file.specs.Reading.{after_mark}
 use Rattle.dns_presentation.specs.Spelling.{name_text}
@@ -31,7 +32,7 @@ use Rattle.dns_master_file.specs.declared.field.Field.{Field}
 use Rattle.dns_master_file.specs.declared.field.Field.TheVariants.{Byte, TwoBytes, FourBytes, DomainName, Salt, Digits, Base64}
 use Rattle.dns_master_file.proofs.FieldLaws.{base64_end, byte_step, digits_end, four_step, name_end, name_step, salt_end, no_words, two_step}
 use Rattle.dns_master_file.proofs.NameLaws.{name_is_word, text_begins}
-use Rattle.dns_master_file.proofs.WordLemmas.{bytes_below, decimal_is_word, left, next_word}
+use Rattle.dns_master_file.proofs.WordLemmas.{decimal_is_word, left, next_word}
 
 -- words that are read as this rdata, and don't begin as the form of any rdata does
 pub record IsReadAs (fields : List Field) (rdata : List ℕ) (words : Words) : Type 0 where
@@ -48,13 +49,13 @@ digits_unmarked (c ∷ cs) h =
     let other : nat_eq c 92 ≡ false = grind (arith, nat_tests) in
     rw other refl
 
-number_first : (n : ℕ) (words : Words) → n < 4294967296 → after_mark (word_in (left (decimal n ∷ words))) ≡ None
+pub number_first : (n : ℕ) (words : Words) → n < 4294967296 → after_mark (word_in (left (decimal n ∷ words))) ≡ None
 number_first n words small =
     let fits : n < 18446744073709551616 = omega arith in
     let other = digits_unmarked (decimal n) (digits_decimal own n fits) in
     rw (next_word (decimal n) words (decimal_is_word n fits), other) refl
 
-name_first : (name : Labels) (words : Words) → is_name name ≡ true → list_all is_bytes name ≡ true
+pub name_first : (name : Labels) (words : Words) → is_name name ≡ true → list_all is_bytes name ≡ true
     → after_mark (word_in (left (name_text name ∷ words))) ≡ None
 name_first name words good bytes =
     let begins = text_begins name good bytes in
@@ -64,13 +65,13 @@ name_first name words good bytes =
 -- ---- parts of an rdata
 
 -- a name in front of bytes
-record IsNamed (bytes : List ℕ) (name : Labels) (rest : List ℕ) : Type 0 where
-  whole : bytes ≡ wire name ++ rest
-  good : is_name name ≡ true
-  labels : list_all is_bytes name ≡ true
-  after : is_bytes rest ≡ true
+pub record IsNamed (bytes : List ℕ) (name : Labels) (rest : List ℕ) : Type 0 where
+  pub whole : bytes ≡ wire name ++ rest
+  pub good : is_name name ≡ true
+  pub labels : list_all is_bytes name ≡ true
+  pub after : is_bytes rest ≡ true
 
-named : (bytes : List ℕ) (name : Labels) (rest : List ℕ) → is_bytes bytes ≡ true → name_in bytes ≡ Some (name, rest)
+pub named : (bytes : List ℕ) (name : Labels) (rest : List ℕ) → is_bytes bytes ≡ true → name_in bytes ≡ Some (name, rest)
     → IsNamed bytes name rest
 named bytes name rest h e =
     let read = name_in_inverse bytes name rest e in
@@ -89,10 +90,10 @@ whole_is (Some (n, b ∷ bs)) name h = cc
 all_named : (bytes : List ℕ) (name : Labels) → is_bytes bytes ≡ true → name_of bytes ≡ Some name → IsNamed bytes name []
 all_named bytes name h e = named bytes name [] h (whole_is (name_in bytes) name e)
 
-first_small : (a : ℕ) (rest : List ℕ) → is_bytes (a ∷ rest) ≡ true → a < 256
+pub first_small : (a : ℕ) (rest : List ℕ) → is_bytes (a ∷ rest) ≡ true → a < 256
 first_small a rest h = let parts = and_parts (nat_lt a 256) (is_bytes rest) h in grind (arith, nat_tests, parts.0)
 
-rest_small : (a : ℕ) (rest : List ℕ) → is_bytes (a ∷ rest) ≡ true → is_bytes rest ≡ true
+pub rest_small : (a : ℕ) (rest : List ℕ) → is_bytes (a ∷ rest) ≡ true → is_bytes rest ≡ true
 rest_small a rest h = (and_parts (nat_lt a 256) (is_bytes rest) h).1
 
 -- two bytes in front
@@ -131,7 +132,7 @@ two_read a b fields words more first second others =
 
 -- ---- types of names and numbers
 
-name_law : (rdata : List ℕ) (words : Words) → is_bytes rdata ≡ true → name_words rdata ≡ Some words
+pub name_law : (rdata : List ℕ) (words : Words) → is_bytes rdata ≡ true → name_words rdata ≡ Some words
     → IsReadAs (DomainName ∷ []) rdata words
 unfolding name_words
 name_law rdata words h e = name_law_at (name_of rdata) refl e
@@ -163,7 +164,7 @@ mx_at a b rest words two (Some name) is e =
       reads = two_read a b (DomainName ∷ []) (name_text name ∷ []) rest first second end;
     })
 
-mx_law : (rdata : List ℕ) (words : Words) → is_bytes rdata ≡ true → mx_words rdata ≡ Some words
+pub mx_law : (rdata : List ℕ) (words : Words) → is_bytes rdata ≡ true → mx_words rdata ≡ Some words
     → IsReadAs (TwoBytes ∷ DomainName ∷ []) rdata words
 unfolding mx_words
 mx_law [] words h e = cc
@@ -194,7 +195,7 @@ srv_at a b c d e f rest words one two three (Some name) is h =
       reads = two_read a b _ front _ one.first one.second second;
     })
 
-srv_law : (rdata : List ℕ) (words : Words) → is_bytes rdata ≡ true → srv_words rdata ≡ Some words
+pub srv_law : (rdata : List ℕ) (words : Words) → is_bytes rdata ≡ true → srv_words rdata ≡ Some words
     → IsReadAs (TwoBytes ∷ TwoBytes ∷ TwoBytes ∷ DomainName ∷ []) rdata words
 unfolding srv_words srv_in
 srv_law [] words h e = cc
@@ -214,7 +215,7 @@ srv_law (a ∷ b ∷ c ∷ d ∷ e ∷ f ∷ rest) words h k =
 some_long : (a : ℕ) (rest : List ℕ) → 0 < length (a ∷ rest)
 some_long a rest = omega arith
 
-sshfp_law : (rdata : List ℕ) (words : Words) → is_bytes rdata ≡ true → sshfp_words rdata ≡ Some words
+pub sshfp_law : (rdata : List ℕ) (words : Words) → is_bytes rdata ≡ true → sshfp_words rdata ≡ Some words
     → IsReadAs (Byte ∷ Byte ∷ Digits ∷ []) rdata words
 unfolding sshfp_words
 sshfp_law [] words h e = cc
@@ -233,7 +234,7 @@ sshfp_law (a ∷ b ∷ c ∷ rest) words h e =
       reads = byte_step a _ front _ two.first (byte_step b _ last _ two.second end);
     })
 
-tlsa_law : (rdata : List ℕ) (words : Words) → is_bytes rdata ≡ true → tlsa_words rdata ≡ Some words
+pub tlsa_law : (rdata : List ℕ) (words : Words) → is_bytes rdata ≡ true → tlsa_words rdata ≡ Some words
     → IsReadAs (Byte ∷ Byte ∷ Byte ∷ Digits ∷ []) rdata words
 unfolding tlsa_words
 tlsa_law [] words h e = cc
@@ -255,7 +256,7 @@ tlsa_law (a ∷ b ∷ c ∷ d ∷ rest) words h e =
       reads = byte_step a _ front _ two.first (byte_step b _ middle _ two.second (byte_step c _ last _ c_small end));
     })
 
-ds_law : (rdata : List ℕ) (words : Words) → is_bytes rdata ≡ true → ds_words rdata ≡ Some words
+pub ds_law : (rdata : List ℕ) (words : Words) → is_bytes rdata ≡ true → ds_words rdata ≡ Some words
     → IsReadAs (TwoBytes ∷ Byte ∷ Byte ∷ Digits ∷ []) rdata words
 unfolding ds_words ds_in
 ds_law [] words h e = cc
@@ -282,7 +283,7 @@ ds_law (a ∷ b ∷ c ∷ d ∷ f ∷ rest) words h e =
       reads = two_read a b _ front _ one.first one.second more;
     })
 
-dnskey_law : (rdata : List ℕ) (words : Words) → is_bytes rdata ≡ true → dnskey_words rdata ≡ Some words
+pub dnskey_law : (rdata : List ℕ) (words : Words) → is_bytes rdata ≡ true → dnskey_words rdata ≡ Some words
     → IsReadAs (TwoBytes ∷ Byte ∷ Byte ∷ Base64 ∷ []) rdata words
 unfolding dnskey_words dnskey_in
 dnskey_law [] words h e = cc
@@ -360,7 +361,7 @@ nsec3param_at a b c d rest words one two (Some salt) is e =
       reads = byte_step a _ front _ one.first (byte_step b _ middle _ one.second more);
     })
 
-nsec3param_law : (rdata : List ℕ) (words : Words) → is_bytes rdata ≡ true → nsec3param_words rdata ≡ Some words
+pub nsec3param_law : (rdata : List ℕ) (words : Words) → is_bytes rdata ≡ true → nsec3param_words rdata ≡ Some words
     → IsReadAs (Byte ∷ Byte ∷ TwoBytes ∷ Salt ∷ []) rdata words
 unfolding nsec3param_words
 nsec3param_law [] words h e = cc
@@ -375,7 +376,8 @@ nsec3param_law (a ∷ b ∷ c ∷ d ∷ rest) words h e =
 
 -- ---- SOA
 
-drop_at : (bytes : List ℕ) (p q : ℕ) → suc p ≡ q → p < length bytes → drop p bytes ≡ slice_index bytes p ∷ drop q bytes
+pub drop_at : (bytes : List ℕ) (p q : ℕ) → suc p ≡ q → p < length bytes
+    → drop p bytes ≡ slice_index bytes p ∷ drop q bytes
 drop_at bytes p q next long =
     drop-cons bytes p 0 long ∙ ap (λ n. slice_index bytes p ∷ drop n bytes) next
 
@@ -393,7 +395,7 @@ drop_four bytes p long =
     ∙ ap (λ l. slice_index bytes p ∷ slice_index bytes (p + 1) ∷ l) three
     ∙ ap (λ l. slice_index bytes p ∷ slice_index bytes (p + 1) ∷ slice_index bytes (p + 2) ∷ l) four
 
-four_at : (bytes : List ℕ) (p : ℕ) → is_bytes bytes ≡ true → p + 4 ≤ length bytes
+pub four_at : (bytes : List ℕ) (p : ℕ) → is_bytes bytes ≡ true → p + 4 ≤ length bytes
     → u32_bytes (u32_at bytes p) ++ drop (p + 4) bytes ≡ drop p bytes
 four_at bytes p h long =
     let below = bytes_below bytes h in
@@ -403,7 +405,7 @@ four_at bytes p h long =
     (below p) (below (p + 1)) (below (p + 2)) (below (p + 2 + 1)) in
     ap (λ front. front ++ drop (p + 4) bytes) bytes_are ∙ sym (drop_four bytes p long)
 
-four_below : (bytes : List ℕ) (p : ℕ) → is_bytes bytes ≡ true → u32_at bytes p < 4294967296
+pub four_below : (bytes : List ℕ) (p : ℕ) → is_bytes bytes ≡ true → u32_at bytes p < 4294967296
 four_below bytes p h =
     let below = bytes_below bytes h in
     let a = below p in
@@ -413,7 +415,7 @@ four_below bytes p h =
     omega arith
 
 -- one number more, before those at the next place
-number_read : (bytes : List ℕ) (p q : ℕ) (fields : List Field) (words : Words) → is_bytes bytes ≡ true → p + 4 ≡ q
+pub number_read : (bytes : List ℕ) (p q : ℕ) (fields : List Field) (words : Words) → is_bytes bytes ≡ true → p + 4 ≡ q
     → q ≤ length bytes → fields_in fields (left words) ≡ Ok (drop q bytes)
     → fields_in (FourBytes ∷ fields) (left (decimal (u32_at bytes p) ∷ words)) ≡ Ok (drop p bytes)
 number_read bytes p q fields words h next long others =
@@ -444,7 +446,7 @@ numbers_read bytes h size =
     let refresh = number_read bytes 4 8 _ second h refl (omega arith) retry in
     number_read bytes 0 4 _ first h refl (omega arith) refresh
 
-abbrev soa_form : List Field
+abbrev pub soa_form : List Field
 soa_form = DomainName ∷ DomainName ∷ FourBytes ∷ FourBytes ∷ FourBytes ∷ FourBytes ∷ FourBytes ∷ []
 
 soa_at : (rdata rest : List ℕ) (mname rname : Labels) (numbers : List ℕ) (words : Words) → IsNamed rdata mname rest
@@ -485,55 +487,7 @@ soa_front rdata words h None is e = cc
 soa_front rdata words h (Some (mname, rest)) is e =
     soa_rest rdata rest mname words (named rdata mname rest h is) (name_in rest) refl e
 
-soa_law : (rdata : List ℕ) (words : Words) → is_bytes rdata ≡ true → soa_words rdata ≡ Some words
+pub soa_law : (rdata : List ℕ) (words : Words) → is_bytes rdata ≡ true → soa_words rdata ≡ Some words
     → IsReadAs soa_form rdata words
 unfolding soa_words soa_in
 soa_law rdata words h e = soa_front rdata words h (name_in rdata) refl e
-
--- ---- all types that are read
-
-abbrev HasLaw : List ℕ → Words → List Field → ℕ → Type 0
-HasLaw rdata words fields rtype =
-    form_words rtype rdata ≡ Some words → fields_of rtype ≡ Some fields → IsReadAs fields rdata words
-
--- the law of one type, by its number
-of_type : (rdata : List ℕ) (words : Words) (fields form : List Field) (rtype number : ℕ) → (rtype == number) ≡ true
-    → fields_of number ≡ Some form
-    → (form_words number rdata ≡ Some words → IsReadAs form rdata words) → HasLaw rdata words fields rtype
-of_type rdata words fields form rtype number is table law e f =
-    let same = eqb-true rtype number is in
-    let known : form ≡ fields = same_Some _ _ (sym table ∙ ap fields_of (sym same) ∙ f) in
-    subst (λ form. IsReadAs form rdata words) known (law (ap (λ n. form_words n rdata) (sym same) ∙ e))
-
--- a type that is one of these, or one that is another
-type_or : (rdata : List ℕ) (words : Words) (fields form : List Field) (rtype number : ℕ) → fields_of number ≡ Some form
-    → (form_words number rdata ≡ Some words → IsReadAs form rdata words)
-    → ((rtype == number) ≡ false → HasLaw rdata words fields rtype) → HasLaw rdata words fields rtype
-type_or rdata words fields form rtype number table law others =
-    elim (cases_Bool (rtype == number)) [
-      | inl is ↦ of_type rdata words fields form rtype number is table law
-      | inr isnt ↦ others isnt
-    ]
-
-pub form_law : (rtype : ℕ) (rdata : List ℕ) (words : Words) (fields : List Field) → is_bytes rdata ≡ true
-    → HasLaw rdata words fields rtype
-unfolding form_words fields_of
-form_law rtype rdata words fields h =
-    type_or rdata words fields _ rtype 2 refl (name_law rdata words h) λ n2.
-    type_or rdata words fields _ rtype 5 refl (name_law rdata words h) λ n5.
-    type_or rdata words fields _ rtype 12 refl (name_law rdata words h) λ n12.
-    type_or rdata words fields _ rtype 39 refl (name_law rdata words h) λ n39.
-    type_or rdata words fields _ rtype 6 refl (soa_law rdata words h) λ n6.
-    type_or rdata words fields _ rtype 15 refl (mx_law rdata words h) λ n15.
-    type_or rdata words fields _ rtype 33 refl (srv_law rdata words h) λ n33.
-    type_or rdata words fields _ rtype 43 refl (ds_law rdata words h) λ n43.
-    type_or rdata words fields _ rtype 59 refl (ds_law rdata words h) λ n59.
-    type_or rdata words fields _ rtype 44 refl (sshfp_law rdata words h) λ n44.
-    type_or rdata words fields _ rtype 48 refl (dnskey_law rdata words h) λ n48.
-    type_or rdata words fields _ rtype 60 refl (dnskey_law rdata words h) λ n60.
-    type_or rdata words fields _ rtype 51 refl (nsec3param_law rdata words h) λ n51.
-    type_or rdata words fields _ rtype 52 refl (tlsa_law rdata words h) λ n52.
-    type_or rdata words fields _ rtype 53 refl (tlsa_law rdata words h) λ n53.
-    λ e f.
-    let none : None ≡ Some fields =
-    rw (n2, n5, n12, n39, n6, n15, n33, n43, n59, n44, n48, n60, n51, n52, n53) at f in cc

@@ -1,24 +1,33 @@
 -- Words with a space before each are read as the same words.
 use Rattle.std.proofs.Common.{◌≡◌, ℕ, zero, suc, ◌+◌, ◌^◌, ◌<◌, ◌≤◌, Bool, true, false, not, ◌&&◌, ◌==◌, List, [], ◌∷◌, ◌++◌, length, take, drop, codes, Result, Ok, unwrap_or, refl, sym, ap, ◌∙◌, arith, length-append, inl, inr}
-use Rattle.std.specs.Prelude.{nat_lt}
-use Rattle.std.specs.Char.{is_ascii_digit}
+use Rattle.std.specs.Prelude.{nat_eq, nat_lt, All, get_or}
+use Rattle.std.specs.Char.{is_ascii_alphanumeric, is_ascii_digit}
+use Rattle.std.specs.Net.Addr.{octets_of}
+use Rattle.std.specs.Net.Text.{hex_groups_text, ipv4_text, ipv6_text}
 use Rattle.std.specs.Fmt.{decimal}
 use Rattle.std.specs.List.{list_all}
 use Rattle.std.specs.Str.{all_ascii_digits}
 use Rattle.std.proofs.Math.Seq.{take-append_seam, drop-append_seam}
-use Rattle.std.proofs.lemmas.Bool.{cases_Bool, and_parts, ltb-true}
+use Rattle.std.proofs.lemmas.Bool.{cases_Bool, and_parts}
 use Rattle.std.proofs.lemmas.Bool.Decides.{nat_tests}
 use Rattle.std.proofs.lemmas.Fmt.{decimal_nonempty, digits_decimal}
+use Rattle.std.proofs.NetLemmas.Alphabet.{All-hex_groups_text, All-ipv4_text, IsDigitOrDot, IsHexOrColon}
+use Rattle.std.proofs.NetLemmas.Texts.{AllSegments, AllSegments-drop}
+use Rattle.std.proofs.lemmas.List.Elements.{All-weaker}
 use Rattle.std.proofs.lemmas.List.Folds.{list_all-append}
 use Rattle.std.proofs.lemmas.List.Sums.{list_all-from_AllPass}
-use Rattle.hex.specs.Hex.{IsBytes, encode_lower, is_hex_digit}
+use Rattle.hex.specs.Hex.{encode_lower, is_hex_digit}
 use Rattle.hex.proofs.HexLemmas.{decode_of-encode_lower, decode_of-ok}
 use Rattle.dns_model.specs.Bytes.{is_bytes}
 use Rattle.dns_model.specs.NameText.{backslash}
 use Rattle.dns_record.specs.Words.{Row, class_rows, class_word, own_word, type_rows, type_word}
 use Rattle.dns_text.specs.Words.{octets_word}
 use Rattle.dns_text.proofs.WordLaws.{own}
-use Rattle.dns_master_file.specs.Front.{after_blanks, ends_word, is_blank, is_bracket, run_size, semicolon, word_in}
+use Rattle.dns_text.proofs.WordShapes.{bytes_below}
+use Rattle.dns_model.specs.Keys.{bytes_eq}
+use Rattle.dns_presentation.specs.Calendar.{time_text}
+use Rattle.dns_master_words.proofs.TimeLaws.{time_digits, time_size}
+use Rattle.dns_master_file.specs.Front.{after_blanks, ends_word, is_blank, is_bracket, is_over, run_size, semicolon, word_in}
 use Rattle.dns_master_file.specs.declared.stop.Stop.{Stop}
 use Rattle.dns_presentation.specs.Spelling.{quote, spaced}
 use Rattle.dns_presentation.specs.TypeTexts.{further_rows, type_text}
@@ -97,6 +106,11 @@ pub first_word : (word : List ℕ) (words : List (List ℕ)) → IsWord word
     → word_in (word ++ spaced words) ≡ Ok (word, left words)
 first_word word words is = word_read word (spaced words) is (spaced_ends words)
 
+-- more than a comment is left
+pub never_over : (text more : List ℕ) → IsWord text → is_over (text ++ more) ≡ false
+never_over [] more is = let none : [] ≡ is.first ∷ is.rest = is.spelled in cc
+never_over (b ∷ bs) more is = let edge = begins_so b bs is in grind (arith, nat_tests, edge)
+
 -- ---- words of bytes that mean themselves
 
 abbrev pub is_plain_byte : ℕ → Bool
@@ -151,12 +165,6 @@ decimal_is_word n h = plain_word (decimal n) (decimal_plain n h) (decimal_nonemp
 
 -- ---- hexadecimal digits
 
--- bytes, as hexadecimal digits and base64 ask for them
-pub bytes_below : (bytes : List ℕ) → is_bytes bytes ≡ true → IsBytes bytes
-bytes_below [] h i = omega arith
-bytes_below (b ∷ bs) h zero = let parts = and_parts (nat_lt b 256) (is_bytes bs) h in ltb-true b 256 parts.0
-bytes_below (b ∷ bs) h (suc i) = let parts = and_parts (nat_lt b 256) (is_bytes bs) h in bytes_below bs parts.1 i
-
 hex_plain : (c : ℕ) → is_hex_digit c ≡ true → is_plain_byte c ≡ true
 hex_plain c h = grind (arith, nat_tests)
 
@@ -188,7 +196,7 @@ own_plain (row ∷ rows) n other rows_are is =
       | inr apart ↦ rw apart (own_plain rows n other parts.1 is)
     ]
 
-plain_append : (a b : List ℕ) → is_plain a ≡ true → is_plain b ≡ true → is_plain (a ++ b) ≡ true
+pub plain_append : (a b : List ℕ) → is_plain a ≡ true → is_plain b ≡ true → is_plain (a ++ b) ≡ true
 plain_append a b first second = rw (list_all-append is_plain_byte a b, first, second) refl
 
 -- words of rows, or another, have a byte
@@ -214,7 +222,7 @@ unfolding class_word
 class_some n within =
     own_some class_rows n (codes "CLASS" ++ decimal n) refl (omega (arith, length-append (codes "CLASS") (decimal n)))
 
-type_plain : (n : ℕ) → n ≤ 65535 → is_plain (type_text n) ≡ true
+pub type_plain : (n : ℕ) → n ≤ 65535 → is_plain (type_text n) ≡ true
 unfolding type_text type_word
 type_plain n within =
     own_plain further_rows n (type_word n) refl
@@ -232,3 +240,64 @@ type_is_word n within = plain_word (type_text n) (type_plain n within) (type_som
 
 pub class_is_word : (n : ℕ) → n ≤ 65535 → IsWord (class_word n)
 class_is_word n within = plain_word (class_word n) (class_plain n within) (class_some n within)
+
+-- ---- times, addresses and tags
+
+pub time_is_word : (n : ℕ) → IsWord (time_text n)
+time_is_word n =
+    let size = time_size n in
+    plain_word (time_text n) (digits_plain (time_text n) (time_digits n)) (omega (arith, size))
+
+all_plain : (P : ℕ → Type 0) (word : List ℕ) → All P word → ((c : ℕ) → P c → is_plain_byte c ≡ true)
+    → is_plain word ≡ true
+all_plain P word all each =
+    list_all-from_AllPass is_plain_byte word (All-weaker P (λ c. is_plain_byte c ≡ true) each word all)
+
+-- digits and dots
+ipv4_byte : (c : ℕ) → IsDigitOrDot c → is_plain_byte c ≡ true
+ipv4_byte c h = grind (arith, nat_tests)
+
+-- hexadecimal digits and colons
+ipv6_byte : (c : ℕ) → IsHexOrColon c → is_plain_byte c ≡ true
+ipv6_byte c h = grind (arith, nat_tests)
+
+pub ipv4_plain : (octets : List ℕ) → ((k : ℕ) → get_or octets k 0 < 2 ^ 8) → is_plain (ipv4_text octets) ≡ true
+ipv4_plain octets below = all_plain IsDigitOrDot (ipv4_text octets) (All-ipv4_text octets below) ipv4_byte
+
+pub ipv6_plain : (segments : List ℕ) → AllSegments segments → is_plain (ipv6_text segments) ≡ true
+unfolding ipv6_text
+ipv6_plain segments below =
+    elim (cases_Bool (bytes_eq (take 6 segments) (0 ∷ 0 ∷ 0 ∷ 0 ∷ 0 ∷ 0xffff ∷ []))) [
+      | inl mapped ↦
+          let octets = octets_of (drop 6 segments) in
+          let last = ipv4_plain octets (octets_below (drop 6 segments) (AllSegments-drop 6 segments below)) in
+          rw mapped (plain_append (codes "::ffff:") (ipv4_text octets) refl last)
+      | inr groups ↦
+          rw groups
+          (all_plain IsHexOrColon (hex_groups_text segments) (All-hex_groups_text segments below) ipv6_byte)
+    ]
+  where
+    octets_below : (segments : List ℕ) → AllSegments segments → (k : ℕ) → get_or (octets_of segments) k 0 < 2 ^ 8
+    octets_below [] below k = omega arith
+    octets_below (s ∷ segments) below zero = let small : s < 65536 = below 0 in omega arith
+    octets_below (s ∷ segments) below (suc zero) = omega arith
+    octets_below (s ∷ segments) below (suc (suc k)) = octets_below segments (λ i. below (suc i)) k
+
+-- letters and digits
+pub alphanumeric_plain : (word : List ℕ) → list_all is_ascii_alphanumeric word ≡ true → is_plain word ≡ true
+alphanumeric_plain [] h = refl
+alphanumeric_plain (c ∷ cs) h =
+    let parts = and_parts (is_ascii_alphanumeric c) (list_all is_ascii_alphanumeric cs) h in
+    rw (plain_letter c parts.0) (alphanumeric_plain cs parts.1)
+  where
+    plain_letter : (c : ℕ) → is_ascii_alphanumeric c ≡ true → is_plain_byte c ≡ true
+    plain_letter c h = grind (arith, nat_tests)
+
+-- a word of bytes that mean themselves isn't `\#`
+pub plain_unmarked : (word : List ℕ) → is_plain word ≡ true → bytes_eq word (codes "\\#") ≡ false
+plain_unmarked [] h = refl
+plain_unmarked (c ∷ cs) h =
+    let parts = and_parts (is_plain_byte c) (is_plain cs) h in
+    let tests = and_parts (not (ends_word c)) (not (c == backslash)) parts.0 in
+    let slash : nat_eq c 92 ≡ false = not_so (c == backslash) tests.1 in
+    rw slash refl

@@ -1,11 +1,11 @@
 -- The words at the front of what is left of a line (RFC 1035, 5.1). What is left begins with no blank.
-use Rattle.std.specs.Prelude.{ℕ, suc, Bool, true, false, not, ◌==◌, ◌&&◌, ◌||◌, List, [], ◌∷◌, ◌++◌, length, take, drop, if◌then◌else◌, Option, Result, Ok, Err}
+use Rattle.std.specs.Prelude.{ℕ, suc, ◌+◌, Bool, true, false, not, ◌==◌, ◌&&◌, ◌||◌, nat_lt, List, [], ◌∷◌, ◌++◌, length, take, drop, if◌then◌else◌, Option, Result, Ok, Err}
 use Rattle.dns_model.specs.Gives.{or_error}
 use Rattle.dns_model.specs.NameText.{backslash}
 use Rattle.dns_model.specs.ResultSteps.{◌>>=◌}
 use Rattle.dns_presentation.specs.Spelling.{quote}
 use Rattle.dns_master_file.specs.declared.stop.Refusal.{Refusal}
-use Rattle.dns_master_file.specs.declared.stop.Refusal.TheVariants.{MissingWord, QuotedWord, Bracket}
+use Rattle.dns_master_file.specs.declared.stop.Refusal.TheVariants.{MissingWord, OpenQuote, QuotedWord, Bracket}
 use Rattle.dns_master_file.specs.declared.stop.Stop.{Stop}
 use Rattle.dns_master_file.specs.declared.stop.Stop.TheVariants.{At}
 
@@ -58,6 +58,27 @@ word_in (byte ∷ rest) =
     else if is_bracket byte then refused Bracket (byte ∷ rest)
     else Ok (word_cut (byte ∷ rest))
 
+-- how many bytes stand before the closing quote, after a backslash or not; where there is none, all of them
+unfoldable pub quoted_size : Bool → List ℕ → ℕ
+quoted_size escaped [] = 0
+quoted_size escaped (byte ∷ rest) =
+    if not escaped && (byte == quote) then 0 else suc (quoted_size (not escaped && (byte == backslash)) rest)
+
+-- what stands between quotes, given what stands after the first of them, and what is left after the other
+abbrev pub quoted_cut : List ℕ → List ℕ × List ℕ
+quoted_cut bytes = (take (quoted_size false bytes) bytes, after_blanks (drop (quoted_size false bytes + 1) bytes))
+
+-- a text between quotes
+unfoldable pub quoted_in : List ℕ → Result (List ℕ × List ℕ) Stop
+quoted_in [] = refused MissingWord []
+quoted_in (byte ∷ rest) =
+    if nat_lt (quoted_size false rest) (length rest) then Ok (quoted_cut rest) else refused OpenQuote (byte ∷ rest)
+
+-- the text at the front as it stands, which is a word or stands between quotes, and what is left after it
+unfoldable pub text_word : List ℕ → Result (List ℕ × List ℕ) Stop
+text_word [] = refused MissingWord []
+text_word (byte ∷ rest) = if byte == quote then quoted_in (byte ∷ rest) else word_in (byte ∷ rest)
+
 -- what the word at the front means, refused for this reason where it means nothing, and what is left after it
 abbrev pub word_as : {X : Type 0} → Refusal → (List ℕ → Option X) → List ℕ → Result (X × List ℕ) Stop
 word_as reason meaning bytes = do
@@ -81,3 +102,16 @@ joined_in (byte ∷ rest) =
     else if byte == quote then refused QuotedWord (byte ∷ rest)
     else if is_bracket byte then refused Bracket (byte ∷ rest)
     else with_bytes (unblanked byte) (joined_in rest)
+
+-- ---- what is left, item by item
+
+-- the items that are left, each read so; the first list only bounds how many are read
+unfoldable pub items_in : {X : Type 0} → (List ℕ → Result (X × List ℕ) Stop) → List ℕ → List ℕ → Result (List X) Stop
+items_in read [] bytes = Ok []
+items_in read (_ ∷ bound) bytes =
+    if is_over bytes then Ok []
+    else read bytes >>= λ first. items_in read bound first.1 >>= λ more. Ok (first.0 ∷ more)
+
+-- all items that are left
+unfoldable pub all_in : {X : Type 0} → (List ℕ → Result (X × List ℕ) Stop) → List ℕ → Result (List X) Stop
+all_in read bytes = items_in read bytes bytes

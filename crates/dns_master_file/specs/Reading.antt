@@ -6,13 +6,13 @@ use Rattle.dns_model.specs.Names.{Labels}
 use Rattle.dns_model.specs.ResultSteps.{◌>>=◌}
 use Rattle.dns_model.specs.Types.{has_shapes}
 use Rattle.dns_text.specs.Words.{decimal_in}
-use Rattle.dns_master_file.specs.Codes.{class_in, type_in}
-use Rattle.dns_master_file.specs.Fields.{fields_in, fields_of}
+use Rattle.dns_master_file.specs.Codes.{class_in}
+use Rattle.dns_master_file.specs.Fields.{fields_in, fields_of, type_first}
 use Rattle.dns_master_file.specs.Meanings.{digits_meant, name_meant}
 use Rattle.dns_master_file.specs.Front.{after_blanks, is_blank, is_over, joined_in, refused, word_as, word_in}
 use Rattle.dns_master_file.specs.declared.stop.LineError.{LineError}
 use Rattle.dns_master_file.specs.declared.stop.LineError.TheVariants as error
-use Rattle.dns_master_file.specs.declared.stop.Refusal.TheVariants.{BadClass, BadDigits, BadLength, BadName, BadNumber, BadType, Directive, LongRdata, NoForm, NoOwner}
+use Rattle.dns_master_file.specs.declared.stop.Refusal.TheVariants.{BadClass, BadDigits, BadLength, BadName, BadNumber, Directive, LongRdata, NoForm, NoOwner}
 use Rattle.dns_master_file.specs.declared.stop.Stop.{Stop}
 use Rattle.dns_master_file.specs.declared.stop.Stop.TheVariants.{At, NoMemory}
 
@@ -88,7 +88,7 @@ entry_in bytes = do
   owner ← owner_in bytes
   ttl ← ttl_in owner.1
   class ← word_as BadClass class_in ttl.1
-  rtype ← word_as BadType type_in class.1
+  rtype ← type_first class.1
   rdata ← rdata_in class.0 rtype.0 rtype.1
   Ok (record { owner = owner.0; ttl = ttl.0; class = class.0; rtype = rtype.0; rdata = rdata })
 

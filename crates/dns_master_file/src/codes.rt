@@ -64,7 +64,7 @@ fn further_type(word: &[u8]) -> Option<u16>
 
 /// The type that a word is: a type's own word, or `TYPE` and any type's number (RFC 3597, 5).
 #[tactic(auto, unfolding(crate::specs::Codes::type_in))]
-pub(crate) fn type_of_word(word: &[u8]) -> Option<RecordType>
+pub fn type_of_word(word: &[u8]) -> Option<RecordType>
     ensures { option_map (λ t. t.0) result ≡ type_in word.now }
 {
     if let Some(number) = further_type(word) {

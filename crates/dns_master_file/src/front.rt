@@ -3,7 +3,7 @@ ghost use Rattle.std.specs.Prelude.{◌≡◌, ◌≤◌, ◌++◌, false, lengt
 ghost use Rattle.std.specs.Result.{result_map_both};
 ghost use Rattle.dns_model.specs.Gives.{Gives};
 ghost use Rattle.dns_text.specs.Words.{decimal_in as decimal_meant};
-ghost use Rattle.dns_master_file.specs.Front.{after_blanks as blanks_passed, ends_word as ends_a_word, is_blank as is_a_blank, is_bracket as is_a_bracket, is_over as is_past, joined_in, run_size as size_of_run, unblanked, word_as, word_in};
+ghost use Rattle.dns_master_file.specs.Front.{after_blanks as blanks_passed, ends_word as ends_a_word, is_blank as is_a_blank, is_bracket as is_a_bracket, is_over as is_past, joined_in, quoted_in, quoted_size as size_of_quoted, run_size as size_of_run, text_word, unblanked, word_as, word_in};
 ghost use Rattle.dns_master_file.specs.Reading.{after_mark as past_mark};
 ghost use Rattle.dns_master_file.specs.declared.stop.Refusal.TheVariants.{BadNumber as bad_number};
 ghost use Rattle.dns_master_file.specs.declared.stop.Stop.TheVariants.{NoMemory as no_memory};
@@ -94,6 +94,54 @@ pub(crate) fn word_front(bytes: &[u8]) -> Result<(&[u8], &[u8]), Stop>
     }
     let (word, rest) = bytes.split_at(run_size(bytes));
     Ok((word, after_blanks(rest)))
+}
+
+// How many bytes stand before the closing quote, or all of them where there is none.
+#[tactic(auto, unfolding(crate::specs::Front::quoted_size))]
+fn quoted_size(bytes: &[u8]) -> usize
+    ensures size { result ≡ size_of_quoted false bytes.now }
+    ensures within { result ≤ length bytes.now }
+{
+    let mut escaped = false;
+    let mut rest = bytes;
+    'bytes: while let Some((byte, more)) = rest.split_first() {
+        if !escaped && *byte == b'"' {
+            return bytes.len() - rest.len();
+        }
+        escaped = !escaped && *byte == b'\\';
+        rest = more;
+    }
+    bytes.len()
+}
+
+// What stands between the quotes at the front, and what is left after them.
+#[tactic(auto, unfolding(crate::specs::Front::quoted_in))]
+fn quoted_front(bytes: &[u8]) -> Result<(&[u8], &[u8]), Stop>
+    ensures { result_map_both (λ p. (p.0.now, p.1.now)) (λ stop. stop) result ≡ quoted_in bytes.now }
+{
+    let Some((_, rest)) = bytes.split_first() else {
+        return Err(Stop::At(Refusal::MissingWord, 0));
+    };
+    let size = quoted_size(rest);
+    if size >= rest.len() {
+        return Err(Stop::At(Refusal::OpenQuote, bytes.len()));
+    }
+    Ok((&rest[..size], after_blanks(&rest[size + 1..])))
+}
+
+/// The text at the front as it stands, which is a word or stands between quotes, and what is left after it.
+#[tactic(auto, unfolding(crate::specs::Front::text_word))]
+pub(crate) fn text_front(bytes: &[u8]) -> Result<(&[u8], &[u8]), Stop>
+    ensures { result_map_both (λ p. (p.0.now, p.1.now)) (λ stop. stop) result ≡ text_word bytes.now }
+{
+    let Some((first, _)) = bytes.split_first() else {
+        return Err(Stop::At(Refusal::MissingWord, 0));
+    };
+    if *first == b'"' {
+        quoted_front(bytes)
+    } else {
+        word_front(bytes)
+    }
 }
 
 /// What is left after the word `\#`, if it is in front (RFC 3597, 5).

@@ -1,7 +1,7 @@
 //! A law: a record is read as it was written. It is the contract of a function that does nothing.
 ghost use Rattle.std.specs.Prelude.{◌≡◌, ◌≤◌, ◌<◌, true};
 ghost use Rattle.dns_model.specs.Bytes.{is_bytes};
-ghost use Rattle.dns_master_file.specs.Laws.{IsReadBack, is_readable};
+ghost use Rattle.dns_master_file.specs.Laws.{IsReadBack};
 
 use dns_record::Record;
 
@@ -29,10 +29,10 @@ fn known_u32(number: u32) -> u32
     number
 }
 
-/// A law: the line that `presentation` writes of a record is read by `read_line` as the same owner, ttl, class, type and rdata, where
-/// the rdata stands as its bytes or the type's own form is read: for all types but A, AAAA, TXT, CAA, RRSIG, NSEC and NSEC3.
+/// A law: the line that `presentation` writes of a record, of any type and class, is read by `read_line` as the same owner, ttl, class,
+/// type and rdata.
 pub fn written_records_are_read(_record: &Record)
-    ensures { is_readable _record.now ≡ true → IsReadBack _record.now }
+    ensures { IsReadBack _record.now }
 {
     let _owner = _record.name.borrowed().copy();
     let _kind = known_u16(_record.record_type.0);

@@ -7,9 +7,11 @@ mod field;
 mod front;
 mod laws;
 mod meanings;
+mod rdata;
 mod reading;
 mod stop;
 
+pub use codes::type_of_word;
 pub use laws::written_records_are_read;
 pub use reading::{RecordLine, read_line};
 pub use stop::{LineError, Refusal};

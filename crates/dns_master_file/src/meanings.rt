@@ -1,14 +1,17 @@
-//! What the words of an rdata mean (RFC 1035, 3.3 and 5.1; RFC 4034; RFC 4648; RFC 5155).
+//! What the words of an rdata mean (RFC 1035, 3.3 and 5.1; RFC 3596; RFC 4034; RFC 4648; RFC 5155; RFC 8659).
 ghost use Rattle.std.specs.Prelude.{◌≡◌, IfOk};
 ghost use Rattle.std.specs.Option.{option_map};
-ghost use Rattle.dns_master_file.specs.Meanings.{base64_meant as base64_in, digits_meant as digits_in, filled as filled_bytes, meant as meant_by, name_meant as name_in};
-ghost use Rattle.dns_master_file.specs.declared.field.Field.TheVariants.{DomainName, FourBytes, Salt, TwoBytes};
+ghost use Rattle.dns_master_file.specs.Meanings.{base64_meant as base64_in, counted as counted_bytes, digits_meant as digits_in, filled as filled_bytes, meant as meant_by, name_meant as name_in};
+ghost use Rattle.dns_master_file.specs.declared.field.Field.TheVariants.{DomainName, FourBytes, Hash, Ipv4, Ipv6, Salt, Tag, Time, TwoBytes, TypeWord};
 
+use crate::codes::type_of_word;
 use crate::field::Field;
 use base64::DecodeAllocError;
 use base64::engine::general_purpose::STANDARD;
+use dns_master_words::{ipv4_in, ipv6_in, text_in, time_in};
 use dns_model::NameError;
-use dns_rdata::{push_u16, push_u32};
+use dns_presentation::is_tag;
+use dns_rdata::{base32hex_decode, push_u16, push_u32};
 use dns_record::{Name, NoMemory};
 use dns_text::{decimal_in, octets_in, u8_in, u16_in};
 use hex::FromHexError;
@@ -60,21 +63,72 @@ fn filled(bytes: Option<Vec<u8>>) -> Option<Vec<u8>>
     if bytes.is_empty() { None } else { Some(bytes) }
 }
 
-// The bytes of a salt behind their number, which has eight bits.
-#[tactic(auto, unfolding(crate::specs::Meanings::meant))]
-fn salt_meant(alloc: Global, word: &[u8]) -> Result<Option<Vec<u8>>, NoMemory>
-    ensures { IfOk result (λ b. option_map (λ v. v.items) b ≡ meant_by Salt word.now) }
+/// Bytes behind their number, if that has eight bits.
+pub(crate) fn counted(alloc: Global, octets: &[u8]) -> Result<Option<Vec<u8>>, NoMemory>
+    ensures { IfOk result (λ b. option_map (λ v. v.items) b ≡ counted_bytes octets.now) }
 {
-    let Some(salt) = octets_in(alloc, word)? else {
-        return Ok(None);
-    };
-    let octets = salt.as_slice();
     if octets.len() > 255 {
         return Ok(None);
     }
     let mut bytes = Vec::from_slice(alloc, &[octets.len() as u8])?;
     bytes.extend_from_slice(octets)?;
     Ok(Some(bytes))
+}
+
+// The bytes of a salt behind their number.
+#[tactic(auto, unfolding(crate::specs::Meanings::meant))]
+fn salt_meant(alloc: Global, word: &[u8]) -> Result<Option<Vec<u8>>, NoMemory>
+    ensures { IfOk result (λ b. option_map (λ v. v.items) b ≡ meant_by Salt word.now) }
+{
+    match octets_in(alloc, word)? {
+        Some(salt) => counted(alloc, salt.as_slice()),
+        None => Ok(None),
+    }
+}
+
+// The bytes of a tag behind their number.
+#[tactic(auto, unfolding(crate::specs::Meanings::meant))]
+fn tag_meant(alloc: Global, word: &[u8]) -> Result<Option<Vec<u8>>, NoMemory>
+    ensures { IfOk result (λ b. option_map (λ v. v.items) b ≡ meant_by Tag word.now) }
+{
+    if is_tag(word) {
+        counted(alloc, word)
+    } else {
+        Ok(None)
+    }
+}
+
+// The bytes of a hash behind their number.
+#[tactic(auto, unfolding(crate::specs::Meanings::meant))]
+fn hash_meant(alloc: Global, word: &[u8]) -> Result<Option<Vec<u8>>, NoMemory>
+    ensures { IfOk result (λ b. option_map (λ v. v.items) b ≡ meant_by Hash word.now) }
+{
+    match base32hex_decode(word) {
+        Some(hash) => counted(alloc, hash.as_slice()),
+        None => Ok(None),
+    }
+}
+
+// The bytes of an address of IPv4.
+#[tactic(auto, unfolding(crate::specs::Meanings::meant))]
+fn ipv4_meant(alloc: Global, word: &[u8]) -> Result<Option<Vec<u8>>, NoMemory>
+    ensures { IfOk result (λ b. option_map (λ v. v.items) b ≡ meant_by Ipv4 word.now) }
+{
+    match ipv4_in(word) {
+        Some(octets) => Ok(Some(Vec::from_slice(alloc, octets.as_slice())?)),
+        None => Ok(None),
+    }
+}
+
+// The bytes of an address of IPv6.
+#[tactic(auto, unfolding(crate::specs::Meanings::meant))]
+fn ipv6_meant(alloc: Global, word: &[u8]) -> Result<Option<Vec<u8>>, NoMemory>
+    ensures { IfOk result (λ b. option_map (λ v. v.items) b ≡ meant_by Ipv6 word.now) }
+{
+    match ipv6_in(word) {
+        Some(octets) => Ok(Some(Vec::from_slice(alloc, octets.as_slice())?)),
+        None => Ok(None),
+    }
 }
 
 // The bytes of a number of 16 bits.
@@ -87,6 +141,32 @@ fn two_bytes(alloc: Global, word: &[u8]) -> Result<Option<Vec<u8>>, NoMemory>
     };
     let mut bytes = Vec::new(alloc);
     push_u16(&mut bytes, number)?;
+    Ok(Some(bytes))
+}
+
+// The bytes of a type.
+#[tactic(auto, unfolding(crate::specs::Meanings::meant))]
+fn type_meant(alloc: Global, word: &[u8]) -> Result<Option<Vec<u8>>, NoMemory>
+    ensures { IfOk result (λ b. option_map (λ v. v.items) b ≡ meant_by TypeWord word.now) }
+{
+    let Some(record_type) = type_of_word(word) else {
+        return Ok(None);
+    };
+    let mut bytes = Vec::new(alloc);
+    push_u16(&mut bytes, record_type.0)?;
+    Ok(Some(bytes))
+}
+
+// The bytes of a time.
+#[tactic(auto, unfolding(crate::specs::Meanings::meant))]
+fn time_meant(alloc: Global, word: &[u8]) -> Result<Option<Vec<u8>>, NoMemory>
+    ensures { IfOk result (λ b. option_map (λ v. v.items) b ≡ meant_by Time word.now) }
+{
+    let Some(seconds) = time_in(word) else {
+        return Ok(None);
+    };
+    let mut bytes = Vec::new(alloc);
+    push_u32(&mut bytes, seconds)?;
     Ok(Some(bytes))
 }
 
@@ -130,5 +210,12 @@ pub(crate) fn meant(alloc: Global, field: Field, word: &[u8]) -> Result<Option<V
         Field::Salt => salt_meant(alloc, word),
         Field::Digits => Ok(filled(digits_meant(alloc, word)?)),
         Field::Base64 => Ok(filled(base64_meant(alloc, word)?)),
+        Field::Ipv4 => ipv4_meant(alloc, word),
+        Field::Ipv6 => ipv6_meant(alloc, word),
+        Field::TypeWord | Field::Types => type_meant(alloc, word),
+        Field::Time => time_meant(alloc, word),
+        Field::Hash => hash_meant(alloc, word),
+        Field::Tag => tag_meant(alloc, word),
+        Field::Text | Field::Texts => text_in(alloc, word),
     }
 }

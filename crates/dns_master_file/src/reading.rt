@@ -1,23 +1,20 @@
 //! What a line of a master file says (RFC 1035, 5.1; RFC 3597, 5).
-ghost use Rattle.std.specs.Prelude.{◌≡◌, length};
+ghost use Rattle.std.specs.Prelude.{◌≡◌};
 ghost use Rattle.std.specs.Result.{result_map_both};
-ghost use Rattle.dns_model.specs.Gives.{Gives, or_error};
-ghost use Rattle.dns_model.specs.Types.{has_shapes as has_shapes_in};
-ghost use Rattle.dns_master_file.specs.Codes.{class_in, type_in};
-ghost use Rattle.dns_master_file.specs.Fields.{field_in, fields_in, refusal_of as refused_as, takes_rest as takes_all};
+ghost use Rattle.dns_model.specs.Gives.{Gives};
+ghost use Rattle.dns_master_file.specs.Codes.{class_in};
 ghost use Rattle.dns_master_file.specs.Front.{word_as};
-ghost use Rattle.dns_master_file.specs.Meanings.{meant as meant_by};
-ghost use Rattle.dns_master_file.specs.Reading.{either_in, entry_in, form_in, generic_in, line_in, owner_in, rdata_in, ttl_in};
+ghost use Rattle.dns_master_file.specs.Reading.{entry_in, line_in, owner_in, ttl_in};
 ghost use Rattle.dns_master_file.specs.declared.stop.LineError.TheVariants.{NoMemory as without_memory};
-ghost use Rattle.dns_master_file.specs.declared.stop.Refusal.TheVariants.{BadClass as bad_class, BadType as bad_type};
-ghost use Rattle.dns_master_file.specs.declared.stop.Stop.TheVariants.{At as stop_at, NoMemory as no_memory};
+ghost use Rattle.dns_master_file.specs.declared.stop.Refusal.TheVariants.{BadClass as bad_class};
+ghost use Rattle.dns_master_file.specs.declared.stop.Stop.TheVariants.{NoMemory as no_memory};
 
-use crate::codes::{class_of_word, type_of_word};
-use crate::field::{Field, fields_of};
-use crate::front::{after_blanks, after_mark, is_blank, is_over, joined, number_front, word_front};
-use crate::meanings::{digits_meant, meant, name_meant};
+use crate::codes::class_of_word;
+use crate::front::{after_blanks, is_blank, is_over, word_front};
+use crate::meanings::name_meant;
+use crate::rdata::{read_rdata, type_front};
 use crate::stop::{LineError, Refusal, Stop};
-use dns_record::{DNSClass, Name, Octets, Rdata, RecordType};
+use dns_record::{DNSClass, Name, Rdata, RecordType};
 use dns_text::decimal_in;
 use std::alloc::Global;
 use std::marker::Model;
@@ -49,147 +46,6 @@ impl Model for RecordLine {
       rtype = l.record_type.0;
       rdata = l.rdata;
     } };
-}
-
-// Whether an rdata has its type's shape in this class (RFC 3597, 4).
-fn has_shapes(class: DNSClass) -> bool
-    ensures { result ≡ has_shapes_in class.0 }
-{
-    class == DNSClass::IN || class == DNSClass::NONE || class == DNSClass::ANY
-}
-
-// Whether a field is all that is left of the line.
-fn takes_rest(field: Field) -> bool
-    ensures { result ≡ takes_all field }
-{
-    match field {
-        Field::Digits | Field::Base64 => true,
-        _ => false,
-    }
-}
-
-// What is wrong with a word that isn't this field's.
-fn refusal_of(field: Field) -> Refusal
-    ensures { result ≡ refused_as field }
-{
-    match field {
-        Field::DomainName => Refusal::BadName,
-        Field::Salt | Field::Digits => Refusal::BadDigits,
-        Field::Base64 => Refusal::BadBase64,
-        _ => Refusal::BadNumber,
-    }
-}
-
-// The bytes of a field's word, which stands where so much of the line is left.
-fn read_as(alloc: Global, field: Field, word: &[u8], from: &[u8]) -> Result<Vec<u8>, Stop>
-    ensures { Gives (λ v. v.items) no_memory result (or_error (stop_at (refused_as field) (length from.now)) (meant_by field word.now)) }
-{
-    match meant(alloc, field, word)? {
-        Some(bytes) => Ok(bytes),
-        None => Err(Stop::At(refusal_of(field), from.len())),
-    }
-}
-
-// The bytes of a field, and what is left after it.
-#[tactic(auto, unfolding(crate::specs::Fields::field_in))]
-fn read_field<'a>(alloc: Global, field: Field, from: &'a [u8]) -> Result<(Vec<u8>, &'a [u8]), Stop>
-    ensures { Gives (λ p. (p.0.items, p.1.now)) no_memory result (field_in field from.now) }
-{
-    if takes_rest(field) {
-        let word = joined(alloc, from)?;
-        let bytes = read_as(alloc, field, &word, from)?;
-        return Ok((bytes, &[]));
-    }
-    let (word, rest) = word_front(from)?;
-    let bytes = read_as(alloc, field, word, from)?;
-    Ok((bytes, rest))
-}
-
-// The bytes of these fields, with nothing behind them.
-#[tactic(auto, unfolding(crate::specs::Fields::fields_in), using(crate::proofs::FrontLemmas::with_none, crate::proofs::FrontLemmas::with_end, crate::proofs::FrontLemmas::with_more))]
-fn read_fields(alloc: Global, fields: &[Field], from: &[u8]) -> Result<Vec<u8>, Stop>
-    ensures { Gives (λ v. v.items) no_memory result (fields_in fields.now from.now) }
-{
-    let mut bytes = Vec::new(alloc);
-    let mut left = fields;
-    let mut rest = from;
-    'fields: while let Some((field, more)) = left.split_first() {
-        let (octets, after) = read_field(alloc, *field, rest)?;
-        bytes.extend_from_slice(&octets)?;
-        left = more;
-        rest = after;
-    }
-    if is_over(rest) {
-        Ok(bytes)
-    } else {
-        Err(Stop::At(Refusal::ExtraWord, rest.len()))
-    }
-}
-
-// An rdata in its type's form.
-fn read_form(
-    alloc: Global,
-    class: DNSClass,
-    record_type: RecordType,
-    from: &[u8],
-) -> Result<Vec<u8>, Stop>
-    ensures { Gives (λ v. v.items) no_memory result (form_in class.0 record_type.0 from.now) }
-{
-    if !has_shapes(class) {
-        return Err(Stop::At(Refusal::NoForm, from.len()));
-    }
-    match fields_of(record_type) {
-        Some(fields) => read_fields(alloc, fields, from),
-        None => Err(Stop::At(Refusal::NoForm, from.len())),
-    }
-}
-
-// Any rdata, after the word `\#` (RFC 3597, 5).
-#[tactic(auto, unfolding(crate::specs::Reading::generic_in))]
-fn read_generic(alloc: Global, from: &[u8]) -> Result<Vec<u8>, Stop>
-    ensures { Gives (λ v. v.items) no_memory result (generic_in from.now) }
-{
-    let (size, rest) = number_front(from, 65535)?;
-    let digits = joined(alloc, rest)?;
-    let Some(bytes) = digits_meant(alloc, &digits)? else {
-        return Err(Stop::At(Refusal::BadDigits, rest.len()));
-    };
-    if bytes.len() as u64 != size {
-        return Err(Stop::At(Refusal::BadLength, rest.len()));
-    }
-    Ok(bytes)
-}
-
-// An rdata in either form.
-fn read_either(
-    alloc: Global,
-    class: DNSClass,
-    record_type: RecordType,
-    from: &[u8],
-) -> Result<Vec<u8>, Stop>
-    ensures { Gives (λ v. v.items) no_memory result (either_in class.0 record_type.0 from.now) }
-{
-    match after_mark(from) {
-        Some(rest) => read_generic(alloc, rest),
-        None => read_form(alloc, class, record_type, from),
-    }
-}
-
-// The rdata of a record of this class and type.
-#[tactic(auto, unfolding(crate::specs::Reading::rdata_in))]
-fn read_rdata(
-    alloc: Global,
-    class: DNSClass,
-    record_type: RecordType,
-    from: &[u8],
-) -> Result<Rdata, Stop>
-    ensures { Gives (λ r. r) no_memory result (rdata_in class.0 record_type.0 from.now) }
-{
-    let bytes = read_either(alloc, class, record_type, from)?;
-    if bytes.len() > Rdata::MAX_LEN {
-        return Err(Stop::At(Refusal::LongRdata, from.len()));
-    }
-    Ok(Rdata::from_octets(Octets::from_vec(bytes)))
 }
 
 // The owner at the front of a line, and what is left after it.
@@ -233,17 +89,6 @@ fn class_front(bytes: &[u8]) -> Result<(DNSClass, &[u8]), Stop>
     match class_of_word(word) {
         Some(class) => Ok((class, rest)),
         None => Err(Stop::At(Refusal::BadClass, bytes.len())),
-    }
-}
-
-// The type at the front, and what is left after it.
-fn type_front(bytes: &[u8]) -> Result<(RecordType, &[u8]), Stop>
-    ensures { result_map_both (λ p. (p.0.0, p.1.now)) (λ stop. stop) result ≡ word_as bad_type type_in bytes.now }
-{
-    let (word, rest) = word_front(bytes)?;
-    match type_of_word(word) {
-        Some(record_type) => Ok((record_type, rest)),
-        None => Err(Stop::At(Refusal::BadType, bytes.len())),
     }
 }
 

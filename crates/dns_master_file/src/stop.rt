@@ -33,6 +33,20 @@ pub enum Refusal {
     BadDigits,
     /// No bytes in base64 (RFC 4648, 4).
     BadBase64,
+    /// No address: four decimal numbers with dots, or for IPv6 groups of hexadecimal digits with colons (RFC 4291, 2.2).
+    BadAddress,
+    /// No time: fourteen digits of a moment that the calendar has, or a number of seconds, either of 32 bits (RFC 4034, 3.2).
+    BadTime,
+    /// No hash of 20 bytes in base32 with the extended hex alphabet (RFC 5155, 3.3).
+    BadHash,
+    /// No tag of letters and digits, or one of more than 255 (RFC 8659, 4.1).
+    BadTag,
+    /// A backslash before three digits that are no byte's number, before fewer digits, or at the end of a text (RFC 1035, 5.1).
+    BadEscape,
+    /// A text whose closing quote is missing.
+    OpenQuote,
+    /// A character-string of more than 255 bytes (RFC 1035, 3.3).
+    LongText,
     /// Another number of bytes than is said after `\#` (RFC 3597, 5).
     BadLength,
     /// An rdata that isn't spelled by its bytes, of a type or class without a form (RFC 3597, 5).

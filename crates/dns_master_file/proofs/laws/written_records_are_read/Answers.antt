@@ -7,7 +7,7 @@ use Rattle.dns_master_file.proofs.LineLaws.{line_back}
 use Rattle.dns_master_file.proofs.laws.written_records_are_read.Goals as goal
 
 pub returns : goal.returns
-returns c = λ is.
+returns c =
     let view = c._record.view_is in
     let owner = sym (ap (λ (r : Rr). r.owner) view) ∙ sym c.borrowed.ensures in
     let good : is_name c.args._record.now.owner ≡ true = ap is_name owner ∙ c.copy-owner.ensures.name in
@@ -30,4 +30,4 @@ returns c = λ is.
     let kind_same = c.known_u16-kind.ensures.same in
     let kind_small = c.known_u16-kind.ensures.small in
     let kind : c.args._record.now.rtype ≤ 65535 = omega (arith, kind_is, kind_same, kind_small) in
-    line_back c.args._record.now good bytes ttl class kind below short is
+    line_back c.args._record.now good bytes ttl class kind below short

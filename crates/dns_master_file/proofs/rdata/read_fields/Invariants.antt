@@ -1,7 +1,7 @@
 use Rattle.std.proofs.Common.{◌≡◌, length}
 use Rattle.dns_master_file.specs.Fields.{fields_in}
 use Rattle.dns_master_file.specs.Front.{with_bytes}
-use Rattle.dns_master_file.proofs.reading.read_fields.Given as goal
+use Rattle.dns_master_file.proofs.rdata.read_fields.Given as goal
 
 -- the bytes so far, and those of the fields that are left
 abbrev pub invariant-fields : goal.invariant-fields
