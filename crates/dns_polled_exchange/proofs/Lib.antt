@@ -1,0 +1,2 @@
+pub mod BackgroundLemmas
+pub mod PollLemmas

@@ -1,0 +1,3 @@
+-- What contracts of this crate name.
+pub mod Backgrounds
+pub mod Polls
