@@ -1,0 +1,9 @@
+pub mod Loops
+pub mod Places
+pub mod StayingRecords
+pub mod Learned
+pub mod Chains
+pub mod Groups
+pub mod LiveRecords
+pub mod Deciding
+pub mod Promises

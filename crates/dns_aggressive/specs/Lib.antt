@@ -1,0 +1,10 @@
+pub mod Records
+pub mod Taking
+pub mod Lists
+pub mod Denials
+pub mod Promises
+pub mod Places
+pub mod Chains
+pub mod Groups
+pub mod Answers
+pub mod Flags
