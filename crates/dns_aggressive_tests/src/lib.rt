@@ -1,0 +1,15 @@
+//! Tests of denials that are made from kept records: calls row by row, and random calls beside a plain list.
+//!
+//! They stand apart, since a crate with tests of its own is proved twice.
+#![tactic(auto)]
+
+#[cfg(test)]
+mod given;
+#[cfg(test)]
+mod large_store_tests;
+#[cfg(test)]
+mod plain;
+#[cfg(test)]
+mod random_calls_tests;
+#[cfg(test)]
+mod store_calls_tests;
