@@ -1,5 +1,5 @@
-//! A signed root zone in memory: its name servers, its key, and an upstream that answers with both.
-use dns_evidence::{Trail, Verifier};
+//! The session that `dns_check` is run on (`crates/dns_check/stdin`), in memory: the root's name servers and its key.
+use dns_evidence::{Listed, Trail};
 use dns_handle::{DnsResponse, NetError};
 use dns_message::Message;
 use dns_model::Denial;
@@ -10,7 +10,7 @@ use std::alloc::Global;
 
 /// The root's NS set with a signature that is good from 900 to 2000, as a message.
 const SERVERS: &[u8] =
-    b"\0\0\x84\0\0\x01\0\x02\0\0\0\0\0\0\x02\0\x01\0\0\x02\0\x01\0\0\x0e\x10\0\x03\x01a\0\0\0\x2e\0\x01\0\0\x0e\x10\0\x15\0\x02\x0d\0\0\0\x0e\x10\0\0\x07\xd0\0\0\x03\x84\xae\xc9\0\xaa\xbb";
+    b"\0\0\x84\0\0\x01\0\x02\0\0\0\0\0\0\x02\0\x01\0\0\x02\0\x01\0\0\x0e\x10\0\x03\x01a\0\0\0\x2e\0\x01\0\0\x0e\x10\0\x15\0\x02\x0d\0\0\0\x0e\x10\0\0\x07\xd0\0\0\x03\x84\xae\xc9\0\xc0\xde";
 
 /// The root's key set, as a message.
 const KEYS: &[u8] =
@@ -19,27 +19,16 @@ const KEYS: &[u8] =
 /// The response to an update of the root zone, of code NOERROR (RFC 2136, 2.2).
 const UPDATED: &[u8] = b"\0\0\xa8\0\0\x01\0\0\0\0\0\0\0\0\x06\0\x01";
 
-/// A verifier under which, by algorithm 13, the one that it supports, a good signature has the bytes of its key.
-#[derive(Drop)]
-pub(crate) struct KeyItself;
+/// The bytes that the signature of the NS set signs (RFC 4034, 3.1.8.1).
+const SIGNED: &[u8] =
+    b"\0\x02\x0d\0\0\0\x0e\x10\0\0\x07\xd0\0\0\x03\x84\xae\xc9\0\0\0\x02\0\x01\0\0\x0e\x10\0\x03\x01a\0";
 
-impl Verifier for KeyItself {
-    ghost use Rattle.std.specs.Prelude.{◌==◌, nat_eq};
-    ghost use Rattle.std.specs.Cmp.Lexicographic.{pointwise};
-
-    ghost answers = { λ v. record { supports = λ a. a == 13; accepts = λ a key bytes signature. pointwise nat_eq key signature } };
-
-    fn supports(&self, algorithm: u8) -> bool {
-        algorithm == 13
-    }
-
-    fn accepts(&self, _algorithm: u8, key: &[u8], _bytes: &[u8], signature: &[u8]) -> bool {
-        key == signature
-    }
-
-    fn same(&self, _other: &KeyItself) -> bool {
-        true
-    }
+/// A verifier by which that signature is good, and no other.
+pub(crate) fn verifier(alloc: Global) -> Result<Listed, NetError> {
+    let mut verifier = Listed::new(alloc);
+    verifier.support(13);
+    verifier.accept(13, b"\xaa\xbb", SIGNED, b"\xc0\xde")?;
+    Ok(verifier)
 }
 
 /// A query for records of the root.

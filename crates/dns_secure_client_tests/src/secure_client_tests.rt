@@ -1,7 +1,7 @@
-use crate::scene::{KeyItself, anchors, query_of, upstream};
+use crate::scene::{anchors, query_of, upstream, verifier};
 use dns_cache::DefaultCache;
 use dns_client::ClientHandle;
-use dns_evidence::Verifier;
+use dns_evidence::{Listed, Verifier};
 use dns_handle::{DnsHandle, DnsRequestOptions, DnsResponse, NetError};
 use dns_lookup::DnssecDnsHandle;
 use dns_model::Proof;
@@ -27,7 +27,7 @@ fn secure_client<H: DnsHandle + Drop, V: Verifier + Drop>(
 }
 
 /// A client over the recorded root zone.
-type RootClient = DnssecClient<Recorded, KeyItself, DefaultCache>;
+type RootClient = DnssecClient<Recorded, Listed, DefaultCache>;
 
 /// A time at which the signature counts, and one at which it doesn't any more.
 const NOW: u64 = 1000;
@@ -52,15 +52,15 @@ enum Way {
 // Each in a function of its own, since a client is large to the prover.
 
 fn built(alloc: Global) -> Result<RootClient, NetError> {
-    secure_client(alloc, upstream(alloc)?, anchors(alloc)?, KeyItself)
+    secure_client(alloc, upstream(alloc)?, anchors(alloc)?, verifier(alloc)?)
 }
 
 fn connected(alloc: Global) -> Result<RootClient, NetError> {
-    DnssecClient::connect(alloc, upstream(alloc)?, anchors(alloc)?, KeyItself)
+    DnssecClient::connect(alloc, upstream(alloc)?, anchors(alloc)?, verifier(alloc)?)
 }
 
 fn from_client(alloc: Global) -> Result<RootClient, NetError> {
-    DnssecClient::from_client(alloc, upstream(alloc)?, anchors(alloc)?, KeyItself)
+    DnssecClient::from_client(alloc, upstream(alloc)?, anchors(alloc)?, verifier(alloc)?)
 }
 
 fn from_validator(alloc: Global) -> Result<RootClient, NetError> {
@@ -68,14 +68,19 @@ fn from_validator(alloc: Global) -> Result<RootClient, NetError> {
 }
 
 fn without_keys(alloc: Global) -> Result<RootClient, NetError> {
-    DnssecClient::<Recorded, KeyItself>::builder(upstream(alloc)?).build(alloc, KeyItself)
+    DnssecClient::<Recorded, Listed>::builder(upstream(alloc)?).build(alloc, verifier(alloc)?)
 }
 
 /// A validator over the recorded root zone.
 fn root_validator(
     alloc: Global,
-) -> Result<DnssecDnsHandle<Recorded, KeyItself, DefaultCache>, NetError> {
-    let validator = DnssecDnsHandle::new(alloc, upstream(alloc)?, anchors(alloc)?, KeyItself)?;
+) -> Result<DnssecDnsHandle<Recorded, Listed, DefaultCache>, NetError> {
+    let validator = DnssecDnsHandle::new(
+        alloc,
+        upstream(alloc)?,
+        anchors(alloc)?,
+        verifier(alloc)?,
+    )?;
     Ok(validator)
 }
 
