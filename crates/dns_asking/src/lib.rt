@@ -13,3 +13,4 @@ mod looking;
 pub use address::ServerAddress;
 pub use asking::{AskEnd, ask_server};
 pub use inquiry::Inquiry;
+pub use looking::{LookupEnd, look_up};

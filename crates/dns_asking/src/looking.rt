@@ -12,11 +12,11 @@ use std::alloc::Global;
 
 /// How a lookup over a handle ended.
 #[derive(Drop)]
-pub(crate) struct LookupEnd<H: Drop> {
+pub struct LookupEnd<H: Drop> {
     /// The answer, or an error.
-    pub(crate) reply: Result<DnsResponse, NetError>,
+    pub reply: Result<DnsResponse, NetError>,
     /// The handle, as the lookup leaves it.
-    pub(crate) handle: H,
+    pub handle: H,
 }
 
 /// Options that ask for nothing but a depth.
@@ -29,7 +29,7 @@ fn options_to(depth: u16) -> DnsRequestOptions
 }
 
 /// Looks up over a handle what is asked for.
-pub(crate) fn look_up<H: DnsHandle + Drop, V: Verifier + Drop>(
+pub fn look_up<H: DnsHandle + Drop, V: Verifier + Drop>(
     alloc: Global,
     handle: H,
     inquiry: Inquiry<V>,
