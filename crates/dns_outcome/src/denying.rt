@@ -22,6 +22,9 @@ use std::alloc::Global;
 use std::marker::Brand;
 use std::sync::ledger::{Blank, Ledger};
 
+// The most records of which no index is made: making one costs more than to go over them two or three times, as a verdict does.
+const FEW: usize = 16;
+
 /// How a step ends by the NSEC records that deny existence: they are to be made by one zone, and prove what is denied.
 pub(crate) fn outcome_by_denials(
     alloc: Global,
@@ -43,7 +46,7 @@ pub(crate) fn outcome_by_denials(
     Ok(outcome_by_nsec_verdict(how, proof))
 }
 
-// The verdict on the records, by an index of them. More records than an index has numbers for are gone over.
+// The verdict on the records, by an index of them. Few are gone over, and so are more than an index has numbers for.
 fn verdict_of(
     query: &Query,
     zone: &Name,
@@ -53,7 +56,7 @@ fn verdict_of(
 ) -> Result<Proof, NoMemory>
     ensures { IfOk result (λ proof. proof ≡ nsec_verdict query.now zone.now code.0 how nsecs.items) }
 {
-    if nsecs.len() > u32::MAX as usize {
+    if nsecs.len() <= FEW || nsecs.len() > u32::MAX as usize {
         return Ok(verify_nsec(query, zone, code, how, &nsecs));
     }
     let index = NsecIndex::new(nsecs)?;
@@ -113,7 +116,7 @@ fn hashed_verdict_of(
     ensures { IfOk result (λ proof. proof
         ≡ nsec3_verdict query.now zone.now code.0 how nsec3s.items limits.now.soft limits.now.hard) }
 {
-    if nsec3s.len() > u32::MAX as usize {
+    if nsec3s.len() <= FEW || nsec3s.len() > u32::MAX as usize {
         let proof = verify_nsec3(query, zone, code, how, &nsec3s, limits.soft, limits.hard);
         return Ok(proof);
     }
