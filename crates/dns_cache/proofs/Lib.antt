@@ -1,3 +1,4 @@
 pub mod FeedLemmas
+pub mod HasherLemmas
 pub mod ListLemmas
 pub mod PairLemmas

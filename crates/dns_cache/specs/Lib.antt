@@ -6,3 +6,4 @@ pub mod Expiry
 pub mod CacheLists
 pub mod Caches
 pub mod KeptEntries
+pub mod KeyHashing

@@ -9,10 +9,10 @@ ghost use Rattle.dns_cache.specs.KeptEntries.{entries_of, entry_of};
 
 use crate::acceptance::of_nobody;
 use crate::kept::Kept;
-use crate::{Acceptance, AcceptedBy, CacheKey, Entry, ValidationCache};
+use crate::{Acceptance, AcceptedBy, CacheKey, DefaultHasher, Entry, ValidationCache};
 use dns_evidence::Verifier;
 use dns_record::NoMemory;
-use lru::{DefaultHasher, LruCache};
+use lru::LruCache;
 use std::alloc::Global;
 use std::hash::{BuildHasher, BuildHasherDefault};
 use std::marker::Model;

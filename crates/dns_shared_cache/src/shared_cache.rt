@@ -4,10 +4,9 @@ ghost use Rattle.std.specs.Prelude.{◌≡◌, IfOk};
 
 use crate::Shelf;
 use crossbeam_utils::Backoff;
-use dns_cache::{Acceptance, AcceptedBy, CacheKey, Entry, ValidationCache};
+use dns_cache::{Acceptance, AcceptedBy, CacheKey, DefaultHasher, Entry, ValidationCache};
 use dns_evidence::Verifier;
 use dns_record::NoMemory;
-use lru::DefaultHasher;
 use std::alloc::Global;
 use std::hash::{BuildHasher, BuildHasherDefault};
 use std::sync::{Arc, Mutex, MutexGuard, Wait};

@@ -7,12 +7,11 @@ ghost use Rattle.dns_cache.specs.declared.acceptance.Acceptance.TheVariants.{Kep
 ghost use Rattle.dns_evidence.specs.Verifiers.{AnswerAlike};
 ghost use Rattle.dns_shared_cache.specs.Shelves.{LeftByOffer, SaysWhose, are_accepted, is_accepted as is_accepted_by, is_kept};
 
-use dns_cache::{Acceptance, CacheKey, Entry, LruValidationCache, ValidationCache};
+use dns_cache::{Acceptance, CacheKey, DefaultHasher, Entry, LruValidationCache, ValidationCache};
 use dns_chain_check::{accepted_chain, mark_of};
 use dns_evidence::Verifier;
 use dns_model::Proof;
 use dns_record::NoMemory;
-use lru::DefaultHasher;
 use std::alloc::Global;
 use std::hash::{BuildHasher, BuildHasherDefault};
 

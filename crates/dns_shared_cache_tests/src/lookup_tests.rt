@@ -2,13 +2,12 @@
 //! answers.
 use crate::given::{Lists, Lookup, anchors_of, is_looked_up, validator_over, verifier_of};
 use crate::rows::check_held;
-use dns_cache::{AcceptedBy, ListCache, LruValidationCache};
+use dns_cache::{AcceptedBy, DefaultHasher, ListCache, LruValidationCache};
 use dns_evidence::Listed;
 use dns_lookup::DnssecDnsHandle;
 use dns_model::{MarkOrigin, Proof};
 use dns_recorded::Recorded;
 use dns_shared_cache::SharedCache;
-use lru::DefaultHasher;
 use std::alloc::Global;
 use std::process::Abort;
 use std::sync::Wait;

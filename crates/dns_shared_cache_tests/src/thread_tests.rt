@@ -2,11 +2,10 @@
 use crate::given::{Lists, anchors_of, ask, validator_over, verifier_of};
 use crate::numbered::{entry, key, value_of};
 use crate::rows::check_held;
-use dns_cache::ValidationCache;
+use dns_cache::{DefaultHasher, ValidationCache};
 use dns_evidence::Listed;
 use dns_model::Proof;
 use dns_shared_cache::SharedCache;
-use lru::DefaultHasher;
 use std::alloc::Global;
 use std::process::Abort;
 use std::sync::Wait;

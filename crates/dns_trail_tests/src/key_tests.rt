@@ -1,11 +1,11 @@
 //! What tells the keys of a cache apart (RFC 4035, 4.5).
 
 use crate::parts::{check_row, key_of, name_of, query, record};
-use dns_cache::CacheKey;
+use dns_cache::{CacheKey, KeyHasher};
 use dns_model::Proof;
 use dns_record::{DNSClass, Record, RecordSet, RecordType};
 use std::alloc::Global;
-use std::hash::{BuildHasher, BuildHasherDefault, FoldHasher};
+use std::hash::{BuildHasher, BuildHasherDefault, FoldHasher, Hasher};
 use std::process::Abort;
 
 /// A set in the answer to a question: its addresses end with the two bytes, and its signature is the third.
@@ -107,5 +107,26 @@ fn is_told(rt: &impl Abort, alloc: Global, row: &Row) -> bool {
 fn keys_go_by_question_and_bytes(rt: HostRuntime) {
     for row in ROWS {
         check_row(&rt, row.shows, is_told(&rt, rt.alloc(), row));
+    }
+}
+
+/// Bytes and what the hasher gives of them, by the same rule in Python.
+const HASHES: &[(&[u8], u64)] = &[
+    (b"", 16250260098581018180),
+    (b"abc", 10889107159515471811),
+    (b"abcdefgh", 15932757752889890954),
+    (b"abcdefghijklmnopqrs", 2872629128562810798),
+];
+
+fn key_hash_of(bytes: &[u8]) -> u64 {
+    let mut hasher = KeyHasher::default();
+    hasher.write(bytes);
+    hasher.finish()
+}
+
+#[test]
+fn bytes_are_hashed_as_words_of_eight(rt: HostRuntime) {
+    for (bytes, hash) in HASHES {
+        check_row(&rt, "a hash", key_hash_of(bytes) == *hash);
     }
 }

@@ -2,7 +2,7 @@
 
 use crate::entries::{chain_of, keys_of, secure_entry};
 use crate::form::{Form, Work};
-use dns_cache::{CacheKey, LruValidationCache, ValidationCache};
+use dns_cache::{CacheKey, DefaultHasher, LruValidationCache, ValidationCache};
 use dns_evidence::Chain;
 use dns_record::NoMemory;
 use lru::LruCache;
@@ -30,7 +30,7 @@ impl Store for LruValidationCache {
     }
 }
 
-impl Store for LruCache<CacheKey, u64> {
+impl Store for LruCache<CacheKey, u64, DefaultHasher> {
     fn fill(&mut self, _alloc: Global, key: &CacheKey, _chain: &Chain) -> Result<(), NoMemory> {
         let key = key.try_clone()?;
         self.put(key, 1)?;
@@ -107,7 +107,10 @@ fn cache_passes(
 }
 
 // A map for so many keys, made as the cache makes its own.
-fn map_for(alloc: Global, capacity: usize) -> Result<LruCache<CacheKey, u64>, NoMemory> {
+fn map_for(
+    alloc: Global,
+    capacity: usize,
+) -> Result<LruCache<CacheKey, u64, DefaultHasher>, NoMemory> {
     let mut map = LruCache::unbounded_with_hasher(alloc, BuildHasherDefault::new())?;
     map.resize(NonZeroUsize::new(capacity).unwrap_or(NonZeroUsize::MIN));
     Ok(map)
