@@ -16,7 +16,7 @@ use Rattle.dns_model.specs.Records.{Rr, Question, EdnsValue, MessageValue}
 use Rattle.dns_message.specs.declared.decode_error.DecodeError.{DecodeError}
 use Rattle.dns_message.specs.MessageAt.{message_at}
 use Rattle.dns_message.specs.WrittenAs.{written, record_bytes}
-use Rattle.dns_message.proofs.MessageWriting.{CodeFits, IsMessageAgain, message_again}
+use Rattle.dns_message.proofs.MessageWriting.{CodeFits, HasName, IsMessageAgain, message_again, message_good}
 use Rattle.dns_message.proofs.RecordWriting.{IsRecordAgain, IsOptAgain}
 use Rattle.dns_handle.specs.declared.protocol.Protocol.{Protocol}
 use Rattle.dns_handle.specs.declared.protocol.Protocol.TheVariants.{Udp, Tcp}
@@ -27,7 +27,7 @@ use Rattle.dns_forwarded.specs.declared.received.Received.TheVariants.{Ignored, 
 use Rattle.dns_forwarded.specs.Requests.{code_form_err, code_serv_fail, code_not_imp, code_bad_vers, read_with, received_of, is_later_version, is_unasked, course_by, course_of}
 use Rattle.dns_forwarded.specs.Replies.{asks_if_authentic, bare_reply, code_alone, forwarded, has_no_place, is_authentic, is_bogus, is_shown, is_shown_beside, is_withheld, judged_reply, replied_edns, replied_questions, reply_by, reply_bytes, reply_to, reply_with, room_of, shortened, told_to, unreadable_reply, wants_dnssec}
 use Rattle.dns_forwarded.specs.ReadingBack.{IsRecordOf, WasRead, IsOfRead, IsReadBack}
-use Rattle.dns_forwarded.proofs.ReadLemmas.{HasName, IsGoodMessage, message_good, records_good}
+use Rattle.dns_forwarded.proofs.ReadLemmas.{IsGoodMessage, code_small, request_good}
 
 -- ---- marks aren't written
 
@@ -89,9 +89,9 @@ record IsGoodResponse (response : MessageValue) : Type 0 where
 
 response_good : (response : MessageValue) → WasRead response → IsGoodResponse response
 response_good response w =
-    let g = records_good w.bytes w.message w.are w.read in
+    let g = message_good w.bytes w.message w.are w.read in
     record {
-      code = rw w.code g.code;
+      code = rw w.code (code_small w.message g);
       answers = section_of w.message.answers response.answers g.answers w.answers;
       authorities = section_of w.message.authorities response.authorities g.authorities w.authorities;
       additionals = section_of w.message.additionals response.additionals g.additionals w.additionals;
@@ -314,7 +314,7 @@ received_again bytes (Unreadable id) protocol o is of_read = record {
   id = received_id bytes id is;
 }
 received_again bytes (Read request) protocol o is of_read =
-    let good = message_good bytes request (received_read bytes request is) in
+    let good = request_good bytes request (received_read bytes request is) in
     let g = reply_good bytes request protocol o good of_read in
     record {
       message = unmarked_message (reply_to request protocol o);

@@ -1,11 +1,12 @@
 -- How long replies are, and what stands for one that is too long.
-use Rattle.std.proofs.Common.{◌≡◌, ℕ, ◌≤◌, ◌<◌, Bool, true, false, cond, [], ◌++◌, length, map, Option, None, Some, Result, Ok, Err, List, refl, ap, arith, length-append}
+use Rattle.std.proofs.Common.{◌≡◌, ℕ, ◌≤◌, ◌<◌, Bool, true, false, cond, [], ◌++◌, length, map, Option, None, Some, Result, Ok, Err, List, refl, sym, ap, arith, length-append}
 use Rattle.std.specs.Prelude.{nat_le}
 use Rattle.std.specs.List.{flat_map}
 use Rattle.std.proofs.lemmas.Bool.Decides.{nat_tests}
 use Rattle.dns_model.specs.Records.{EdnsValue, MessageValue}
 use Rattle.dns_model.specs.Told.{Told}
 use Rattle.dns_message.specs.WrittenAs.{written, encoded, question_bytes, edns_bytes, header_bytes}
+use Rattle.dns_message.proofs.MessageWriting.{encoded_is}
 use Rattle.dns_message.specs.declared.encode_error.EncodeError.{EncodeError}
 use Rattle.dns_message.specs.declared.encode_error.EncodeError.TheVariants.{TooLong}
 use Rattle.dns_handle.specs.declared.protocol.Protocol.{Protocol}
@@ -76,14 +77,9 @@ pub unreadable_written : (id : ℕ) → encoded (unreadable_reply id) ≡ Ok (wr
 unreadable_written id = encoded_small (unreadable_reply id) (omega (arith, unreadable_short id))
 
 -- what is encoded is written
-encoded_is : (test : Bool) (m : MessageValue) (out : List ℕ)
-    → cond {A = Result (List ℕ) EncodeError} test (Ok (written m)) (Err TooLong) ≡ Ok out → out ≡ written m
-encoded_is true m out h = cc
-encoded_is false m out h = absurd cc
-
 pub encoded_ok : (m : MessageValue) (out : List ℕ) → encoded m ≡ Ok out → out ≡ written m
 unfolding encoded
-encoded_ok m out h = encoded_is (nat_le (length (written m)) 65535) m out h
+encoded_ok m out h = sym (encoded_is (nat_le (length (written m)) 65535) m out h)
 
 encoded_not : (test : Bool) (m : MessageValue) → nat_le (length (written m)) 65535 ≡ test
     → cond {A = Result (List ℕ) EncodeError} test (Ok (written m)) (Err TooLong) ≡ Err TooLong
