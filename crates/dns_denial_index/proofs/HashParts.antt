@@ -1,11 +1,12 @@
 -- What the places of hashes say of NSEC3 records.
-use Rattle.std.proofs.Common.{◌≡◌, ℕ, zero, suc, ◌+◌, ◌*◌, ◌^◌, ◌<◌, ◌≤◌, Bool, true, false, cond, refl, List, [], ◌∷◌, ◌++◌, map, length, take, get_or, subst, Option, None, Some, sym, ap, ◌∙◌, arith}
+use Rattle.std.proofs.Common.{◌≡◌, ℕ, zero, suc, ◌+◌, ◌*◌, ◌^◌, ◌<◌, ◌≤◌, Bool, true, false, cond, refl, List, [], ◌∷◌, ◌++◌, map, length, take, drop, append_assoc, get_or, subst, Option, None, Some, sym, ap, ◌∙◌, arith}
 use Rattle.std.specs.Prelude.{position}
 use Rattle.std.specs.List.{count_by, flat_map}
 use Rattle.std.specs.List.Sorted.{IsPermutation}
 use Rattle.std.specs.Option.{option_or}
 use Rattle.std.proofs.lemmas.Bool.{or_left, or_right}
-use Rattle.std.proofs.lemmas.List.{length-append, length-map, map-append, take_all, take_more, flat_map_more}
+use Rattle.std.proofs.lemmas.List.{append-nil, get_or-append-add, get_or-map, length-append, length-map, map-append, take-append-drop, take_all, take_more, flat_map_more}
+use Rattle.std.proofs.lemmas.List.Concat.{flat_map-append}
 use Rattle.std.proofs.lemmas.List.Folds.{list_any-append}
 use Rattle.std.proofs.lemmas.List.Sums.{sum_by-cons}
 use Rattle.std.proofs.lemmas.List.Sorted.{list_any-IsPermutation, length_permutation}
@@ -13,14 +14,14 @@ use Rattle.dns_model.specs.Owned.{OwnedNsec3}
 use Rattle.dns_rules.specs.Nsec3Covering.{is_considered, owner_hash, nsec3_matches, counts_for, covering_number, nsec3_covering}
 use Rattle.dns_denial_index.specs.declared.nsec3_index.HashPair.{HashPair}
 use Rattle.dns_denial_index.specs.declared.spans.Span.{Span}
-use Rattle.dns_denial_index.specs.HashParts.{both_hashes, keys_of_hashes, hashes_of, hash_keys, lap, span_of_hashes, hash_span, IsHashPlaced, AreHashPlaced, IsNsec3Index}
+use Rattle.dns_denial_index.specs.HashParts.{both_hashes, keys_of_hashes, hashes_of, hash_keys, lap, span_of_hashes, hash_span, span_between, IsHashPlaced, AreHashPlaced, AreSpannedTo, IsNsec3Index}
 use Rattle.dns_denial_index.specs.NsecParts.{IsWalked, numbered}
 use Rattle.dns_denial_index.specs.Places.{same_key, is_point, place_of}
 use Rattle.dns_denial_index.specs.Spans.{TableValue, counts_at, starts_at, first_from, start_of, AreInside}
 use Rattle.dns_denial_index.proofs.HashPlaces.{covering_at, first_matching, next_matching}
 use Rattle.dns_denial_index.proofs.Mapped.{walk_within, walk_passes, numbered_position}
 use Rattle.dns_denial_index.proofs.NsecParts.{same_itself}
-use Rattle.dns_denial_index.proofs.PlaceOrder.{place_within}
+use Rattle.dns_denial_index.proofs.PlaceOrder.{place_within, places_alike}
 
 -- ---- the points
 
@@ -28,7 +29,7 @@ keys_few : (hashes : Option HashPair) → length (keys_of_hashes hashes) ≤ 2
 keys_few None = omega arith
 keys_few (Some hashes) = omega arith
 
-key_count : (nsec3s : List OwnedNsec3) → length (flat_map hash_keys nsec3s) ≤ 2 * length nsec3s
+pub key_count : (nsec3s : List OwnedNsec3) → length (flat_map hash_keys nsec3s) ≤ 2 * length nsec3s
 key_count [] = omega arith
 key_count (nsec3 ∷ nsec3s) =
     omega (
@@ -140,32 +141,157 @@ keyed nsec3s k nsec3 all more lt item before grown =
     ∙ flat_map_more hash_keys [] (take k nsec3s) (get_or nsec3s k nsec3)
     ∙ ap (flat_map hash_keys) (sym (take_more nsec3s k nsec3 lt))
 
-pub keyed_all : (nsec3s : List OwnedNsec3) (keys points : List (List ℕ)) (k : ℕ) → length nsec3s ≤ k
-    → keys ≡ flat_map hash_keys (take k nsec3s) → IsPermutation keys points
-    → IsPermutation (flat_map hash_keys nsec3s) points
-keyed_all nsec3s keys points k end is sorted =
-    subst (λ (l : List (List ℕ)). IsPermutation l points) (is ∙ ap (flat_map hash_keys) (take_all k nsec3s end)) sorted
+pub keyed_all : (nsec3s seen : List OwnedNsec3) (keys points : List (List ℕ)) → seen ≡ nsec3s
+    → keys ≡ flat_map hash_keys seen → IsPermutation keys points → IsPermutation (flat_map hash_keys nsec3s) points
+keyed_all nsec3s seen keys points same made sorted =
+    subst (λ (l : List (List ℕ)). IsPermutation l points) (made ∙ ap (flat_map hash_keys) same) sorted
 
-pub spanned : (points : List (List ℕ)) (nsec3s : List OwnedNsec3) (k : ℕ) (nsec3 : OwnedNsec3) (all more : List Span)
+more_spans : (points : List (List ℕ)) (nsec3s : List OwnedNsec3) (k : ℕ) (nsec3 : OwnedNsec3) (all more : List Span)
     (span : Span)
     → k < length nsec3s → nsec3 ≡ get_or nsec3s k nsec3 → all ≡ map (hash_span points) (take k nsec3s)
     → span ≡ hash_span points nsec3 → more ≡ all ++ span ∷ [] → more ≡ map (hash_span points) (take (k + 1) nsec3s)
-spanned points nsec3s k nsec3 all more span lt item before is grown =
+more_spans points nsec3s k nsec3 all more span lt item before is grown =
     let front : List Span = map (hash_span points) (take k nsec3s) in
     grown ∙ ap (λ l. l ++ span ∷ []) before ∙ ap (λ s. front ++ s ∷ []) is
     ∙ ap (λ (x : OwnedNsec3). front ++ hash_span points x ∷ []) item
     ∙ sym (map-append (hash_span points) (take k nsec3s) (get_or nsec3s k nsec3 ∷ []))
     ∙ ap (map (hash_span points)) (sym (take_more nsec3s k nsec3 lt))
 
+-- a record that is ignored has no hashes
+keys_none : (nsec3 : OwnedNsec3) → is_considered nsec3 ≡ false → hash_keys nsec3 ≡ []
+keys_none nsec3 h = ap (keys_when nsec3) h
+
+keys_two : (nsec3 : OwnedNsec3) → is_considered nsec3 ≡ true
+    → hash_keys nsec3 ≡ owner_hash nsec3 ∷ nsec3.fields.next ∷ []
+keys_two nsec3 h = ap (keys_when nsec3) h
+
+keys_before : (nsec3s : List OwnedNsec3) (k : ℕ) (nsec3 : OwnedNsec3) → k < length nsec3s
+    → nsec3 ≡ get_or nsec3s k nsec3
+    → flat_map hash_keys (take k nsec3s) ++ hash_keys nsec3 ≡ flat_map hash_keys (take (k + 1) nsec3s)
+keys_before nsec3s k nsec3 lt item =
+    ap (λ (x : OwnedNsec3). flat_map hash_keys (take k nsec3s) ++ hash_keys x) item
+    ∙ flat_map_more hash_keys [] (take k nsec3s) (get_or nsec3s k nsec3)
+    ∙ ap (flat_map hash_keys) (sym (take_more nsec3s k nsec3 lt))
+
+-- another record that is ignored
+pub spanned_none : (points : List (List ℕ)) (nsec3s : List OwnedNsec3) (k next : ℕ) (nsec3 : OwnedNsec3)
+    (all more : List Span)
+    → k < length nsec3s → nsec3 ≡ get_or nsec3s k nsec3 → AreSpannedTo points nsec3s k next all
+    → is_considered nsec3 ≡ false → more ≡ all ++ (record { start = lap points; end = 0 }) ∷ []
+    → AreSpannedTo points nsec3s (k + 1) next more
+spanned_none points nsec3s k next nsec3 all more lt item is none grown =
+    let front : List (List ℕ) = flat_map hash_keys (take k nsec3s) in
+    let keys : flat_map hash_keys (take (k + 1) nsec3s) ≡ front =
+    sym (keys_before nsec3s k nsec3 lt item) ∙ ap (λ l. front ++ l) (keys_none nsec3 none) ∙ append-nil front in
+    let span : ◌≡◌ {A = Span} (record { start = lap points; end = 0 }) (hash_span points nsec3) =
+    sym (ap (λ c. span_of_hashes points (cond c (Some (both_hashes nsec3)) None)) none) in
+    record {
+      keys = is.keys ∙ sym (ap length keys);
+      spans =
+          more_spans points nsec3s k nsec3 all more (record { start = lap points; end = 0 }) lt item is.spans span
+          grown;
+    }
+
+-- the hashes of a record among those of all
+keys_at : (nsec3s : List OwnedNsec3) (k : ℕ) (nsec3 : OwnedNsec3) → k < length nsec3s
+    → nsec3 ≡ get_or nsec3s k nsec3 → is_considered nsec3 ≡ true
+    → flat_map hash_keys nsec3s
+    ≡ flat_map hash_keys (take k nsec3s)
+    ++ owner_hash nsec3 ∷ nsec3.fields.next ∷ flat_map hash_keys (drop (k + 1) nsec3s)
+keys_at nsec3s k nsec3 lt item considered =
+    let front : List (List ℕ) = flat_map hash_keys (take k nsec3s) in
+    let rest : List (List ℕ) = flat_map hash_keys (drop (k + 1) nsec3s) in
+    ap (flat_map hash_keys) (sym (take-append-drop (k + 1) nsec3s))
+    ∙ flat_map-append hash_keys (take (k + 1) nsec3s) (drop (k + 1) nsec3s)
+    ∙ ap (λ l. l ++ rest) (sym (keys_before nsec3s k nsec3 lt item)
+    ∙ ap (λ l. front ++ l) (keys_two nsec3 considered))
+    ∙ append_assoc front (owner_hash nsec3 ∷ nsec3.fields.next ∷ []) rest
+
+-- where the hashes of a record have their places
+pub record ArePlacesAt (points : List (List ℕ)) (places : List ℕ) (next : ℕ) (nsec3 : OwnedNsec3) : Type 0 where
+  pub within : next + 1 < length places
+  pub owner : (d : ℕ) → get_or places next d ≡ place_of points (owner_hash nsec3)
+  pub end : (d : ℕ) → get_or places (next + 1) d ≡ place_of points nsec3.fields.next
+
+two_places : (points front rest : List (List ℕ)) (owner end : List ℕ) (places : List ℕ) (next : ℕ)
+    → places ≡ map (place_of points) (front ++ owner ∷ end ∷ rest) → next ≡ length front
+    → (next + 1 < length places) × ((d : ℕ) → get_or places next d ≡ place_of points owner)
+    × ((d : ℕ) → get_or places (next + 1) d ≡ place_of points end)
+two_places points front rest owner end places next is at =
+    let long : length places ≡ length front + (2 + length rest) =
+    ap length is ∙ length-map (front ++ owner ∷ end ∷ rest) (place_of points)
+    ∙ length-append front (owner ∷ end ∷ rest) ∙ omega arith in
+    let read : (k : ℕ) (d : ℕ) → k < 2
+    → get_or places (next + k) d ≡ place_of points (get_or (owner ∷ end ∷ rest) k []) =
+    λ k d low.
+    ap (λ l. get_or l (next + k) d) is
+    ∙ get_or-map (place_of points) (front ++ owner ∷ end ∷ rest) (next + k) [] d
+    (omega (arith, at, low, length-append front (owner ∷ end ∷ rest)))
+    ∙ ap (λ n. place_of points (get_or (front ++ owner ∷ end ∷ rest) (n + k) [])) at
+    ∙ ap (place_of points) (get_or-append-add front (owner ∷ end ∷ rest) k []) in (
+      omega (arith, long, at),
+      λ d. (let e : next ≡ next + 0 = omega arith in ap (λ n. get_or places n d) e) ∙ read 0 d (omega arith),
+      λ d. read 1 d (omega arith),
+    )
+
+pub places_at : (points : List (List ℕ)) (nsec3s : List OwnedNsec3) (places : List ℕ) (k next : ℕ) (nsec3 : OwnedNsec3)
+    (all : List Span) → k < length nsec3s → nsec3 ≡ get_or nsec3s k nsec3
+    → places ≡ map (place_of points) (flat_map hash_keys nsec3s) → AreSpannedTo points nsec3s k next all
+    → is_considered nsec3 ≡ true → ArePlacesAt points places next nsec3
+places_at points nsec3s places k next nsec3 all lt item placing is considered =
+    let two =
+    two_places points (flat_map hash_keys (take k nsec3s)) (flat_map hash_keys (drop (k + 1) nsec3s))
+    (owner_hash nsec3) nsec3.fields.next places next
+    (placing ∙ ap (map (place_of points)) (keys_at nsec3s k nsec3 lt item considered)) is.keys in
+    record { within = two.0; owner = two.1; end = two.2 }
+
+abbrev span_from : ℕ → ℕ → Span
+span_from start end = record { start = start; end = end }
+
+-- the span between the two is that of the record
+span_is : (points : List (List ℕ)) (places : List ℕ) (next : ℕ) (nsec3 : OwnedNsec3) (round : ℕ)
+    → IsHashPlaced points nsec3 → ArePlacesAt points places next nsec3 → is_considered nsec3 ≡ true → round ≡ lap points
+    → span_between (get_or places next 0) (get_or places (next + 1) 0) round ≡ hash_span points nsec3
+span_is points places next nsec3 round placed at considered laps =
+    let owner : List ℕ = owner_hash nsec3 in
+    let end : List ℕ = nsec3.fields.next in
+    let p = placed.hashes considered in
+    ap (λ n. span_between n (get_or places (next + 1) 0) round) (at.owner 0)
+    ∙ ap (λ n. span_between (place_of points owner) n round) (at.end 0)
+    ∙ ap (λ n. span_between (place_of points owner) (place_of points end) n) laps
+    ∙ ap (λ (b : Bool). span_from (place_of points owner)
+    (cond b (place_of points end) (place_of points end + lap points)))
+    (places_alike points owner end p.owner).after
+    ∙ sym (ap (λ c. span_of_hashes points (cond c (Some (both_hashes nsec3)) None)) considered)
+
+-- another record, whose hashes have the next two places
+pub spanned_two : (points : List (List ℕ)) (nsec3s : List OwnedNsec3) (places : List ℕ) (k next : ℕ)
+    (nsec3 : OwnedNsec3)
+    (all more : List Span) (round : ℕ)
+    → AreHashPlaced points nsec3s → k < length nsec3s → nsec3 ≡ get_or nsec3s k nsec3
+    → places ≡ map (place_of points) (flat_map hash_keys nsec3s) → AreSpannedTo points nsec3s k next all
+    → is_considered nsec3 ≡ true → round ≡ lap points
+    → more ≡ all ++ span_between (get_or places next 0) (get_or places (next + 1) 0) round ∷ []
+    → AreSpannedTo points nsec3s (k + 1) (next + 2) more
+spanned_two points nsec3s places k next nsec3 all more round placed lt item placing is considered laps grown =
+    let front : List (List ℕ) = flat_map hash_keys (take k nsec3s) in
+    let keys : front ++ owner_hash nsec3 ∷ nsec3.fields.next ∷ [] ≡ flat_map hash_keys (take (k + 1) nsec3s) =
+    sym (ap (λ l. front ++ l) (keys_two nsec3 considered)) ∙ keys_before nsec3s k nsec3 lt item in
+    let one : IsHashPlaced points nsec3 =
+    subst (λ (x : OwnedNsec3). IsHashPlaced points x) (sym item) (placed.each k nsec3 lt) in
+    record {
+      keys = omega (arith, is.keys, ap length keys, length-append front (owner_hash nsec3 ∷ nsec3.fields.next ∷ []));
+      spans =
+          more_spans points nsec3s k nsec3 all more
+          (span_between (get_or places next 0) (get_or places (next + 1) 0) round) lt item is.spans
+          (span_is points places next nsec3 round one
+          (places_at points nsec3s places k next nsec3 all lt item placing is considered) considered laps)
+          grown;
+    }
+
 pub spanned_all : (points : List (List ℕ)) (nsec3s : List OwnedNsec3) (k : ℕ) (spans : List Span) → length nsec3s ≤ k
     → spans ≡ map (hash_span points) (take k nsec3s) → spans ≡ map (hash_span points) nsec3s
 spanned_all points nsec3s k spans end is = is ∙ ap (map (hash_span points)) (take_all k nsec3s end)
-
-pub placed_at : (points : List (List ℕ)) (nsec3s : List OwnedNsec3) (k : ℕ) (nsec3 : OwnedNsec3)
-    → AreHashPlaced points nsec3s
-    → k < length nsec3s → nsec3 ≡ get_or nsec3s k nsec3 → IsHashPlaced points nsec3
-placed_at points nsec3s k nsec3 all lt item =
-    subst (λ (x : OwnedNsec3). IsHashPlaced points x) (sym item) (all.each k nsec3 lt)
 
 -- ---- the parts of an index
 

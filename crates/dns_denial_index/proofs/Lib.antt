@@ -3,6 +3,7 @@ pub mod Stack
 pub mod Chains
 pub mod Search
 pub mod PlaceOrder
+pub mod Placing
 pub mod NameKeys
 pub mod Mapped
 pub mod NsecParts

@@ -6,7 +6,7 @@ use Rattle.std.specs.List.Sorted.{IsPermutation}
 use Rattle.std.specs.Ordering.{is_eq}
 use Rattle.std.proofs.lemmas.Bool.{or_left, or_right}
 use Rattle.std.proofs.lemmas.Cmp.{nat_list_cmp_total, tied_itself}
-use Rattle.std.proofs.lemmas.List.{length-map, map-append, take_all, take_more}
+use Rattle.std.proofs.lemmas.List.{length-map, take_more}
 use Rattle.std.proofs.lemmas.List.Concat.{flat_map-append}
 use Rattle.std.proofs.lemmas.List.Sorted.{list_any-IsPermutation, length_permutation}
 use Rattle.dns_model.specs.Bytes.{is_bytes}
@@ -18,7 +18,7 @@ use Rattle.dns_rules.specs.Covering.{nsec_spans, is_nearest, counts_for, is_sile
 use Rattle.dns_rules.specs.NsecVerdict.{is_owned_by}
 use Rattle.dns_denial_index.specs.declared.spans.Span.{Span}
 use Rattle.dns_denial_index.specs.NameKeys.{name_key, end_key}
-use Rattle.dns_denial_index.specs.NsecParts.{keys_of, nsec_span, IsPlaced, ArePlaced, IsNsecIndex, IsWalked, numbered}
+use Rattle.dns_denial_index.specs.NsecParts.{keys_of, nsec_span, paired, IsPlaced, ArePlaced, IsNsecIndex, IsWalked, numbered}
 use Rattle.dns_denial_index.specs.Places.{key_before, same_key, is_point, place_of}
 use Rattle.dns_denial_index.specs.Spans.{TableValue, covers, starts_before, counts_at, starts_at, first_from, start_of, AreInside}
 use Rattle.dns_denial_index.proofs.Mapped.{walk_within, walk_passes, AgreeOn, list_all_mapped, position_mapped, first_mapped, first_is_position, find_by_position, find_no_position, numbered_position}
@@ -104,32 +104,23 @@ keyed nsecs k nsec all one two owner end lt item before own ending first second 
     ∙ sym (flat_map-append keys_of (take k nsecs) (get_or nsecs k nsec ∷ []))
     ∙ ap (flat_map keys_of) (sym (take_more nsecs k nsec lt))
 
-pub keyed_all : (nsecs : List OwnedNsec) (keys points : List (List ℕ)) (k : ℕ) → length nsecs ≤ k
-    → keys ≡ flat_map keys_of (take k nsecs)
-    → IsPermutation keys points → IsPermutation (flat_map keys_of nsecs) points
-keyed_all nsecs keys points k end is sorted =
-    subst (λ (l : List (List ℕ)). IsPermutation l points) (is ∙ ap (flat_map keys_of) (take_all k nsecs end)) sorted
+pub keyed_all : (nsecs seen : List OwnedNsec) (keys points : List (List ℕ)) → seen ≡ nsecs
+    → keys ≡ flat_map keys_of seen → IsPermutation keys points → IsPermutation (flat_map keys_of nsecs) points
+keyed_all nsecs seen keys points same made sorted =
+    subst (λ (l : List (List ℕ)). IsPermutation l points) (made ∙ ap (flat_map keys_of) same) sorted
 
-pub spanned : (points : List (List ℕ)) (nsecs : List OwnedNsec) (k : ℕ) (nsec : OwnedNsec) (all more : List Span)
-    (span : Span) → k < length nsecs
-    → nsec ≡ get_or nsecs k nsec → all ≡ map (nsec_span points) (take k nsecs) → span ≡ nsec_span points nsec
-    → more ≡ all ++ span ∷ []
-    → more ≡ map (nsec_span points) (take (k + 1) nsecs)
-spanned points nsecs k nsec all more span lt item before is grown =
-    let front : List Span = map (nsec_span points) (take k nsecs) in
-    grown ∙ ap (λ l. l ++ span ∷ []) before ∙ ap (λ s. front ++ s ∷ []) is
-    ∙ ap (λ (x : OwnedNsec). front ++ nsec_span points x ∷ []) item
-    ∙ sym (map-append (nsec_span points) (take k nsecs) (get_or nsecs k nsec ∷ []))
-    ∙ ap (map (nsec_span points)) (sym (take_more nsecs k nsec lt))
+paired_spans : (points : List (List ℕ)) (nsecs : List OwnedNsec)
+    → paired (map (place_of points) (flat_map keys_of nsecs)) ≡ map (nsec_span points) nsecs
+paired_spans points [] = refl
+paired_spans points (nsec ∷ nsecs) = ap (λ l. nsec_span points nsec ∷ l) (paired_spans points nsecs)
 
-pub spanned_all : (points : List (List ℕ)) (nsecs : List OwnedNsec) (k : ℕ) (spans : List Span) → length nsecs ≤ k
-    → spans ≡ map (nsec_span points) (take k nsecs) → spans ≡ map (nsec_span points) nsecs
-spanned_all points nsecs k spans end is = is ∙ ap (map (nsec_span points)) (take_all k nsecs end)
-
-pub placed_at : (points : List (List ℕ)) (nsecs : List OwnedNsec) (k : ℕ) (nsec : OwnedNsec) → ArePlaced points nsecs
-    → k < length nsecs
-    → nsec ≡ get_or nsecs k nsec → IsPlaced points nsec
-placed_at points nsecs k nsec all lt item = subst (λ (x : OwnedNsec). IsPlaced points x) (sym item) (all.each k nsec lt)
+-- the spans between the places of the keys
+pub spanned_by : (points : List (List ℕ)) (nsecs seen : List OwnedNsec) (keys : List (List ℕ)) (places read : List ℕ)
+    (spans : List Span) → seen ≡ nsecs → keys ≡ flat_map keys_of seen → places ≡ map (place_of points) keys
+    → read ≡ places → spans ≡ paired read → spans ≡ map (nsec_span points) nsecs
+spanned_by points nsecs seen keys places read spans same made placing from is =
+    is ∙ ap paired (from ∙ placing) ∙ ap (λ l. paired (map (place_of points) l)) (made ∙ ap (flat_map keys_of) same)
+    ∙ paired_spans points nsecs
 
 -- ---- a name at its place
 

@@ -64,7 +64,7 @@ equal_from Less h = absurd (false≢true h)
 equal_from Equal h = refl
 equal_from Greater h = absurd (false≢true h)
 
-one_key : (one two : List ℕ) → same_key one two ≡ true → one ≡ two
+pub one_key : (one two : List ℕ) → same_key one two ≡ true → one ≡ two
 one_key one two h =
     slice_cmp-IsAntisymmetric nat_cmp-IsAntisymmetric one two (equal_from (slice_cmp nat_cmp one two) h)
 
@@ -79,7 +79,7 @@ pub not_back : (one two : List ℕ) → key_before one two ≡ true → key_befo
 not_back one two h =
     ap is_lt (nat_list_cmp_total.antisymm two one ∙ ap ordering_reverse (lt_from (slice_cmp nat_cmp one two) h))
 
-not_itself : (one : List ℕ) → key_before one one ≡ false
+pub not_itself : (one : List ℕ) → key_before one one ≡ false
 not_itself one = ap is_lt (tied_itself nat_list_cmp_total one)
 
 -- a key between
@@ -122,10 +122,6 @@ at_point points key there = ap (λ b. cond b (2 * rank points key + 1) (2 * rank
 pub in_gap : (points : List (List ℕ)) (key : List ℕ) → is_point points key ≡ false
     → place_of points key ≡ 2 * rank points key
 in_gap points key none = ap (λ b. cond b (2 * rank points key + 1) (2 * rank points key)) none
-
-pub place_of_a_point : (points : List (List ℕ)) (key : List ℕ) → is_point points key ≡ true
-    → 2 * rank points key + 1 ≡ place_of points key
-place_of_a_point points key there = sym (at_point points key there)
 
 pub place_within : (points : List (List ℕ)) (key : List ℕ) → place_of points key < 2 * length points + 1
 place_within points key = by (is_point points key) refl

@@ -23,10 +23,10 @@ key_order : IsStrictWeakOrder key_before
 key_order = ranks_by nat_list_cmp_total (λ (k : List ℕ). k)
 
 -- of two points the later doesn't come before the earlier
-in_order : (points : List (List ℕ)) → IsSorted (slice_cmp nat_cmp) points → (i j : ℕ) (d e : List ℕ) → i ≤ j
+pub points_in_order : (points : List (List ℕ)) → IsSorted (slice_cmp nat_cmp) points → (i j : ℕ) (d e : List ℕ) → i ≤ j
     → j < length points
     → key_before (get_or points j e) (get_or points i d) ≡ false
-in_order points sorted i j d e le lt =
+points_in_order points sorted i j d e le lt =
     ap (λ p. key_before (get_or points j e) p) (get_or_default points i d e (omega (arith, le, lt)))
     ∙ sorted_far key_before key_order points sorted i j e le lt
 
@@ -38,7 +38,7 @@ pub all_before : (points : List (List ℕ)) (key : List ℕ) (middle : ℕ) (d :
 all_before points key middle d sorted within before k e le =
     less_past (slice_cmp nat_cmp) nat_list_cmp_total (get_or points middle d) (get_or points k e) key
     (slice_cmp nat_cmp (get_or points middle d) (get_or points k e)) refl
-    (in_order points sorted k middle e d le within) before
+    (points_in_order points sorted k middle e d le within) before
 
 -- what is no earlier than a point that doesn't come before the key doesn't either
 pub none_before : (points : List (List ℕ)) (key : List ℕ) (middle : ℕ) (d : List ℕ)
@@ -50,7 +50,7 @@ none_before points key middle d sorted behind k e le within =
     (λ h. both_ways (key_before (get_or points middle d) key) behind
     (less_past (slice_cmp nat_cmp) nat_list_cmp_total (get_or points k e) (get_or points middle d) key
     (slice_cmp nat_cmp (get_or points k e) (get_or points middle d)) refl
-    (in_order points sorted middle k d e le within) h))
+    (points_in_order points sorted middle k d e le within) h))
 
 equal_from : (o : Ordering) → is_eq o ≡ true → o ≡ Equal
 equal_from Less h = absurd (false≢true h)
@@ -68,7 +68,7 @@ none_met points key middle d sorted after k e le within =
     let same : slice_cmp nat_cmp here key ≡ Equal = equal_from (slice_cmp nat_cmp here key) h in
     let less : slice_cmp nat_cmp key there ≡ Less = nat_list_cmp_total.antisymm key there ∙ ap ordering_reverse after in
     let before : slice_cmp nat_cmp here there ≡ Less = nat_list_cmp_total.congr here key there same ∙ less in
-    both_ways (key_before here there) (in_order points sorted middle k d e le within) (ap is_lt before))
+    both_ways (key_before here there) (points_in_order points sorted middle k d e le within) (ap is_lt before))
 
 -- ---- a turn
 

@@ -1,6 +1,6 @@
 -- For private functions alone: the parts of an index of NSEC3 records. Hashes lie on a circle: past the places of one lap come those of a
 -- second one.
-use Rattle.std.specs.Prelude.{◌≡◌, ℕ, ◌+◌, ◌*◌, ◌<◌, ◌^◌, true, List, [], ◌∷◌, length, map, slice_index_or, Option, None, Some, if◌then◌else◌}
+use Rattle.std.specs.Prelude.{◌≡◌, ℕ, ◌+◌, ◌*◌, ◌<◌, ◌^◌, nat_lt, true, List, [], ◌∷◌, length, map, slice_index_or, take, Option, None, Some, if◌then◌else◌}
 use Rattle.std.specs.List.{flat_map}
 use Rattle.std.specs.List.Sorted.{IsPermutation}
 use Rattle.dns_model.specs.Owned.{OwnedNsec3}
@@ -43,6 +43,10 @@ span_of_hashes points (Some hashes) =
 abbrev pub hash_span : List (List ℕ) → OwnedNsec3 → Span
 hash_span points nsec3 = span_of_hashes points (hashes_of nsec3)
 
+-- what lies between two places, the same
+abbrev pub span_between : ℕ → ℕ → ℕ → Span
+span_between start end lap = record { start = start; end = if nat_lt start end then end else end + lap }
+
 -- the two hashes are points
 pub record AreHashPoints (points : List (List ℕ)) (hashes : HashPair) : Type 0 where
   pub owner : is_point points hashes.owner ≡ true
@@ -54,6 +58,11 @@ pub record IsHashPlaced (points : List (List ℕ)) (nsec3 : OwnedNsec3) : Type 0
 
 pub record AreHashPlaced (points : List (List ℕ)) (nsec3s : List OwnedNsec3) : Type 0 where
   pub each : (number : ℕ) (d : OwnedNsec3) → number < length nsec3s → IsHashPlaced points (slice_index_or nsec3s number d)
+
+-- the spans of so many records, whose hashes have the places before this number
+pub record AreSpannedTo (points : List (List ℕ)) (nsec3s : List OwnedNsec3) (count next : ℕ) (found : List Span) : Type 0 where
+  pub keys : next ≡ length (flat_map hash_keys (take count nsec3s))
+  pub spans : found ≡ map (hash_span points) (take count nsec3s)
 
 -- the points are the hashes of the records, and the table has their spans over two laps
 pub record IsNsec3Index (nsec3s : List OwnedNsec3) (points : List (List ℕ)) (table : TableValue) : Type 0 where

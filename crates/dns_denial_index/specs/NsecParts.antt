@@ -16,6 +16,12 @@ keys_of nsec = name_key nsec.owner ∷ end_key nsec ∷ []
 abbrev pub nsec_span : List (List ℕ) → OwnedNsec → Span
 nsec_span points nsec = record { start = place_of points (name_key nsec.owner); end = place_of points (end_key nsec) }
 
+-- what lies between each two places
+abbrev pub paired : List ℕ → List Span
+paired [] = []
+paired (start ∷ []) = []
+paired (start ∷ end ∷ places) = record { start = start; end = end } ∷ paired places
+
 -- the two keys are points
 pub record IsPlaced (points : List (List ℕ)) (nsec : OwnedNsec) : Type 0 where
   pub owner : is_point points (name_key nsec.owner) ≡ true

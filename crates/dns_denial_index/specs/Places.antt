@@ -1,7 +1,8 @@
 -- For private functions alone: where keys stand among points, which are keys in order. Keys are strings of bytes.
-use Rattle.std.specs.Prelude.{◌≡◌, ℕ, ◌+◌, ◌-◌, ◌*◌, ◌^◌, ◌<◌, ◌≤◌, Bool, true, false, List, length, slice_index_or, if◌then◌else◌}
+use Rattle.std.specs.Prelude.{◌≡◌, ℕ, ◌+◌, ◌-◌, ◌*◌, ◌^◌, ◌<◌, ◌≤◌, Bool, true, false, List, [], ◌∷◌, length, map, slice_index_or, if◌then◌else◌}
 use Rattle.std.specs.Cmp.Lexicographic.{slice_cmp}
 use Rattle.std.specs.List.{count_by, list_any}
+use Rattle.std.specs.List.Sorted.{IsPermutation, IsSorted}
 use Rattle.std.specs.Ordering.{nat_cmp, is_lt, is_eq}
 
 abbrev pub key_before : List ℕ → List ℕ → Bool
@@ -41,3 +42,29 @@ pub record IsTurned (points : List (List ℕ)) (key : List ℕ) (low high : ℕ)
   pub searched : IsSearched points key low high met
   pub rises : from ≤ to
   pub halved : IsHalved (length points) (high - low) (to - from)
+
+-- keys with their numbers, from this one on
+abbrev pub number_all : ℕ → List (List ℕ) → List (List ℕ × ℕ)
+number_all from [] = []
+number_all from (key ∷ keys) = (key, from) ∷ number_all (from + 1) keys
+
+abbrev pub key_of : List ℕ × ℕ → List ℕ
+key_of numbered = numbered.0
+
+-- these keys in order, each with its number in the order in which they were given
+pub record IsNumbered (keys : List (List ℕ)) (numbered : List (List ℕ × ℕ)) : Type 0 where
+  pub all : IsPermutation (number_all 0 keys) numbered
+  pub order : IsSorted (slice_cmp nat_cmp) (map key_of numbered)
+
+-- of so many points in order the first one that is the last of them has this number
+pub record IsFirstOf (points : List (List ℕ)) (count first : ℕ) : Type 0 where
+  pub order : first ≤ count - 1
+  pub before : (k : ℕ) (d : List ℕ) → k < first → key_before (slice_index_or points k d) (slice_index_or points first d) ≡ true
+  pub last : (d : List ℕ) → 0 < count → slice_index_or points (count - 1) d ≡ slice_index_or points first d
+
+-- so many keys in order have their places, each at its number
+pub record IsPlacedTo (keys : List (List ℕ)) (numbered : List (List ℕ × ℕ)) (count first : ℕ) (found : List ℕ) : Type 0 where
+  pub long : length found ≡ length keys
+  pub start : IsFirstOf (map key_of numbered) count first
+  pub places : (k : ℕ) (d : List ℕ × ℕ) → k < count
+      → slice_index_or found ((slice_index_or numbered k d).1) 0 ≡ place_of (map key_of numbered) ((slice_index_or numbered k d).0)

@@ -1,22 +1,21 @@
 //! NSEC3 records that a search finds (RFC 5155, 3 and 8).
 ghost use Rattle.std.specs.Prelude.{◌≡◌, ◌+◌, ◌-◌, ◌*◌, ◌<◌, ◌≤◌, ◌^◌, ◌&&◌, ◌++◌, IfOk, OnOk, Some, length, map, position};
 ghost use Rattle.std.specs.List.{count_by, flat_map, list_any};
-ghost use Rattle.std.specs.List.Sorted.{IsPermutation};
 ghost use Rattle.std.specs.Option.{option_copied};
 ghost use Rattle.dns_model.specs.Nsec3Hash.{base32hex_decode as decoded};
 ghost use Rattle.dns_rules.specs.ListedTypes.{wildcard_lacks as wildcard_lacks_in};
 ghost use Rattle.dns_rules.specs.Nsec3Covering.{covering_number, first_label, is_considered as is_considered_in, nsec3_matches as matches_in};
-ghost use Rattle.dns_denial_index.specs.HashParts.{AreHashPlaced, AreHashPoints, IsHashPlaced, end_place, hash_keys, hash_span as hash_span_of, hashes_of};
+ghost use Rattle.dns_denial_index.specs.HashParts.{AreHashPlaced, hash_keys, hash_span as hash_span_of, hashes_of, span_between as span_between_in};
 ghost use Rattle.dns_denial_index.specs.NsecParts.{numbered};
+ghost use Rattle.dns_denial_index.specs.Places.{place_of};
 
-use crate::places::Points;
+use crate::places::{Placing, Points};
 use crate::spans::{Span, SpanTable};
 use dns_denial::{is_considered, wildcard_lacks};
 use dns_evidence::Steps;
 use dns_rdata::{Nsec3Record, base32hex_decode};
 use dns_record::{NoMemory, Octets, RecordType};
 use std::alloc::Global;
-use std::cmp::Ordering;
 use std::marker::Model;
 use std::sync::ledger::Ledger;
 
@@ -68,8 +67,8 @@ impl Nsec3Index {
         ensures { IfOk result (λ index. index ≡ nsec3s.items) }
     {
         let alloc = *nsec3s.allocator();
-        let points = points_of(alloc, nsec3s.as_slice())?;
-        let spans = spans_of(alloc, &points, nsec3s.as_slice())?;
+        let Placing { points, places } = Points::placing(keys_in(alloc, nsec3s.as_slice())?)?;
+        let spans = spans_of(alloc, &points, places.as_slice(), nsec3s.as_slice())?;
         let table = SpanTable::new(spans, 2 * points.places())?;
         Ok(Nsec3Index {
             nsec3s,
@@ -154,14 +153,14 @@ impl Nsec3Index {
 }
 
 // The hashes of the records that aren't ignored.
-fn points_of(alloc: Global, nsec3s: &[Nsec3Record]) -> Result<Points, NoMemory>
-    ensures { IfOk result (λ points. IsPermutation (flat_map hash_keys nsec3s.now) points) }
+fn keys_in(alloc: Global, nsec3s: &[Nsec3Record]) -> Result<Vec<Octets>, NoMemory>
+    ensures { IfOk result (λ keys. keys.items ≡ flat_map hash_keys nsec3s.now) }
 {
     let mut keys = Vec::with_capacity(alloc, nsec3s.len())?;
     for nsec3 in nsec3s {
         push_hashes(alloc, nsec3, &mut keys)?;
     }
-    Ok(Points::new(keys))
+    Ok(keys)
 }
 
 // Appends the two hashes of a record, unless it is ignored.
@@ -175,50 +174,40 @@ fn push_hashes(alloc: Global, nsec3: &Nsec3Record, keys: &mut Vec<Octets>) -> Re
     Ok(())
 }
 
-// What lies between the hashes of each record.
-fn spans_of(alloc: Global, points: &Points, nsec3s: &[Nsec3Record]) -> Result<Vec<Span>, NoMemory>
+// What lies between the hashes of each record, by the places of the hashes of those that aren't ignored. One that is ignored
+// starts where no hash is looked up, so that it matches none.
+fn spans_of(
+    alloc: Global,
+    points: &Points,
+    places: &[usize],
+    nsec3s: &[Nsec3Record],
+) -> Result<Vec<Span>, NoMemory>
     requires few { length points.now < 2 ^ 40 }
     requires placed { AreHashPlaced points.now nsec3s.now }
+    requires places { places.now ≡ map (place_of points.now) (flat_map hash_keys nsec3s.now) }
     ensures { IfOk result (λ spans. spans.items ≡ map (hash_span_of points.now) nsec3s.now) }
 {
+    let lap = points.places();
     let mut spans = Vec::with_capacity(alloc, nsec3s.len())?;
+    let mut next = 0;
     for nsec3 in nsec3s {
-        spans.push(span_of(points, nsec3))?;
+        if !is_considered(nsec3) {
+            spans.push(Span { start: lap, end: 0 })?;
+            continue;
+        }
+        spans.push(span_between(places[next], places[next + 1], lap))?;
+        next += 2;
     }
     Ok(spans)
 }
 
-// The same of one record. One that is ignored starts where no hash is looked up, so that it matches none.
-fn span_of(points: &Points, nsec3: &Nsec3Record) -> Span
-    requires few { length points.now < 2 ^ 40 }
-    requires placed { IsHashPlaced points.now nsec3.now }
-    ensures { result ≡ hash_span_of points.now nsec3.now }
+// What lies between two places. It ends in the second lap, where it goes past the greatest hash.
+fn span_between(start: usize, end: usize, lap: usize) -> Span
+    requires { end + lap < 2 ^ 64 }
+    ensures { result ≡ span_between_in start end lap }
 {
-    match hashes(nsec3) {
-        Some(both) => Span {
-            start: points.place_of_point(both.owner.as_slice()),
-            end: end_of(points, &both),
-        },
-        None => Span {
-            start: points.places(),
-            end: 0,
-        },
-    }
-}
-
-// Where the hashes between the two end: in the second lap, where they go past the greatest hash.
-fn end_of(points: &Points, hashes: &HashPair) -> usize
-    requires few { length points.now < 2 ^ 40 }
-    requires placed { AreHashPoints points.now hashes.now }
-    ensures { result ≡ end_place points.now hashes.now.owner hashes.now.next }
-{
-    let next = hashes.next.as_slice();
-    let place = points.place_of_point(next);
-    if hashes.owner.as_slice().cmp(next) == Ordering::Less {
-        place
-    } else {
-        place + points.places()
-    }
+    let end = if start < end { end } else { end + lap };
+    Span { start, end }
 }
 
 // The two hashes of a record; `None` where it is ignored.

@@ -1,14 +1,13 @@
 //! NSEC records that a search finds (RFC 4034, 4; RFC 4035, 5.4).
 ghost use Rattle.std.specs.Prelude.{◌≡◌, ◌+◌, ◌-◌, ◌*◌, ◌<◌, ◌≤◌, ◌^◌, IfOk, length, map, position};
 ghost use Rattle.std.specs.List.{flat_map};
-ghost use Rattle.std.specs.List.Sorted.{IsPermutation};
 ghost use Rattle.std.specs.Option.{option_copied};
 ghost use Rattle.dns_rules.specs.Covering.{counts_for, covering_number};
 ghost use Rattle.dns_rules.specs.NsecVerdict.{is_owned_by as is_owned_by_in, wildcard_denies as wildcard_denies_in};
-ghost use Rattle.dns_denial_index.specs.NsecParts.{ArePlaced, IsPlaced, keys_of, nsec_span as nsec_span_of, numbered};
+ghost use Rattle.dns_denial_index.specs.NsecParts.{keys_of, numbered, paired};
 
 use crate::name_keys::{end_key, name_key};
-use crate::places::Points;
+use crate::places::{Placing, Points};
 use crate::spans::{Span, SpanTable};
 use dns_denial::{is_silent_on, wildcard_lacks};
 use dns_evidence::Steps;
@@ -58,8 +57,8 @@ impl NsecIndex {
         ensures { IfOk result (λ index. index ≡ nsecs.items) }
     {
         let alloc = *nsecs.allocator();
-        let points = points_of(alloc, nsecs.as_slice())?;
-        let spans = spans_of(alloc, &points, nsecs.as_slice())?;
+        let Placing { points, places } = Points::placing(keys_in(alloc, nsecs.as_slice())?)?;
+        let spans = spans_of(alloc, places.as_slice())?;
         let table = SpanTable::new(spans, points.places())?;
         Ok(NsecIndex {
             nsecs,
@@ -144,8 +143,8 @@ impl NsecIndex {
 }
 
 // The keys of the records' owners and ends.
-fn points_of(alloc: Global, nsecs: &[NsecRecord]) -> Result<Points, NoMemory>
-    ensures { IfOk result (λ points. IsPermutation (flat_map keys_of nsecs.now) points) }
+fn keys_in(alloc: Global, nsecs: &[NsecRecord]) -> Result<Vec<Octets>, NoMemory>
+    ensures { IfOk result (λ keys. keys.items ≡ flat_map keys_of nsecs.now) }
 {
     let mut keys = Vec::with_capacity(alloc, nsecs.len())?;
     for nsec in nsecs {
@@ -153,32 +152,23 @@ fn points_of(alloc: Global, nsecs: &[NsecRecord]) -> Result<Points, NoMemory>
         keys.push(Octets::from_slice(alloc, owner.as_slice())?)?;
         keys.push(Octets::from_slice(alloc, end_key(nsec).as_slice())?)?;
     }
-    Ok(Points::new(keys))
+    Ok(keys)
 }
 
-// What lies between the owner and the end of each record.
-fn spans_of(alloc: Global, points: &Points, nsecs: &[NsecRecord]) -> Result<Vec<Span>, NoMemory>
-    requires few { length points.now < 2 ^ 40 }
-    requires placed { ArePlaced points.now nsecs.now }
-    ensures { IfOk result (λ spans. spans.items ≡ map (nsec_span_of points.now) nsecs.now) }
+// What lies between each two places.
+fn spans_of(alloc: Global, places: &[usize]) -> Result<Vec<Span>, NoMemory>
+    ensures { IfOk result (λ spans. spans.items ≡ paired places.now) }
 {
-    let mut spans = Vec::with_capacity(alloc, nsecs.len())?;
-    for nsec in nsecs {
-        spans.push(span_of(points, nsec))?;
+    let mut spans = Vec::with_capacity(alloc, places.len() / 2)?;
+    let mut left = places;
+    'pairs: while let [start, end, more @ ..] = left {
+        spans.push(Span {
+            start: *start,
+            end: *end,
+        })?;
+        left = more;
     }
     Ok(spans)
-}
-
-// The same of one record.
-fn span_of(points: &Points, nsec: &NsecRecord) -> Span
-    requires few { length points.now < 2 ^ 40 }
-    requires placed { IsPlaced points.now nsec.now }
-    ensures { result ≡ nsec_span_of points.now nsec.now }
-{
-    let owner = name_key(&nsec.owner.borrowed());
-    let start = points.place_of_point(owner.as_slice());
-    let end = points.place_of_point(end_key(nsec).as_slice());
-    Span { start, end }
 }
 
 // The number of the nearest record around a name, unless that one tells nothing of the name (RFC 6840, 4.1).

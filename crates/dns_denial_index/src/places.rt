@@ -1,10 +1,10 @@
 //! Keys in order, and where another key stands among them. Keys are strings of bytes.
-ghost use Rattle.std.specs.Prelude.{◌≡◌, ◌+◌, ◌-◌, ◌*◌, ◌<◌, ◌≤◌, ◌^◌, IsTrue, length, true};
+ghost use Rattle.std.specs.Prelude.{◌≡◌, ◌+◌, ◌-◌, ◌*◌, ◌<◌, ◌≤◌, ◌^◌, IfOk, length, map};
 ghost use Rattle.std.specs.List.Sorted.{IsPermutation};
-ghost use Rattle.dns_denial_index.specs.Places.{is_point, place_of, rank};
+ghost use Rattle.dns_denial_index.specs.Places.{key_of, place_of, IsNumbered};
 
 use dns_evidence::Steps;
-use dns_record::Octets;
+use dns_record::{NoMemory, Octets};
 use std::cmp::Ordering;
 use std::marker::Model;
 use std::sync::ledger::Ledger;
@@ -28,14 +28,34 @@ impl Model for Points {
     ghost invariant = { λ p. IsSorted (slice_cmp nat_cmp) p.sorted.items };
 }
 
+/// Keys in order, and the places of keys among them.
+#[derive(Drop)]
+pub(crate) struct Placing {
+    pub(crate) points: Points,
+    pub(crate) places: Vec<usize>,
+}
+
 impl Points {
-    /// These keys, in order.
-    pub(crate) fn new(keys: Vec<Octets>) -> Points
-        ensures { IsPermutation keys.items result }
+    /// These keys, in order, and the place of each of them, in the order in which they were given.
+    pub(crate) fn placing(keys: Vec<Octets>) -> Result<Placing, NoMemory>
+        requires { length keys.items < 2 ^ 40 }
+        ensures points { IfOk result (λ placing. IsPermutation keys.items placing.points) }
+        ensures places { IfOk result (λ placing. placing.places.items ≡ map (place_of placing.points) keys.items) }
     {
-        let mut sorted = keys;
-        sorted.sort_unstable();
-        Points { sorted }
+        let mut places = vec![in *keys.allocator(); 0; keys.len()]?;
+        let numbered = in_order(keys)?;
+        let mut first = 0;
+        for index in 0..numbered.len() {
+            if numbered[index].0 != numbered[first].0 {
+                first = index;
+            }
+            places[numbered[index].1] = 2 * first + 1;
+        }
+        let sorted = without_numbers(numbered)?;
+        Ok(Placing {
+            points: Points { sorted },
+            places,
+        })
     }
 
     /// How many places there are: one more than twice the points.
@@ -72,23 +92,28 @@ impl Points {
         }
         if met { 2 * low + 1 } else { 2 * low }
     }
+}
 
-    /// The place of a point.
-    pub(crate) fn place_of_point(&self, point: &[u8]) -> usize
-        requires few { length self.now < 2 ^ 40 }
-        requires point { is_point self.now point.now ≡ true }
-        ensures { result ≡ place_of self.now point.now }
-    {
-        2 * self.rank(point) + 1
+// These keys in order, each with its number in the order in which they were given.
+fn in_order(keys: Vec<Octets>) -> Result<Vec<(Octets, usize)>, NoMemory>
+    ensures { IfOk result (λ numbered. IsNumbered keys.items numbered.items) }
+{
+    let mut numbered = Vec::with_capacity(*keys.allocator(), keys.len())?;
+    for key in keys {
+        let number = numbered.len();
+        numbered.push((key, number))?;
     }
+    numbered.sort_unstable();
+    Ok(numbered)
+}
 
-    // How many points come before a key.
-    fn rank(&self, key: &[u8]) -> usize
-        ensures value { result ≡ rank self.now key.now }
-        ensures bound { result ≤ length self.now }
-    {
-        self.sorted
-            .as_slice()
-            .partition_point(|point| point.as_slice().cmp(key).is_lt())
+// The keys alone.
+fn without_numbers(numbered: Vec<(Octets, usize)>) -> Result<Vec<Octets>, NoMemory>
+    ensures { IfOk result (λ keys. keys.items ≡ map key_of numbered.items) }
+{
+    let mut keys = Vec::with_capacity(*numbered.allocator(), numbered.len())?;
+    for (key, _) in numbered {
+        keys.push(key)?;
     }
+    Ok(keys)
 }

@@ -1,7 +1,7 @@
 use Rattle.std.proofs.Common.{◌≡◌, take}
 use Rattle.std.specs.List.{flat_map}
 use Rattle.dns_denial_index.specs.HashParts.{hash_keys}
-use Rattle.dns_denial_index.proofs.nsec3_index.points_of.Given as goal
+use Rattle.dns_denial_index.proofs.nsec3_index.keys_in.Given as goal
 
 -- the keys of the records so far
 abbrev pub invariant-loop-nsec3 : goal.invariant-loop-nsec3
