@@ -52,7 +52,8 @@ no_fault how s error valid (NotDenied response proof given is) =
     denied_never proof ((session_proved how s response.trail (Denied proof) valid given.trail).ends)
 
 -- how a run over a valid session ended
-valid_ends : (how : Verification) (shows : Parts) (bytes : List ℕ) (s : SessionValue) (status : ℕ) (before now : Option (List ℕ))
+valid_ends : (how : Verification) (shows : Parts) (bytes : List ℕ) (s : SessionValue) (status : ℕ)
+    (before now : Option (List ℕ))
     → session_of bytes ≡ Ok s → IsValid how s
     → RunEnding how shows bytes status before now → EndsSecurely how shows s status before now
 valid_ends how shows bytes s status before now read valid (Reported is wrote) =

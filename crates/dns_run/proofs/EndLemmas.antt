@@ -75,7 +75,8 @@ data Session (how : Verification) (s : SessionValue) (status : ℕ) (before now 
   GivesLater : 4 ≤ status → Session how s status before now
 
 -- how a run over a session ended
-session_ends : (how : Verification) (shows : Parts) (bytes : List ℕ) (s : SessionValue) (status : ℕ) (before now : Option (List ℕ))
+session_ends : (how : Verification) (shows : Parts) (bytes : List ℕ) (s : SessionValue) (status : ℕ)
+    (before now : Option (List ℕ))
     → session_of bytes ≡ Ok s → RunEnding how shows bytes status before now → Session how s status before now
 session_ends how shows bytes s status before now read (Reported is wrote) =
     let r : IsTrailReport how shows s wrote.text =

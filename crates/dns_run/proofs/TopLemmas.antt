@@ -33,7 +33,8 @@ record IsTop (how : Verification) (s : SessionValue) (trail : List AskedValue) (
   pub heard : step.reply ≡ heard_told (says_none (session_told s)) (session_records s)
   pub holds : step_holds_by before step step.reply ≡ true
 
-top_heard : (how : Verification) (s : SessionValue) (trail : List AskedValue) (ending : EndingValue) (is : IsSessionTrail how s trail ending)
+top_heard : (how : Verification) (s : SessionValue) (trail : List AskedValue) (ending : EndingValue)
+    (is : IsSessionTrail how s trail ending)
     (f : TopFirst trail)
     → is.top.reply ≡ heard_told (says_none (session_told s)) (session_records s)
 top_heard how s trail ending is f =
@@ -78,7 +79,8 @@ foreign_ends g step records o r is holds =
     (and_parts (is_foreign r step.ending) (is_bare step) (ap (judged_holds g step records) (sym is) ∙ holds)).0
 
 -- where the reply has a record of another class, the trail names the first
-pub trail_foreign : (how : Verification) (s : SessionValue) (trail : List AskedValue) (ending : EndingValue) (records : Told) (r : Rr)
+pub trail_foreign : (how : Verification) (s : SessionValue) (trail : List AskedValue) (ending : EndingValue)
+    (records : Told) (r : Rr)
     → IsSessionTrail how s trail ending
     → session_records s ≡ Some records → foreign_record s.query records ≡ Some r → is_foreign r ending ≡ true
 trail_foreign how s trail ending records r is told found =

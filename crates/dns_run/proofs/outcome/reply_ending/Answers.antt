@@ -12,5 +12,6 @@ returns-in_ok-text-in-Err c = λ how s given.
 
 pub returns-in_ok-text-in-Ok : goal.returns-in_ok-text-in-Ok
 returns-in_ok-text-in-Ok c = λ how s given.
-    report_given how _ s c.in-Ok.answer _ (subst (λ r. UnlessNoMemory r (AnswersSession how s (reply_of r))) c.in-Ok.is given)
+    report_given how _ s c.in-Ok.answer _
+    (subst (λ r. UnlessNoMemory r (AnswersSession how s (reply_of r))) c.in-Ok.is given)
     c.in_ok-text-in-Ok.ensures.text c.in_ok-text-in-Ok.ensures.fits c.in_ok-text-in-Ok.ensures.tells

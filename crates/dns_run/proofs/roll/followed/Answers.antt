@@ -7,7 +7,8 @@ use Rattle.dns_run.proofs.roll.followed.Goals as goal
 
 pub returns : goal.returns
 returns c =
-    let told : answers_of c.in_ok-verifier.verifier ≡ answers_of (listing c.args.text.algorithms c.args.text.accepts) = search rules in
+    let told : answers_of c.in_ok-verifier.verifier
+    ≡ answers_of (listing c.args.text.algorithms c.args.text.accepts) = search rules in
     let in_zone : c.text.inside.zone ≡ c.args.text.zone = search rules in
     let given : c.deref-2.result.now ≡ c.args.text.keys = search rules in
     let seen : c.deref-3.result.now ≡ c.args.text.sights = search rules in
