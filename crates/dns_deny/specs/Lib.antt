@@ -1,0 +1,4 @@
+pub mod ThenLines
+pub mod DenyGrammar
+pub mod DenialLines
+pub mod DenyLaws
