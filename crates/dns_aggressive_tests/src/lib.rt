@@ -8,6 +8,8 @@ mod given;
 #[cfg(test)]
 mod large_store_tests;
 #[cfg(test)]
+mod library_tests;
+#[cfg(test)]
 mod plain;
 #[cfg(test)]
 mod random_calls_tests;
