@@ -290,6 +290,15 @@ def revoked_among_three_thousand_keys():
     return roll([KEY, keys[0]], [signed.accept()], [f"sight {texts.MOMENT} {shown.hex()}"], [keys[0]])
 
 
+def deny_four_thousand_names():
+    """Behind the session of `deny-two-names` so many names that its records cover, and so many that they don't."""
+    with open(os.path.join(os.path.dirname(os.path.realpath(__file__)), "deny-two-names.session"), "rb") as file:
+        session = file.read().partition(b"then ")[0]
+    told = [(f"m{k}", "denied 3 3600") for k in range(2_000)] + [(f"z{k}", "unknown") for k in range(2_000)]
+    asked = "".join(f"then {name}.example. A\n" for name, _ in told) + "end\n"
+    return session + asked.encode(), "".join(f"{name}.example. A {what}\n" for name, what in told).encode(), 0, b"deny\n"
+
+
 def bad_line_behind_seventy_thousand():
     """Its number has five digits."""
     lines = ["dns-session 1", "moment 1", "algorithms", "query . A", *["fault . A busy"] * MANY, "reply . A"]
@@ -389,7 +398,7 @@ MADE = (forty_keys, sixty_links, two_hundred_sets, hundred_chains, audit_of_a_hu
         unsigned.deepest_searches, denials.denial_by_a_thousand_records, hashed.hashed_denial_by_a_thousand_records,
         hashed.unsigned_by_a_thousand_records, chain_of_three_hundred_links, forty_ds_records,
         set_of_4500_records, rdata_of_sixty_thousand_bytes, seventy_thousand_lines_of_each_kind, bad_line_behind_seventy_thousand,
-        roll_of_seventy_thousand_lines_of_each_kind, revoked_among_three_thousand_keys,
+        deny_four_thousand_names, roll_of_seventy_thousand_lines_of_each_kind, revoked_among_three_thousand_keys,
         referral_to_two_thousand_servers, long_name_of_another_class, three_hundred_words, word_of_100_000_letters, words_of_more_than_255_bytes, number_of_300_digits,
         algorithm_of_300_digits, type_of_300_letters, fault_of_300_letters, line_with_a_word_of_300_letters, *attacks.LARGE)
 

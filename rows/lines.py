@@ -258,6 +258,22 @@ ROLLS = (
          "dns-roll 1\nzone .\nalgorithms\nsight 1 -\nsight 2 -\nsight 1 -\nkey -\nend\n")),
 )
 
+# the same of questions behind a session
+DENY_PLACES = (
+    ("", "\nend\n", 1, (
+        "then . A", "then a\\.b.C MX", "then a. TYPE65535", "then a. ANY", "then \\200. RRSIG", "then a A\nthen a A",
+     ), (
+        "", "then", "then ", "then .", "then . ", "then . a", "then . A ", "then  . A", "then .  A", "then . A A", "Then . A", "then a..b A",
+        "then . TYPE065", "then . TYPE65536", "query . A", "fault . A busy", "reply . A -", "dns-report 1", "end ", "anchor . 13 aabb",
+     )),
+    ("then . A\nthen . A\n", "\nend\n", 3, ("then . A",), ("", "then", "query . A", "END")),
+)
+DENIES = (
+    (0, ("end\n",)),
+    (1, ("", "\n", "end", "then . A")),
+    (2, ("end\n\n", "end\nend\n", "end\nx", "end\nthen . A\nend\n", "then . A\n", "then . A\nend")),
+)
+
 
 def at(place, version=""):
     """The texts of a place, each with the number of its first bad line."""
@@ -287,3 +303,11 @@ def rolls():
     for place in ROLL_PLACES:
         yield from at(place)
     yield from ((text, number) for number, whole in ROLLS for text in whole)
+
+
+def denies():
+    """Each text of questions behind a session, with the number of its first bad line from the session's first, 0 where there is none."""
+    front = SESSION.count("\n")
+    for place in DENY_PLACES:
+        yield from ((SESSION + text, number and front + number) for text, number in at(place))
+    yield from ((SESSION + text, number and front + number) for number, whole in DENIES for text in whole)

@@ -4,6 +4,7 @@
     python3 rows/model.py SESSION          the report or the fault line
     python3 rows/model.py SESSION trail    with the trail
     python3 rows/model.py TEXT roll        the trusted keys after a text of sightings
+    python3 rows/model.py TEXT deny        which questions behind a session the records of its answer deny
     python3 rows/model.py SESSION explain  with the trail, and why each set isn't Secure
     python3 rows/model.py                  compares the rows and the examples that are looked up, also with the number of asks that the
                                            README of the examples says, and names those that differ"""
@@ -14,6 +15,7 @@ import sys
 from collections import namedtuple
 
 import answers
+import denying
 import hashes
 import reading
 import report
@@ -396,10 +398,13 @@ def written(session, words=(b"validate",)):
     """What is written for a session that is in its grammar, and the status; of a text of sightings whatever it is."""
     if words[0] == b"roll":
         return rolling.written(session)
+    session, questions = denying.parts_of(session) if words[0] == b"deny" else (session, ())
     lookup = Lookup(reading.session_in(session))
     fault = report.fault_line(lookup.top)
     if words[0] == b"explain":
         lines = report.explained(lookup)
+    elif words[0] == b"deny":
+        lines = [fault] if fault else denying.lines(lookup.top, questions, lookup.session.moment)
     else:
         lines = [fault] if fault else report.lines(lookup, b"trail" in words)
     return "".join(line + "\n" for line in lines).encode("latin-1"), 1 if fault else 0
@@ -419,7 +424,7 @@ def stored_rows():
     for path in sorted(glob.glob(f"{FOLDER}/*.session") + glob.glob(f"{FOLDER}/../examples/*.session")):
         place = path.removesuffix(".session")
         words, status = read(f"{place}.words", b"validate\n").split(b"\n")[:-1], int(read(f"{place}.status", b"0"))
-        if (words[:1] in ([b"validate"], [b"explain"]) and status in (0, 1)) or words == [b"roll"]:
+        if (words[:1] in ([b"validate"], [b"explain"], [b"deny"]) and status in (0, 1)) or words == [b"roll"]:
             yield place, words, read(path, b""), read(f"{place}.out", b""), status
         if os.path.isfile(f"{place}.trail"):
             yield place, [b"validate", b"trail"], read(path, b""), read(f"{place}.trail", b""), 0
@@ -437,7 +442,7 @@ def miscounted():
 
 def main(words):
     if words:
-        first = words[1].encode() if words[1:] in (["explain"], ["roll"]) else b"validate"
+        first = words[1].encode() if words[1:] in (["explain"], ["roll"], ["deny"]) else b"validate"
         named = [first, *(word.encode() for word in words[1:])]
         text, status = written(read(words[0], b""), named)
         sys.stdout.buffer.write(text)

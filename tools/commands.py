@@ -3,6 +3,7 @@ import argparse
 import os
 import sys
 
+import denied
 import reading
 import rolled
 from report_lines import BadLine
@@ -61,9 +62,10 @@ def session_at(path):
     return session
 
 
-def run(tool, words, made, of_keys=None):
+def run(tool, words, made, of_keys=None, of_denials=None):
     """Writes the text that `made` makes of the report that the arguments name, and answers the status. `made` takes the report, the time or
-    None, and the session or None. Of trusted keys `of_keys` makes it, where it is given, by their records; --session is then the text of sightings."""
+    None, and the session or None. Of trusted keys `of_keys` makes it, where it is given, by their records; --session is then the text of sightings.
+    Of denials `of_denials` makes it, where it is given."""
     def said(status, what):
         if sys.stderr is not None:
             print(f"{tool}: {what}", file=sys.stderr)
@@ -73,8 +75,9 @@ def run(tool, words, made, of_keys=None):
     try:
         octets = read_input(path)
         is_rolled = of_keys is not None and rolled.is_rolled(octets)
+        is_denied = of_denials is not None and denied.is_denied(octets)
         path = words.session
-        session = None if is_rolled else session_at(path)
+        session = None if is_rolled or is_denied else session_at(path)
         zone = rolled.zone_in(read_input(path)) if is_rolled and path is not None else ()
     except OSError as error:
         return said(NOT_READ, f"{path} can't be read: {error.strerror or error}")
@@ -83,7 +86,12 @@ def run(tool, words, made, of_keys=None):
     moment = words.moment if words.moment is not None or session is None else session.moment
     path = words.report
     try:
-        text = of_keys(rolled.keys_in(octets, zone)) if is_rolled else made(report_in(octets), moment, session)
+        if is_rolled:
+            text = of_keys(rolled.keys_in(octets, zone))
+        elif is_denied:
+            text = of_denials(denied.denials_in(octets))
+        else:
+            text = made(report_in(octets), moment, session)
     except BadLine as bad:
         return said(BAD_INPUT, f"{path} is no report: {bad}")
     except NoReport as none:

@@ -14,6 +14,7 @@ HERE = os.path.dirname(os.path.realpath(__file__))
 TOP = os.path.dirname(HERE)
 sys.dont_write_bytecode = True
 sys.path[:0] = [HERE, f"{TOP}/rows"]
+import denied  # noqa: E402
 import drawing  # noqa: E402
 import graph as graphs  # noqa: E402
 import model  # noqa: E402
@@ -182,6 +183,23 @@ class TrustedKeys(unittest.TestCase):
             with self.assertRaises(report_lines.BadLine) as raised:
                 rolled.keys_in(text, ())
             self.assertEqual(raised.exception.number, number)
+
+
+class Denials(unittest.TestCase):
+    def test_each_line_is_said_in_words(self):
+        with open(f"{TOP}/rows/deny-two-names.out", "rb") as file:
+            octets = file.read()
+        self.assertTrue(denied.is_denied(octets))
+        said = denied.denials_in(octets)
+        self.assertEqual(denied.text_of(said), "mm.example. A: the name doesn't exist; 3600 seconds are left\nzz.example. A: unknown; ask a server\n")
+        self.assertEqual(denied.value_of(said)[0]["denied"], {"code": 3, "ttl": 3600})
+
+    def test_bad_lines_are_named(self):
+        for text, number in ((b"a. A unknown\na. A denied 2 5\n", 2), (b"a. A unknown\n\n", 2), (b"a. A denied 3 05\n", 1)):
+            with self.assertRaises(report_lines.BadLine) as raised:
+                denied.denials_in(text)
+            self.assertEqual(raised.exception.number, number)
+        self.assertFalse(denied.is_denied(b"fault busy\n"))
 
 
 class Pictures(unittest.TestCase):

@@ -17,7 +17,7 @@ use Rattle.dns_run.specs.Benches.{WritesBench}
 use Rattle.dns_run.specs.Asks.{server_call, EndsAsk}
 use Rattle.dns_run.specs.Completing.{IsValid, EndsSecurely}
 use Rattle.dns_run.specs.Ends.{EndsRun, EndsOver}
-use Rattle.dns_run.specs.Forms.{asked_form, asks_server, explains_task, form_verifies, help_text, other_form, shown_by, tells_fault, version_text}
+use Rattle.dns_run.specs.Forms.{asked_form, asks_server, goes_further, form_verifies, help_text, other_form, shown_by, tells_fault, version_text}
 use Rattle.dns_run.specs.Outcomes.{Leaves, LeavesPrefix, Reports, Derives, Fails}
 use Rattle.dns_run.specs.Runs.{EndsAsSession, EndsByGrammar, EndsByWords, IfSession}
 use Rattle.dns_run.specs.Tasks.{EndsTask}
@@ -171,14 +171,14 @@ module _ {Z : Type 0} (asked : List (Vec ℕ Z)) where
 
     -- a task was done
     pub task_ends : (task : TaskKind) → asked_form asked ≡ Some (Task task) → EndsTask task status told before now
-        → (explains_task task ≡ false → status ≡ 1 → Leaves (Fails ByList) told before now) → status ≢ 2
+        → (goes_further task ≡ false → status ≡ 1 → Leaves (Fails ByList) told before now) → status ≢ 2
         → EndsRun asked status told before now
     unfolding task_of
     task_ends task is ends fault form = record {
       report = λ how shows shown. absurd (no_session how shows task (sym is ∙ validation_asked how shows shown));
       derived = λ how shows shown. absurd (no_session how shows task (sym is ∙ validation_asked how shows shown));
       fault = λ tells. subst (λ v. status ≡ 1 → Leaves (Fails v) told before now) (ap form_verifies (sym is))
-          (fault (not_true (explains_task task) (ap tells_fault (sym is) ∙ tells)));
+          (fault (not_true (goes_further task) (ap tells_fault (sym is) ∙ tells)));
       session = λ how shows shown. absurd (no_session how shows task (sym is ∙ validation_asked how shows shown));
       completes = λ how shows shown. absurd (no_session how shows task (sym is ∙ validation_asked how shows shown));
       grammar = λ how shows shown. absurd (no_session how shows task (sym is ∙ validation_asked how shows shown));

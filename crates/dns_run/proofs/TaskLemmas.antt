@@ -20,6 +20,8 @@ use Rattle.dns_audit.specs.ReportGrammar.{audit_of}
 use Rattle.dns_io.specs.Reading.{input_limit, too_long_text, OfInput}
 use Rattle.dns_io.specs.Writing.{TakesPrefix}
 use Rattle.dns_io.proofs.Leaving.{of_read, of_any, of_long, nothing_taken}
+use Rattle.dns_deny.specs.DenyGrammar.{DenyValue, deny_of}
+use Rattle.dns_deny.specs.DenialLines.{denials_text}
 use Rattle.dns_questions.specs.Questions.{questions}
 use Rattle.dns_questions.specs.QuestionsText.{questions_text}
 use Rattle.dns_roll.specs.RollValue.{RollValue}
@@ -28,17 +30,17 @@ use Rattle.dns_report.specs.Faults.{fault_text}
 use Rattle.dns_session.specs.SessionValue.{SessionValue}
 use Rattle.dns_session.specs.Grammar.{session_of}
 use Rattle.dns_run.specs.declared.task.Task.{Task}
-use Rattle.dns_run.specs.declared.task.Task.TheVariants.{Audit, Questions, Roll, Explain}
+use Rattle.dns_run.specs.declared.task.Task.TheVariants.{Audit, Questions, Roll, Deny, Explain}
 use Rattle.dns_session_lookup.specs.Causes.{AnswersSession}
 use Rattle.dns_run.specs.Explaining.{ExplainEnds, IsExplained}
-use Rattle.dns_run.specs.Forms.{explains_task}
+use Rattle.dns_run.specs.Forms.{goes_further}
 use Rattle.dns_run.specs.Outcomes.{Fails, Leaves, Wrote, WrotePrefix}
 use Rattle.dns_session_lookup.specs.Answering.{session_limits}
 use Rattle.dns_session_lookup.specs.Soundness.{session_judge}
 use Rattle.dns_session_lookup.specs.Verifying.{listing}
 use Rattle.dns_session_lookup.specs.declared.verification.Verification.{Verification}
 use Rattle.dns_session_lookup.specs.declared.verification.Verification.TheVariants.{ByList}
-use Rattle.dns_run.specs.Tasks.{AuditEnds, QuestionsEnd, RollEnds, AnswersQuestions, Listed, Failed, question_judge, denied_trail, TaskEnds, TaskTells, Ended, TooLong, Nothing, EndsTask}
+use Rattle.dns_run.specs.Tasks.{AuditEnds, QuestionsEnd, RollEnds, DenyEnds, AnswersDeny, Told, Faulted, EndsAsFault, MayFail, AnswersQuestions, Listed, Failed, question_judge, denied_trail, TaskEnds, TaskTells, Ended, TooLong, Nothing, EndsTask}
 
 -- ---- what bytes come to, written
 
@@ -120,6 +122,11 @@ roll_form : (read : Result RollValue ℕ) (text : List ℕ) → RollEnds read 2 
 roll_form (Ok t) text ends = less_differs 0 2 (omega arith) (sym ends.done)
 roll_form (Err number) text ends = less_differs 2 3 (omega arith) ends.refused
 
+deny_form : (read : Result DenyValue ℕ) (text : List ℕ) → DenyEnds read 2 text → ⊥
+deny_form (Ok t) text (Told done tells) = less_differs 0 2 (omega arith) (sym done)
+deny_form (Ok t) text (Faulted done fault) = less_differs 1 2 (omega arith) (sym done)
+deny_form (Err number) text ends = less_differs 2 3 (omega arith) ends.refused
+
 explained_form : (j : Judge) (limits : Limits) (reply : Reply) (text : List ℕ) → IsExplained j limits reply 2 text → ⊥
 explained_form j limits (Ok answer) text is = less_differs 0 2 (omega arith) (sym is.0)
 explained_form j limits (Err error) text is = less_differs 1 2 (omega arith) (sym is.0)
@@ -129,25 +136,27 @@ explain_form how (Ok s) text ends =
     explained_form (session_judge how s) (session_limits s) ends.reply text ends.is
 explain_form how (Err number) text ends = less_differs 2 3 (omega arith) ends.refused
 
-ends_fault : (task : Task) (bytes text : List ℕ) → explains_task task ≡ false → TaskEnds task bytes 1 text
+ends_fault : (task : Task) (bytes text : List ℕ) → goes_further task ≡ false → TaskEnds task bytes 1 text
     → Fails ByList bytes text
 ends_fault Audit bytes text plain ends = absurd (audit_fault (audit_of bytes) text ends)
 ends_fault Questions bytes text plain ends = questions_fault bytes (session_of bytes) text refl ends
 ends_fault Roll bytes text plain ends = absurd (roll_fault (roll_of bytes) text ends)
+ends_fault Deny bytes text plain ends = cc
 ends_fault (Explain how) bytes text plain ends = cc
 
 ends_form : (task : Task) (bytes text : List ℕ) → TaskEnds task bytes 2 text → ⊥
 ends_form Audit bytes text ends = audit_form (audit_of bytes) text ends
 ends_form Questions bytes text ends = questions_form (session_of bytes) text ends
 ends_form Roll bytes text ends = roll_form (roll_of bytes) text ends
+ends_form Deny bytes text ends = deny_form (deny_of bytes) text ends
 ends_form (Explain how) bytes text ends = explain_form how (session_of bytes) text ends
 
-wrote_fault : (task : Task) (bytes : List ℕ) (before now : Option (List ℕ)) → explains_task task ≡ false
+wrote_fault : (task : Task) (bytes : List ℕ) (before now : Option (List ℕ)) → goes_further task ≡ false
     → Wrote before now (TaskEnds task bytes 1) → Wrote before now (Fails ByList bytes)
 wrote_fault task bytes before now plain wrote =
     record { text = wrote.text; fact = ends_fault task bytes wrote.text plain wrote.fact; written = wrote.written }
 
-leaves_fault : (task : Task) (told before now : Option (List ℕ)) → explains_task task ≡ false
+leaves_fault : (task : Task) (told before now : Option (List ℕ)) → goes_further task ≡ false
     → OfInput told (λ bytes. Wrote before now (TaskEnds task bytes 1)) → Leaves (Fails ByList) told before now
 leaves_fault task None before now plain some =
     record { bytes = some.bytes; fact = wrote_fault task some.bytes before now plain some.fact }
@@ -159,7 +168,7 @@ leaves_form task None before now some = ends_form task some.bytes some.fact.text
 leaves_form task (Some bytes) before now wrote = ends_form task bytes wrote.text wrote.fact
 
 -- where nothing is explained, 1 is answered only with the line of a session's error
-pub task_faults : (task : Task) (status : ℕ) (told before now : Option (List ℕ)) → explains_task task ≡ false
+pub task_faults : (task : Task) (status : ℕ) (told before now : Option (List ℕ)) → goes_further task ≡ false
     → EndsTask task status told before now → status ≡ 1 → Leaves (Fails ByList) told before now
 task_faults task status told before now plain ends is =
     leaves_fault task told before now plain
@@ -252,21 +261,42 @@ denial_listed s error trail listed moment text has (inl memory) lists at is =
 denial_listed s error trail listed moment text has (inr given) lists at is =
     denial_given s (error_of error) trail listed moment text (denial_of (error_of error) trail has) given lists at is
 
--- the line of another error
-pub bare_fault : (s : SessionValue) (error : NetError) (told : Bool) (text : List ℕ)
-    → told ≡ is_no_memory (error_of error) → told ≡ false → denied_trail (error_of error) ≡ None
-    → (error ≡ NoMemory) ⊎ AnswersSession ByList s (Err (error_of error)) → text ≡ fault_text (error_of error)
-    → AnswersQuestions s 1 text
-bare_fault s error told text tests untold none (inl memory) is =
+-- ---- the line of an error
+
+pub fault_ends : (s : SessionValue) (error : NetError) (told : Bool) (text : List ℕ)
+    → told ≡ is_no_memory (error_of error) → told ≡ false → MayFail s error → text ≡ fault_text (error_of error)
+    → EndsAsFault s error 1 text
+fault_ends s error told text tests untold (inl memory) is =
     absurd (untold_no_memory error told tests untold (ap error_of memory))
-bare_fault s error told text tests untold none (inr given) is =
+fault_ends s error told text tests untold (inr given) is =
     let own = untold_no_memory error told tests untold in
-    Failed refl (record {
+    record {
+      done = refl;
       fault = record {
         error = error_of error;
         own = own;
         cause = given.caused (error_of error) refl own;
         spelled = is;
       };
-      bare = none;
+      its = refl;
+    }
+
+-- the questions of an error without a trail
+pub bare_fault : (s : SessionValue) (error : NetError) (status : ℕ) (text : List ℕ)
+    → denied_trail (error_of error) ≡ None
+    → EndsAsFault s error status text → AnswersQuestions s status text
+bare_fault s error status text none ends =
+    Failed ends.done (record { fault = ends.fault; bare = ap denied_trail ends.its ∙ none })
+
+-- ---- what an answer denies
+
+pub denials_told : (t : DenyValue) (answer : ResponseValue) (moment : ℕ) (lines : List Question) (text : List ℕ)
+    → moment ≡ t.session.moment → lines ≡ t.questions → AnswersSession ByList t.session (Ok answer)
+    → text ≡ denials_text answer moment lines → AnswersDeny t 0 text
+denials_told t answer moment lines text at are given is =
+    Told refl (record {
+      answer = answer;
+      given = given.answered;
+      denies = given.denies;
+      spelled = is ∙ ap (λ n. denials_text answer n lines) at ∙ ap (denials_text answer t.session.moment) are;
     })

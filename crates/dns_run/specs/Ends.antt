@@ -20,7 +20,7 @@ pub record EndsRun {Z : Type 0} (asked : List (Vec ℕ Z)) (status : ℕ) (told 
   -- That answer has a trail for the session, a derivation from the session's replies, in which what is Insecure has its ground.
   -- And what it denies holds in each zone in which the Secure NSEC or NSEC3 records of the reply are true.
   pub derived : IfValidates asked (λ how shows. status ≡ 0 → Leaves (Derives how shows) told before now)
-  -- Where no server is asked and nothing explained, 1 is answered only with the line of an error that has its cause in the session.
+  -- Where no server is asked, nothing explained and nothing denied, 1 is answered only with the line of an error that has its cause in the session.
   pub fault : IfTellsFault asked (status ≡ 1 → Leaves (Fails (words_verify asked)) told before now)
   -- What each session must end with, unless the status is 4 or more.
   pub session : IfValidates asked (λ how shows. IfSession told (λ s. EndsAsSession s status before now))

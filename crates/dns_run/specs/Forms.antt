@@ -13,7 +13,7 @@ use Rattle.dns_report.specs.declared.parts.Parts.TheVariants.{Answer, WithTrail}
 use Rattle.dns_run.specs.declared.form.Form.{Form}
 use Rattle.dns_run.specs.declared.form.Form.TheVariants.{Validate, Task, Bench, Ask, Help, Version}
 use Rattle.dns_run.specs.declared.task.Task.{Task as TaskKind}
-use Rattle.dns_run.specs.declared.task.Task.TheVariants.{Audit, Questions, Roll, Explain}
+use Rattle.dns_run.specs.declared.task.Task.TheVariants.{Audit, Questions, Roll, Deny, Explain}
 use Rattle.dns_session_lookup.specs.declared.verification.Verification.{Verification}
 use Rattle.dns_session_lookup.specs.declared.verification.Verification.TheVariants.{ByList, ByArithmetic}
 use Rattle.dns_io.specs.Runs.{Asked, AnInput, NoInput, FixedText}
@@ -38,6 +38,7 @@ form_named word =
     if bytes_eq word (codes "audit") then Some (Task Audit)
     else if bytes_eq word (codes "questions") then Some (Task Questions)
     else if bytes_eq word (codes "roll") then Some (Task Roll)
+    else if bytes_eq word (codes "deny") then Some (Task Deny)
     else if bytes_eq word (codes "explain") then Some (Task (Explain ByList))
     else if bytes_eq word (codes "--help") then Some Help
     else if bytes_eq word (codes "--version") then Some Version
@@ -137,17 +138,18 @@ asks_server _ = false
 abbrev pub IfAsksNone : {Z : Type 0} → List (Vec ℕ Z) → Type 0 → Type 0
 IfAsksNone words Fact = asks_server (asked_form words) ≡ false → Fact
 
--- a text that explains has other lines beside that of its error
-abbrev pub explains_task : TaskKind → Bool
-explains_task (Explain how) = true
-explains_task _ = false
+-- a text that explains has other lines beside that of its error; and an input with questions behind its session is none
+abbrev pub goes_further : TaskKind → Bool
+goes_further (Explain how) = true
+goes_further Deny = true
+goes_further _ = false
 
 abbrev pub tells_fault : Option Form → Bool
 tells_fault (Some (Ask how explains protocol server)) = false
-tells_fault (Some (Task task)) = not (explains_task task)
+tells_fault (Some (Task task)) = not (goes_further task)
 tells_fault _ = true
 
--- a fact, where the words ask no server and no explanation
+-- a fact, where the words ask no server, no explanation and no denials
 abbrev pub IfTellsFault : {Z : Type 0} → List (Vec ℕ Z) → Type 0 → Type 0
 IfTellsFault words Fact = tells_fault (asked_form words) ≡ true → Fact
 
@@ -173,7 +175,7 @@ words_verify words = form_verifies (asked_form words)
 
 abbrev pub help_text : List ℕ
 help_text =
-    codes "dns_check validate        reads a session and writes the report of its lookup\ndns_check validate trail  the same, and how the lookup came about, step by step\ndns_check verify          as validate, with signatures computed in place of the session's list\ndns_check verify trail    as validate trail, likewise\ndns_check explain         reads a session and writes the report and the trail of its lookup, and why each set isn't secure\ndns_check explain verify  the same, with signatures computed\ndns_check audit           reads a session and a report behind it, and writes which of its parts hold\ndns_check questions       reads a session and writes which signatures a verifier must be asked for\ndns_check roll            reads sightings of a zone's keys and writes which of them are trusted\ndns_check bench N         looks a host up below N nested zones, 1 to 100, and writes what that took\ndns_check ask udp ADDRESS reads a session and writes the report of its lookup over a server, as 192.0.2.1:53\ndns_check ask tcp ADDRESS the same over a connection\ndns_check ask verify udp ADDRESS, ask verify tcp ADDRESS  the same, with signatures computed\ndns_check ask explain ..  as ask, and as explain: ask explain udp ADDRESS, ask explain verify tcp ADDRESS\ndns_check --help          writes these lines\ndns_check --version       writes the name and the version\n"
+    codes "dns_check validate        reads a session and writes the report of its lookup\ndns_check validate trail  the same, and how the lookup came about, step by step\ndns_check verify          as validate, with signatures computed in place of the session's list\ndns_check verify trail    as validate trail, likewise\ndns_check explain         reads a session and writes the report and the trail of its lookup, and why each set isn't secure\ndns_check explain verify  the same, with signatures computed\ndns_check audit           reads a session and a report behind it, and writes which of its parts hold\ndns_check questions       reads a session and writes which signatures a verifier must be asked for\ndns_check roll            reads sightings of a zone's keys and writes which of them are trusted\ndns_check deny            reads a session and questions behind it, and writes which of them the records of its answer deny\ndns_check bench N         looks a host up below N nested zones, 1 to 100, and writes what that took\ndns_check ask udp ADDRESS reads a session and writes the report of its lookup over a server, as 192.0.2.1:53\ndns_check ask tcp ADDRESS the same over a connection\ndns_check ask verify udp ADDRESS, ask verify tcp ADDRESS  the same, with signatures computed\ndns_check ask explain ..  as ask, and as explain: ask explain udp ADDRESS, ask explain verify tcp ADDRESS\ndns_check --help          writes these lines\ndns_check --version       writes the name and the version\n"
 
 abbrev pub version_text : List ℕ
 version_text = codes "dns_check 0.1.0\n"

@@ -1,8 +1,9 @@
 -- What is asked of an input besides the report of its lookup: whether a report that stands behind its session holds (RFC 4035, 4.3, 5.2
--- and 5.3), which questions a verifier must be asked, and which keys of a zone are trusted after sightings of them (RFC 5011, 2); what an
--- input comes to, and what a run leaves.
+-- and 5.3), which questions a verifier must be asked, which keys of a zone are trusted after sightings of them (RFC 5011, 2), and which
+-- questions the records of an answer deny (RFC 8198, 5); what an input comes to, and what a run leaves.
 use Rattle.std.specs.Prelude.{ℕ, ◌≡◌, ◌⊎◌, ◌<◌, Bool, true, false, List, [], length, Option, None, Some, Result, Ok, Err}
 use Rattle.dns_model.specs.Chains.{Judge, judge}
+use Rattle.dns_model.specs.SoundAnswers.{ResponseValue}
 use Rattle.dns_model.specs.Trails.{AskedValue, EndingValue, Answered, Denied}
 use Rattle.dns_evidence.specs.Listing.{answers_of}
 use Rattle.dns_handle.specs.Errors.{ErrorValue, Dns, Nsec}
@@ -19,10 +20,13 @@ use Rattle.dns_questions.specs.QuestionsText.{questions_text}
 use Rattle.dns_roll.specs.RollValue.{RollValue}
 use Rattle.dns_roll.specs.RollGrammar.{roll_of}
 use Rattle.dns_roll.specs.TrustedText.{rolled_text}
+use Rattle.dns_deny.specs.DenyGrammar.{DenyValue, deny_of}
+use Rattle.dns_deny.specs.DenialLines.{denials_text}
 use Rattle.dns_io.specs.Reading.{input_limit, too_long_text, OfInput}
 use Rattle.dns_run.specs.declared.task.Task.{Task}
-use Rattle.dns_run.specs.declared.task.Task.TheVariants.{Audit, Questions, Roll, Explain}
-use Rattle.dns_session_lookup.specs.Answering.{session_limits, IsSessionTrail}
+use Rattle.dns_run.specs.declared.task.Task.TheVariants.{Audit, Questions, Roll, Deny, Explain}
+use Rattle.dns_lookup.specs.LookupAnswers.{ShowsItsDenial}
+use Rattle.dns_session_lookup.specs.Answering.{session_limits, IsSessionAnswer, IsSessionTrail}
 use Rattle.dns_session_lookup.specs.Causes.{AnswersSession}
 use Rattle.dns_run.specs.BadLines.{NamesLine}
 use Rattle.dns_run.specs.Explaining.{ExplainEnds}
@@ -94,11 +98,30 @@ abbrev pub RollEnds : Result RollValue ℕ → ℕ → List ℕ → Type 0
 RollEnds (Ok t) status text = AnswersRoll t status text
 RollEnds (Err number) status text = NamesLine number status text
 
+-- the text says of each question behind a session whether the records of an answer to the session deny it, at its moment; the answer has
+-- a trail for the session, and shows what it denies
+pub record TellsDenials (t : DenyValue) (text : List ℕ) : Type 0 where
+  pub answer : ResponseValue
+  pub given : IsSessionAnswer ByList t.session answer (Answered answer.denial)
+  pub denies : ShowsItsDenial t.session.moment t.session.query answer
+  pub spelled : text ≡ denials_text answer t.session.moment t.questions
+
+-- what is denied by an answer with status 0, or a fault's line with status 1
+pub data AnswersDeny (t : DenyValue) (status : ℕ) (text : List ℕ) : Type 0 where
+  Told : status ≡ 0 → TellsDenials t text → AnswersDeny t status text
+  Faulted : status ≡ 1 → IsFault ByList t.session text → AnswersDeny t status text
+
+-- lines are counted from the session's first
+abbrev pub DenyEnds : Result DenyValue ℕ → ℕ → List ℕ → Type 0
+DenyEnds (Ok t) status text = AnswersDeny t status text
+DenyEnds (Err number) status text = NamesLine number status text
+
 -- what bytes come to by a task
 abbrev pub TaskEnds : Task → List ℕ → ℕ → List ℕ → Type 0
 TaskEnds Audit bytes status text = AuditEnds (audit_of bytes) status text
 TaskEnds Questions bytes status text = QuestionsEnd (session_of bytes) status text
 TaskEnds Roll bytes status text = RollEnds (roll_of bytes) status text
+TaskEnds Deny bytes status text = DenyEnds (deny_of bytes) status text
 TaskEnds (Explain how) bytes status text = ExplainEnds how (session_of bytes) status text
 
 -- ---- what a run leaves
@@ -121,3 +144,9 @@ pub record EndsTask (task : Task) (status : ℕ) (told before now : Option (List
 -- memory ran out, or the error is what a lookup answers to the session
 abbrev pub MayFail : SessionValue → NetError → Type 0
 MayFail s error = (error ≡ NoMemory) ⊎ AnswersSession ByList s (Err (error_of error))
+
+-- status 1, and the text is the line of this error, in answer to the session
+pub record EndsAsFault (s : SessionValue) (error : NetError) (status : ℕ) (text : List ℕ) : Type 0 where
+  pub done : status ≡ 1
+  pub fault : IsFault ByList s text
+  pub its : fault.error ≡ error_of error

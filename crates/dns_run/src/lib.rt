@@ -8,7 +8,9 @@
 
 mod audit;
 mod bench;
+mod deny;
 mod explain;
+mod fault;
 mod form;
 mod judging;
 mod offline;

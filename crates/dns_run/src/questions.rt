@@ -14,12 +14,12 @@ ghost use Rattle.dns_session_lookup.specs.Verifying.{listing};
 ghost use Rattle.dns_session_lookup.specs.declared.verification.Verification.TheVariants.{ByList};
 ghost use Rattle.dns_run.specs.Tasks.{AnswersQuestions, QuestionsEnd, MayFail, denied_trail};
 
+use crate::fault::fault_ending;
 use dns_evidence::{Listed, Trail};
 use dns_handle::{DnsError, DnsResponse, NetError};
 use dns_io::status;
 use dns_questions::{trail_questions, write_questions};
 use dns_record::NoMemory;
-use dns_report::write_fault;
 use dns_session::{Session, SessionStop, bad_line_text, read_session};
 use dns_session_lookup::{Verification, listed_verifier, session_answer};
 use std::alloc::Global;
@@ -55,11 +55,7 @@ fn failed(alloc: Global, error: &NetError) -> Result<(u8, Vec<u8>), NoMemory>
     ensures ends { (s : SessionValue) → MayFail s error.now → IfOk result (λ x. AnswersQuestions s x.0 x.1.items) }
     ensures low { IfOk result (λ x. x.0 < 4) }
 {
-    if error.is_no_memory() {
-        return Err(NoMemory);
-    }
-    let text = write_fault(alloc, error)?;
-    Ok((status::FAULT, text))
+    fault_ending(alloc, error)
 }
 
 // What an answer to a session comes to.

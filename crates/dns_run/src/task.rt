@@ -2,12 +2,13 @@
 ghost use Rattle.std.specs.Prelude.{◌≡◌, ◌≢◌, ◌<◌, ◌^◌, ◌≤◌, false, length, IfOk};
 ghost use Rattle.dns_io.specs.Reading.{input_limit};
 ghost use Rattle.dns_io.specs.Runs.{outside, AnInput, KeepsOutside, KeepsSink};
-ghost use Rattle.dns_run.specs.Forms.{explains_task};
+ghost use Rattle.dns_run.specs.Forms.{goes_further};
 ghost use Rattle.dns_run.specs.Outcomes.{Leaves, Wrote, WrotePrefix, Fails};
 ghost use Rattle.dns_run.specs.Tasks.{TaskEnds, TaskTells, EndsTask};
 ghost use Rattle.dns_session_lookup.specs.declared.verification.Verification.TheVariants.{ByList};
 
 use crate::audit::audit_ending;
+use crate::deny::deny_ending;
 use crate::explain::explain_ending;
 use crate::questions::questions_ending;
 use crate::roll::roll_ending;
@@ -26,6 +27,8 @@ pub enum Task {
     Questions,
     /// Which keys of a zone are trusted after sightings of them.
     Roll,
+    /// Which questions the records of the answer to a session deny.
+    Deny,
     /// Why the sets of its lookup's trail aren't Secure, with signatures verified so.
     Explain(Verification),
 }
@@ -40,6 +43,7 @@ fn task_ending(alloc: Global, task: Task, bytes: &[u8]) -> Result<(u8, Vec<u8>),
         Task::Audit => audit_ending(alloc, bytes),
         Task::Questions => questions_ending(alloc, bytes),
         Task::Roll => roll_ending(alloc, bytes),
+        Task::Deny => deny_ending(alloc, bytes),
         Task::Explain(how) => explain_ending(alloc, how, bytes),
     }
 }
@@ -82,7 +86,7 @@ pub(crate) fn do_task<S: Source, W: Sink>(
     ensures ends { EndsTask task result (S.left input.old) (W.taken output.old) (W.taken output.new) }
 
     // What follows of that for single statuses.
-    ensures fault { explains_task task ≡ false → result ≡ 1 → Leaves (Fails ByList) (S.left input.old) (W.taken output.old) (W.taken output.new) }
+    ensures fault { goes_further task ≡ false → result ≡ 1 → Leaves (Fails ByList) (S.left input.old) (W.taken output.old) (W.taken output.new) }
     ensures form { result ≢ 2 }
 
     ensures outside { KeepsOutside (outside S.left S.faults W.taken W.faults W.takes_memory) AnInput
