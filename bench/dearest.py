@@ -6,7 +6,7 @@ more.
     python3 bench/dearest.py --write FOLDER   writes each kind as FOLDER/KIND.session, and runs none
     python3 bench/dearest.py --count          counts the sends of each kind by rows/model.py, which takes minutes
 
-PROGRAM is the built dns_check. The status is 1 where `questions` or `salted` takes more than 1.5 times as long as `owners`.
+PROGRAM is the built dns_check. The status is 1 where `questions` or `salted` takes more than 1.5 times as long as `owners`, or `denied` longer.
 """
 import os
 import subprocess
@@ -22,12 +22,12 @@ import model  # noqa: E402
 import reading  # noqa: E402
 from hashes import hash_of, in_digits  # noqa: E402
 
-A, DS, NSEC3, OPAQUE, RUNS = 1, 43, 50, 65_280, 3
+A, DS, NSEC, NSEC3, OPAQUE, RUNS = 1, 43, 47, 50, 65_280, 3
 ADDRESS = bytes.fromhex("c0000201")
 ROOT = sessions.name()
 KEY = bytes.fromhex("0101030daabb")
 # what the kinds that were made as attacks may take, beside the dearest one
-MOST_TIMES = 1.5
+MOST_TIMES = {"questions": 1.5, "salted": 1.5, "denied": 1}
 # a name of 127 labels, and one of 239 bytes, so that there is room for a label below it
 DEEP, LONG = [b"a"] * 127, sessions.name(b"a" * 63, b"b" * 63, b"c" * 63, b"d" * 45)
 
@@ -125,6 +125,11 @@ def denied_by(salt, count):
     denial = sessions.message(asked, [], [*denials, sessions.record(pointer, RRSIG, signed)])
     front = signed.removesuffix(bytes([0xD0, 0])).hex()
     accept = f"accept 13 {KEY[4:].hex()} {front}{b''.join(sessions.record(owner, NSEC3, rdata) for rdata in rdatas).hex()} d000\n"
+    return searching(accept, denial)
+
+
+def searching(accept, denial):
+    """342 unsigned sets of a name of 127 labels, whose zone is searched: each asks for the name's NS records, and then for its DS set."""
     pointed = (0xC000 | 12).to_bytes(2, "big")
     sets = [sessions.record(pointed, kind, ADDRESS) for kind in (A, *range(OPAQUE, OPAQUE + 254), *range(1_000, 1_087))]
     own = sessions.question(sessions.name(*DEEP), NS)
@@ -134,12 +139,29 @@ def denied_by(salt, count):
     return "".join((HEAD, accept, f"query {'a.' * len(DEEP)} A\n", *lines, END)).encode()
 
 
+def denied():
+    """The same, but the answer to the DS asks has a Secure set of 3,800 NSEC records of the name, whose next names have 67 labels and more, each a
+    pointer into the question's name. An index of them sorts 7,600 names; their list gives the verdict by its first record."""
+    owner, pointer = sessions.name(*DEEP), (0xC000 | 12).to_bytes(2, "big")
+    # NS without SOA
+    kinds = [types for types in range(256) if types & 0x22 == 0x20]
+    rdatas = [(place, bytes([0, 1, types])) for place in range(60) for types in kinds][:3_800]
+    asked = sessions.question(owner, DS)
+    pointing = [sessions.record(pointer, NSEC, (0xC000 | 12 + 2 * place).to_bytes(2, "big") + types) for place, types in rdatas]
+    signed = signature(NSEC, len(DEEP), 0)
+    denial = sessions.message(asked, [], [*pointing, sessions.record(pointer, RRSIG, signed)])
+    front = signed.removesuffix(bytes([0xD0, 0])).hex()
+    rising = sorted(sessions.name(*DEEP[place:]) + types for place, types in rdatas)
+    accept = f"accept 13 {KEY[4:].hex()} {front}{b''.join(sessions.record(owner, NSEC, rdata) for rdata in rising).hex()} d000\n"
+    return searching(accept, denial)
+
+
 def questions():
     """The most questions to a verifier that were found: 1,023 replies with a key set in each section, each with eight signatures."""
     return attacks.most_questions()[0]
 
 
-KINDS = (searches, owners, signatures, hashed, salted, questions)
+KINDS = (searches, owners, signatures, hashed, salted, denied, questions)
 
 
 def seconds(path, text):
@@ -165,7 +187,7 @@ def measured(path, texts):
     for name, text in texts.items():
         told = "" if ends[name] == 0 else ", and ends where memory runs out"
         print(f"{name:12} {len(text):10,} bytes {best[name]:8.2f} s {best[name] / best['owners']:6.2f} times owners{told}")
-    return any(best[name] > MOST_TIMES * best["owners"] for name in ("questions", "salted"))
+    return any(best[name] > most * best["owners"] for name, most in MOST_TIMES.items())
 
 
 def main(words):

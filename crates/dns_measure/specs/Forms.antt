@@ -12,7 +12,9 @@ use Rattle.dns_measure.specs.declared.form.Form.{Form}
 use Rattle.dns_measure.specs.declared.form.Form.TheVariants.{Reading, Signed}
 use Rattle.dns_measure.specs.declared.form.Work.{Work}
 use Rattle.dns_measure.specs.declared.form.Work.TheVariants.{Decode, OnSession, Signatures, Replies, Responses}
-use Rattle.dns_measure.specs.declared.form.SessionWork.TheVariants.{LookUp, LookUpAnew, Verdicts}
+use Rattle.dns_measure.specs.declared.denials.Judging.{Judging}
+use Rattle.dns_measure.specs.declared.denials.Judging.TheVariants.{Gathered, Listed, Indexed, InList, InIndex}
+use Rattle.dns_measure.specs.declared.form.SessionWork.TheVariants.{LookUp, LookUpAnew, Verdicts, Denials}
 
 -- how often is a number of 32 bits
 abbrev pub passes_in : List ℕ → Option ℕ
@@ -24,8 +26,21 @@ reading_form work passes = option_map (λ n. Reading work n) passes
 abbrev pub signed_form : Option ℕ → Option ℕ → Option Form
 signed_form records passes = option_and_then (λ r. option_map (λ n. Signed r n) passes) records
 
--- what words ask for: `verdicts`, `signatures`, `forwarded`, `responded`, `decode PASSES`, `lookup PASSES`, `anew PASSES`, or
--- `signed RECORDS PASSES` with at most 65535 records
+-- what is asked of denying records
+abbrev pub judging_in : List ℕ → Option Judging
+judging_in word =
+    if bytes_eq word (codes "gathered") then Some Gathered
+    else if bytes_eq word (codes "listed") then Some Listed
+    else if bytes_eq word (codes "indexed") then Some Indexed
+    else if bytes_eq word (codes "in-list") then Some InList
+    else if bytes_eq word (codes "in-index") then Some InIndex
+    else None
+
+abbrev pub denials_form : Option Judging → Option ℕ → Option Form
+denials_form judging passes = option_and_then (λ j. reading_form (OnSession (Denials j)) passes) judging
+
+-- what words ask for: `verdicts`, `signatures`, `forwarded`, `responded`, `decode PASSES`, `lookup PASSES`, `anew PASSES`,
+-- `denials JUDGING PASSES`, or `signed RECORDS PASSES` with at most 65535 records
 abbrev pub form_in : List (List ℕ) → Option Form
 form_in (name ∷ []) =
     if bytes_eq name (codes "verdicts") then Some (Reading (OnSession Verdicts) 1)
@@ -38,8 +53,10 @@ form_in (name ∷ passes ∷ []) =
     else if bytes_eq name (codes "lookup") then reading_form (OnSession LookUp) (passes_in passes)
     else if bytes_eq name (codes "anew") then reading_form (OnSession LookUpAnew) (passes_in passes)
     else None
-form_in (name ∷ records ∷ passes ∷ []) =
-    if bytes_eq name (codes "signed") then signed_form (decimal_in 65535 records) (passes_in passes) else None
+form_in (name ∷ what ∷ passes ∷ []) =
+    if bytes_eq name (codes "signed") then signed_form (decimal_in 65535 what) (passes_in passes)
+    else if bytes_eq name (codes "denials") then denials_form (judging_in what) (passes_in passes)
+    else None
 form_in words = None
 
 -- what the words of a call ask for

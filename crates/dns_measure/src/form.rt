@@ -1,8 +1,9 @@
 //! The words that the program takes.
 ghost use Rattle.std.specs.Prelude.{◌≡◌};
 ghost use Rattle.dns_text.specs.Words.{decimal_in};
-ghost use Rattle.dns_measure.specs.Forms.{asked_form, passes_in as passes_of_word, reading_form, signed_form};
+ghost use Rattle.dns_measure.specs.Forms.{asked_form, denials_form, judging_in as judging_of_word, passes_in as passes_of_word, reading_form, signed_form};
 
+use crate::denials::Judging;
 use dns_text::{decimal_in, u16_in};
 
 /// What is done with a session.
@@ -14,6 +15,8 @@ pub enum SessionWork {
     LookUpAnew,
     /// What the NSEC or NSEC3 records of each reply prove is told. Once alone.
     Verdicts,
+    /// Something is asked of those records.
+    Denials(Judging),
 }
 
 /// What is done with an input.
@@ -65,6 +68,36 @@ fn signed_form(records: &[u8], passes: &[u8]) -> Option<Form>
     Some(Form::Signed(records, passes))
 }
 
+// What is asked of records.
+fn judging_in(word: &[u8]) -> Option<Judging>
+    ensures { result ≡ judging_of_word word.now }
+{
+    if word == b"gathered".as_slice() {
+        return Some(Judging::Gathered);
+    }
+    if word == b"listed".as_slice() {
+        return Some(Judging::Listed);
+    }
+    if word == b"indexed".as_slice() {
+        return Some(Judging::Indexed);
+    }
+    if word == b"in-list".as_slice() {
+        return Some(Judging::InList);
+    }
+    if word == b"in-index".as_slice() {
+        return Some(Judging::InIndex);
+    }
+    None
+}
+
+// To ask of records as two words say.
+fn denials_form(judging: &[u8], passes: &[u8]) -> Option<Form>
+    ensures { result ≡ denials_form (judging_of_word judging.now) (passes_of_word passes.now) }
+{
+    let judging = judging_in(judging)?;
+    reading_form(Work::OnSession(SessionWork::Denials(judging)), passes)
+}
+
 /// What words ask for.
 pub(crate) fn form_of(words: &[Vec<u8>]) -> Option<Form>
     ensures { result ≡ asked_form words.now }
@@ -97,12 +130,14 @@ pub(crate) fn form_of(words: &[Vec<u8>]) -> Option<Form>
             }
             None
         }
-        [name, records, passes] => {
+        [name, what, passes] => {
             if name.as_slice() == b"signed".as_slice() {
-                signed_form(records, passes)
-            } else {
-                None
+                return signed_form(what, passes);
             }
+            if name.as_slice() == b"denials".as_slice() {
+                return denials_form(what, passes);
+            }
+            None
         }
         _ => None,
     }

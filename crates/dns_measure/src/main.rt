@@ -4,6 +4,7 @@
 #![tactic(auto)]
 
 mod counts;
+mod denials;
 mod form;
 mod frames;
 mod lookups;

@@ -8,6 +8,7 @@ ghost use Rattle.dns_measure.specs.Forms.{asked_form, form_asks, EndsAsAsked, En
 ghost use Rattle.dns_measure.specs.declared.form.Work.TheVariants.{Decode, Replies, Responses, Signatures};
 
 use crate::counts::count_passes;
+use crate::denials::count_denials;
 use crate::form::{Form, SessionWork, Work, form_of};
 use crate::frames::cut_off;
 use crate::lookups::count_lookups;
@@ -15,7 +16,7 @@ use crate::replies::push_replies;
 use crate::responses::push_response;
 use crate::signatures::push_accepted;
 use crate::signing::signed_count;
-use crate::texts::{push_counts, push_line, push_lookups};
+use crate::texts::{push_counts, push_denials, push_line, push_lookups};
 use crate::verdicts::push_lines;
 use dns_io::status::{self, read_status, refuse_long, refuse_words, write_text};
 use dns_io::{ReadStop, Sink, Source, read_all};
@@ -61,6 +62,9 @@ fn push_text(
         SessionWork::Verdicts => push_lines(alloc, session, text),
         SessionWork::LookUp => push_counted(alloc, passes, session, false, text),
         SessionWork::LookUpAnew => push_counted(alloc, passes, session, true, text),
+        SessionWork::Denials(judging) => {
+            push_denials(text, count_denials(alloc, judging, session, passes)?)
+        }
     }
 }
 

@@ -1,6 +1,7 @@
 //! The texts that the program writes.
 
 use crate::counts::Counts;
+use crate::denials::Denials;
 use crate::lookups::Lookups;
 use dns_record::NoMemory;
 use dns_text::push_decimal;
@@ -24,4 +25,10 @@ pub(crate) fn push_counts(text: &mut Vec<u8>, counts: Counts) -> Result<(), NoMe
 pub(crate) fn push_lookups(text: &mut Vec<u8>, counts: Lookups) -> Result<(), NoMemory> {
     push_line(text, b"answers ", counts.answers)?;
     push_line(text, b"faults ", counts.faults)
+}
+
+/// The same of what was asked of records, a line each.
+pub(crate) fn push_denials(text: &mut Vec<u8>, counts: Denials) -> Result<(), NoMemory> {
+    push_line(text, b"asked ", counts.asked)?;
+    push_line(text, b"found ", counts.found)
 }

@@ -44,8 +44,8 @@ fn push_nsec(alloc: Global, nsecs: &mut Vec<NsecRecord>, from: &Record) -> Resul
     Ok(())
 }
 
-// The NSEC records of a section.
-fn nsecs_in(alloc: Global, section: &[Record]) -> Result<Vec<NsecRecord>, NoMemory> {
+/// The NSEC records of a section.
+pub(crate) fn nsecs_in(alloc: Global, section: &[Record]) -> Result<Vec<NsecRecord>, NoMemory> {
     let mut nsecs = Vec::new(alloc);
     for record in section {
         push_nsec(alloc, &mut nsecs, record)?;
@@ -61,8 +61,8 @@ fn push_nsec3(alloc: Global, nsec3s: &mut Vec<Nsec3Record>, from: &Record) -> Re
     Ok(())
 }
 
-// The NSEC3 records of a section.
-fn nsec3s_in(alloc: Global, section: &[Record]) -> Result<Vec<Nsec3Record>, NoMemory> {
+/// The NSEC3 records of a section.
+pub(crate) fn nsec3s_in(alloc: Global, section: &[Record]) -> Result<Vec<Nsec3Record>, NoMemory> {
     let mut nsec3s = Vec::new(alloc);
     for record in section {
         push_nsec3(alloc, &mut nsec3s, record)?;
@@ -74,15 +74,15 @@ fn nsec3s_in(alloc: Global, section: &[Record]) -> Result<Vec<Nsec3Record>, NoMe
 const MOST_ITERATIONS: u16 = 500;
 
 /// More records than a message has.
-const MANY: usize = 1_000_000;
+pub(crate) const MANY: usize = 1_000_000;
 
-// What is asked of the records: of which question in which zone, and how the message answers it.
+/// What is asked of the records: of which question in which zone, and how the message answers it.
 #[derive(Clone, Copy)]
-struct Asked<'a> {
-    zone: &'a Name,
-    question: &'a Query,
-    code: ResponseCode,
-    answered: Answered,
+pub(crate) struct Asked<'a> {
+    pub(crate) zone: &'a Name,
+    pub(crate) question: &'a Query,
+    pub(crate) code: ResponseCode,
+    pub(crate) answered: Answered,
 }
 
 // What an index of NSEC records proves.
@@ -99,25 +99,6 @@ fn indexed_nsec<L: Ledger>(asked: Asked<'_>, index: &NsecIndex, blank: Blank) ->
         asked.answered,
         &mut steps,
     )
-}
-
-// What NSEC records prove; `None` where their list and an index of them don't agree.
-fn proof_by_nsec(asked: Asked<'_>, nsecs: Vec<NsecRecord>) -> Result<Option<Proof>, NoMemory>
-    requires { length nsecs.items < 2 ^ 32 }
-{
-    let listed = verify_nsec(
-        asked.question,
-        asked.zone,
-        asked.code,
-        asked.answered,
-        &nsecs,
-    );
-    let index = NsecIndex::new(nsecs)?;
-    if indexed_nsec::<Brand>(asked, &index, Blank::new(1)) == listed {
-        Ok(Some(listed))
-    } else {
-        Ok(None)
-    }
 }
 
 // What an index of NSEC3 records proves.
@@ -139,49 +120,66 @@ fn indexed_nsec3<L: Ledger>(asked: Asked<'_>, index: &Nsec3Index, blank: Blank) 
     )
 }
 
-// What NSEC3 records prove; `None` where their list and an index of them don't agree.
-fn proof_by_nsec3(asked: Asked<'_>, nsec3s: Vec<Nsec3Record>) -> Result<Option<Proof>, NoMemory>
-    requires { length nsec3s.items < 2 ^ 32 }
-{
-    let most = MOST_ITERATIONS;
-    let listed = verify_nsec3(
-        asked.question,
-        asked.zone,
-        asked.code,
-        asked.answered,
-        &nsec3s,
-        most,
-        most,
-    );
-    let index = Nsec3Index::new(nsec3s)?;
-    if indexed_nsec3::<Brand>(asked, &index, Blank::new(1)) == listed {
-        Ok(Some(listed))
+/// What the list of the records proves: those of NSEC3, if there are any, else those of NSEC.
+pub(crate) fn listed_proof(
+    asked: Asked<'_>,
+    nsecs: &[NsecRecord],
+    nsec3s: &[Nsec3Record],
+) -> Proof {
+    let Asked {
+        zone,
+        question,
+        code,
+        answered,
+    } = asked;
+    if nsec3s.is_empty() {
+        verify_nsec(question, zone, code, answered, nsecs)
     } else {
-        Ok(None)
+        let most = MOST_ITERATIONS;
+        verify_nsec3(question, zone, code, answered, nsec3s, most, most)
     }
 }
 
-// What records prove: those of NSEC3, if there are any, else those of NSEC.
+/// What an index of them proves.
+pub(crate) fn indexed_proof(
+    asked: Asked<'_>,
+    nsecs: Vec<NsecRecord>,
+    nsec3s: Vec<Nsec3Record>,
+) -> Result<Proof, NoMemory>
+    requires nsecs { length nsecs.items < 2 ^ 32 }
+    requires nsec3s { length nsec3s.items < 2 ^ 32 }
+{
+    let blank = Blank::new(1);
+    if nsec3s.is_empty() {
+        let index = NsecIndex::new(nsecs)?;
+        Ok(indexed_nsec::<Brand>(asked, &index, blank))
+    } else {
+        let index = Nsec3Index::new(nsec3s)?;
+        Ok(indexed_nsec3::<Brand>(asked, &index, blank))
+    }
+}
+
+// What records prove; `None` where their list and an index of them don't agree.
 fn proof_by_records(
-    zone: &Name,
-    question: &Query,
-    message: &Message,
+    asked: Asked<'_>,
     nsecs: Vec<NsecRecord>,
     nsec3s: Vec<Nsec3Record>,
 ) -> Result<Option<Proof>, NoMemory> {
-    let asked = Asked {
+    if MANY < nsecs.len() || MANY < nsec3s.len() {
+        return Ok(None);
+    }
+    let listed = listed_proof(asked, &nsecs, &nsec3s);
+    let indexed = indexed_proof(asked, nsecs, nsec3s)?;
+    Ok((indexed == listed).then_some(listed))
+}
+
+/// What is asked of a message's records: whether they prove what it says of a question in a zone.
+pub(crate) fn asked_of<'a>(zone: &'a Name, question: &'a Query, message: &Message) -> Asked<'a> {
+    Asked {
         zone,
         question,
         code: message.response_code,
         answered: answered_by_first(&question.name, &message.answers),
-    };
-    if MANY < nsecs.len() || MANY < nsec3s.len() {
-        return Ok(None);
-    }
-    if nsec3s.is_empty() {
-        proof_by_nsec(asked, nsecs)
-    } else {
-        proof_by_nsec3(asked, nsec3s)
     }
 }
 
@@ -196,7 +194,7 @@ fn message_proof(
         Ok(message) => {
             let nsecs = nsecs_in(alloc, &message.authorities)?;
             let nsec3s = nsec3s_in(alloc, &message.authorities)?;
-            proof_by_records(zone, question, message, nsecs, nsec3s)
+            proof_by_records(asked_of(zone, question, message), nsecs, nsec3s)
         }
         Err(_) => Ok(Some(Proof::Bogus)),
     }
