@@ -1,5 +1,6 @@
 #!/usr/bin/env python3
-"""Instructions and allocations of one lookup of each session from an empty cache, as valgrind's callgrind counts them.
+"""Instructions and allocations of one lookup of each session from an empty cache, and instructions of a warm one over it, as valgrind's
+callgrind counts them.
 
     python3 bench/allocations.py [--program PROGRAM] SESSION..
 
@@ -19,9 +20,9 @@ LOOKUPS = 21
 FUNCTION = re.compile(r"c?fn=\((\d+)\)(?: (.*))?")
 
 
-def counted(program, session, lookups, file):
+def counted(program, session, word, lookups, file):
     """Instructions of a run, and how often it called each function of another."""
-    words = ["valgrind", "--tool=callgrind", f"--callgrind-out-file={file}", program, "anew", str(lookups)]
+    words = ["valgrind", "--tool=callgrind", f"--callgrind-out-file={file}", program, word, str(lookups)]
     with open(session, "rb") as text:
         ended = subprocess.run(words, stdin=text, stdout=subprocess.DEVNULL, stderr=subprocess.DEVNULL, check=False)
     if ended.returncode != 0:
@@ -41,19 +42,26 @@ def counted(program, session, lookups, file):
     return total, {names[number]: count for number, count in calls.items()}
 
 
+def one_of(program, session, word):
+    """Instructions of one lookup, and how often it allocates and lets an allocation grow."""
+    with tempfile.TemporaryDirectory() as folder:
+        one, few = (counted(program, session, word, count, os.path.join(folder, str(count))) for count in (1, LOOKUPS))
+    more = [(few[1].get(name, 0) - one[1].get(name, 0)) / (LOOKUPS - 1) for name in ("rattle_alloc", "rattle_realloc")]
+    return (few[0] - one[0]) / (LOOKUPS - 1), *more
+
+
 def main():
     words = argparse.ArgumentParser()
     words.add_argument("--program", default=passes.PROGRAM, help="the built program dns_measure")
     words.add_argument("sessions", nargs="+")
     asked = words.parse_args()
     program = passes.checked(asked.program)
-    print(f"{'session':16}{'instructions':>14}{'allocations':>13}{'grown':>7}")
+    print(f"{'session':16}{'instructions':>14}{'allocations':>13}{'grown':>7}{'warm':>14}{'to cold':>9}")
     for session in asked.sessions:
-        with tempfile.TemporaryDirectory() as folder:
-            one, few = (counted(program, session, count, os.path.join(folder, str(count))) for count in (1, LOOKUPS))
-        more = [(few[1].get(name, 0) - one[1].get(name, 0)) / (LOOKUPS - 1) for name in ("rattle_alloc", "rattle_realloc")]
+        cold, allocations, grown = one_of(program, session, "anew")
+        warm, *_ = one_of(program, session, "lookup")
         name = os.path.basename(session).removesuffix(".session")
-        print(f"{name:16}{(few[0] - one[0]) / (LOOKUPS - 1):14.0f}{more[0]:13.1f}{more[1]:7.1f}")
+        print(f"{name:16}{cold:14.0f}{allocations:13.1f}{grown:7.1f}{warm:14.0f}{warm / cold:9.3f}")
 
 
 main()
