@@ -1,0 +1,3 @@
+-- What contracts of this crate name, by subject.
+pub mod Serving
+pub mod Turns
