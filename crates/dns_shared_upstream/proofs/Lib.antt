@@ -1,0 +1,4 @@
+pub mod CallLemmas
+pub mod MadeLemmas
+pub mod StepLemmas
+pub mod StreamLemmas
