@@ -1,0 +1,2 @@
+pub mod DatagramLemmas
+pub mod StreamLemmas
