@@ -104,6 +104,7 @@ impl<S: Stream<Item = Result<SerialMessage, IoKind>>> DnsExchangeBackground<S> {
         ensures registered { WaitsStill result (Covers cx.new (S.needs (stream_of self.new))) }
         ensures kept { Keeps cx.old cx.new }
         ensures ended { has_ended self.new ≡ has_ended self.old }
+        ensures known { IsKnown token.old.known → IsKnown token.new.known }
         ensures line { token.new.line ≡ token.old.line }
     {
         if left == 0 {
@@ -138,6 +139,7 @@ impl<S: Stream<Item = Result<SerialMessage, IoKind>>> DnsExchangeBackground<S> {
         ensures again { has_ended self.new ≡ false → S.can_poll (stream_of self.new) }
         ensures registered { OnPending result (Covers cx.new (S.needs (stream_of self.new))) }
         ensures kept { Keeps cx.old cx.new }
+        ensures known { IsKnown token.old.known → IsKnown token.new.known }
         ensures line { token.new.line ≡ token.old.line }
     {
         if self.is_ended {

@@ -72,7 +72,7 @@ impl<R: Draws + Drop, T: Wait + Copy> ExchangeStream<R, T> {
 }
 
 impl<R: Draws + Drop, T: Wait + Copy> Stream for ExchangeStream<R, T> {
-    ghost use Rattle.std.specs.Prelude.{⊤, OnSome};
+    ghost use Rattle.std.specs.Prelude.{◌≡◌, ⊤, OnSome, true};
     ghost use Rattle.futures.specs.Task.{Covers, Keeps};
     ghost use Rattle.futures.specs.Poll.{IfReady, OnPending};
     ghost use Rattle.dns_shared_exchange.specs.Tokens.{IsTurn, IsKnown};
@@ -80,12 +80,13 @@ impl<R: Draws + Drop, T: Wait + Copy> Stream for ExchangeStream<R, T> {
 
     type Item = Result<DnsResponse, NetError>;
 
-    // The trait's clauses, and that a poll is one take.
+    // The trait's clauses, that a poll is one take, and that a pending one asks for another poll.
     fn poll_next(&mut self, cx: &mut Context<'_>) -> Poll<Option<Result<DnsResponse, NetError>>>
         ensures value { IfReady result (λ o. ⊤) }
         ensures goes { IfReady result (λ o. OnSome o ⊤) }
         ensures again { OnPending result ⊤ }
         ensures registered { OnPending result (Covers cx.new (λ _. ⊥)) }
+        ensures woken { OnPending result (cx.new.is_woken ≡ true) }
         ensures kept { Keeps cx.old cx.new }
         ensures polled { IsTurn (IsPolled self.old.number result) self.old.token.known self.new.token.known }
         ensures known { IsKnown self.new.token.known }
