@@ -46,12 +46,7 @@ pub(crate) fn client_over(rt: &impl Abort, alloc: Global, frame: &[u8]) -> Memor
 }
 
 /// Whether a client has sent one message, in a frame, which is these digits.
-pub(crate) fn has_sent(
-    rt: &impl Abort,
-    alloc: Global,
-    client: MemoryClient,
-    digits: &[&str],
-) -> bool {
+pub(crate) fn has_sent(rt: &impl Abort, alloc: Global, client: MemoryClient, digits: &str) -> bool {
     let link = client.into_sender().into_link();
     let [high, low, message @ ..] = link.taken() else {
         return false;

@@ -5,11 +5,15 @@
 #![tactic(auto)]
 
 #[cfg(test)]
+mod client_calls;
+#[cfg(test)]
 mod client_parts;
 #[cfg(test)]
 mod client_tests;
 #[cfg(test)]
 mod large_client_tests;
+#[cfg(test)]
+mod large_rows;
 #[cfg(test)]
 mod large_update_tests;
 #[cfg(test)]

@@ -1,7 +1,7 @@
 //! An update, and a transfer by its messages. docs/LIBRARY.md shows this file up to the tests.
 use crate::client_parts::{RESPONSE, client_over};
 use crate::parts::{ADDRESS, check, first, name};
-use crate::transfers::{Part, response_of};
+use crate::transfers::{Part, messages_of};
 use dns_client::{Client, ClientHandle};
 use dns_handle::{DnsHandle, NetError};
 use dns_message::Message;
@@ -57,31 +57,19 @@ const REFUSED: &[u8] = b"\0\x0c\0\0\x80\x07\0\0\0\0\0\0\0\0";
 #[test]
 fn an_address_is_added_or_refused(rt: HostRuntime) {
     let alloc = rt.alloc();
-    check(
-        &rt,
-        "added",
-        is_added(&rt, alloc, ".", RESPONSE) == Some(true),
-    );
-    check(
-        &rt,
-        "refused",
-        is_added(&rt, alloc, ".", REFUSED) == Some(false),
-    );
-    check(
-        &rt,
-        "another zone",
-        is_added(&rt, alloc, "b.", RESPONSE) == Some(false),
-    );
-    check(&rt, "no response", is_added(&rt, alloc, ".", b"").is_none());
+    let added = is_added(&rt, alloc, ".", RESPONSE);
+    check(&rt, "added", added == Some(true));
+    let refused = is_added(&rt, alloc, ".", REFUSED);
+    check(&rt, "refused", refused == Some(false));
+    let other = is_added(&rt, alloc, "b.", RESPONSE);
+    check(&rt, "another zone", other == Some(false));
+    let none = is_added(&rt, alloc, ".", b"");
+    check(&rt, "no response", none.is_none());
 }
 
 /// How many records of a zone came by these messages, if all of it did.
 fn count(rt: &impl Abort, alloc: Global, messages: &[&[Part]]) -> Option<usize> {
-    let mut all = Vec::new(alloc);
-    for parts in messages {
-        let response = response_of(rt, alloc, parts);
-        all.push(response.message).expect(rt, "memory");
-    }
+    let all = messages_of(rt, alloc, messages);
     let records = records_of(alloc, all).ok().expect(rt, "a transfer")?;
     Some(records.len())
 }

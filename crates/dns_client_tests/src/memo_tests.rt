@@ -1,3 +1,4 @@
+//! A client that keeps each reply.
 use crate::parts::{check, name};
 use dns_client::{ClientHandle, MemoizeClientHandle};
 use dns_evidence::Trail;
@@ -108,7 +109,7 @@ const BUSY: &[Asked] = &[
 ];
 
 /// Whether a reply has this id, or says that the handle is busy where there is none.
-fn is_said(reply: &Result<DnsResponse, NetError>, id: Option<u16>) -> bool {
+fn is_said(reply: Result<DnsResponse, NetError>, id: Option<u16>) -> bool {
     match reply {
         Ok(response) => id == Some(response.message.id),
         Err(NetError::Busy) => id.is_none(),
@@ -119,14 +120,19 @@ fn is_said(reply: &Result<DnsResponse, NetError>, id: Option<u16>) -> bool {
 /// Whether a memo answers as is said, over a handle that is busy so often, which is asked so often.
 fn answers(rt: &impl Abort, alloc: Global, busy: u64, all: &[Asked], sends: u64) -> bool {
     let mut memo = MemoizeClientHandle::new(alloc, Counting::new(busy));
+    let mut held = true;
     for asked in all {
         let owner = name(rt, alloc, asked.0);
         let reply = memo.query(alloc, owner, DNSClass(asked.1), RecordType(asked.2), 1000);
-        if !is_said(&reply, asked.3) {
-            return false;
-        }
+        held = is_said(reply, asked.3) && held;
     }
-    memo.into_client().sends == sends
+    held && memo.into_client().sends == sends
+}
+
+/// Whether the example gives the first response.
+fn is_given_twice(rt: &impl Abort, alloc: Global) -> bool {
+    let twice = ask_twice(alloc, Counting::new(0), name(rt, alloc, "a."), 1000);
+    is_said(twice, Some(0))
 }
 
 #[test]
@@ -134,14 +140,11 @@ fn a_memo_gives_the_first_reply_again(rt: HostRuntime) {
     let alloc = rt.alloc();
     check(&rt, "responses", answers(&rt, alloc, 0, ALL, 4));
     check(&rt, "an error", answers(&rt, alloc, 1, BUSY, 2));
-    let twice = ask_twice(alloc, Counting::new(0), name(&rt, alloc, "a."), 1000);
-    let response = twice.ok().expect(&rt, "a response");
-    check(&rt, "the same response", response.message.id == 0);
+    check(&rt, "the same response", is_given_twice(&rt, alloc));
 }
 
-#[test]
-fn a_memo_refuses_a_request_without_a_question(rt: HostRuntime) {
-    let alloc = rt.alloc();
+/// Whether a memo refuses a request without a question, and asks nobody.
+fn is_refused(alloc: Global) -> bool {
     let mut memo = MemoizeClientHandle::new(alloc, Counting::new(0));
     let request = DnsRequest {
         message: Message::query(alloc),
@@ -150,5 +153,10 @@ fn a_memo_refuses_a_request_without_a_question(rt: HostRuntime) {
     };
     let reply = memo.send(alloc, request, 1000);
     let refused = matches!(reply, Err(NetError::Message(Notice::NoQueryInRequest)));
-    check(&rt, "no question", refused && memo.into_client().sends == 0);
+    refused && memo.into_client().sends == 0
+}
+
+#[test]
+fn a_memo_refuses_a_request_without_a_question(rt: HostRuntime) {
+    check(&rt, "no question", is_refused(rt.alloc()));
 }

@@ -9,7 +9,7 @@ pub(crate) fn check(rt: &impl Abort, row: &str, held: bool) {
     assert!(rt; held, "{row}");
 }
 
-/// Records of one name, type, class and ttl: their rdatas, each fewer than 65,536 bytes.
+/// Records of one name, type, class and ttl: their rdatas, each fewer than 65,536 bytes, and how often each comes.
 #[derive(Drop)]
 pub(crate) struct Given {
     pub(crate) owner: &'static str,
@@ -17,6 +17,7 @@ pub(crate) struct Given {
     pub(crate) class: u16,
     pub(crate) ttl: u32,
     pub(crate) rdatas: &'static [&'static [u8]],
+    pub(crate) copies: u32,
 }
 
 /// The address 192.0.2.1 of `a.`.
@@ -26,6 +27,7 @@ pub(crate) const ADDRESS: Given = Given {
     class: 1,
     ttl: 60,
     rdatas: &[b"\xc0\0\x02\x01"],
+    copies: 1,
 };
 
 /// The SOA of `.` with serial 3, whose server is `a.`.
@@ -35,6 +37,7 @@ pub(crate) const SOA: Given = Given {
     class: 1,
     ttl: 300,
     rdatas: &[b"\x01a\0\0\0\0\0\x03\0\0\0\0\0\0\0\0\0\0\0\0\0\0\0\0"],
+    copies: 1,
 };
 
 pub(crate) fn name(rt: &impl Abort, alloc: Global, text: &str) -> Name {
@@ -61,12 +64,20 @@ pub(crate) fn first(rt: &impl Abort, alloc: Global, given: &Given) -> Record {
     }
 }
 
+/// Puts so many copies of a record behind the others.
+fn push_copies(rt: &impl Abort, records: &mut Vec<Record>, record: &Record, count: u32) {
+    for _copy in 0..count {
+        let next = record.try_clone().expect(rt, "memory");
+        records.push(next).expect(rt, "memory");
+    }
+}
+
 /// The set of the records, with a signature that no message has.
 pub(crate) fn set(rt: &impl Abort, alloc: Global, given: &Given) -> RecordSet {
     let mut records = Vec::new(alloc);
     for bytes in given.rdatas {
         let next = record(rt, alloc, given, bytes);
-        records.push(next).expect(rt, "memory");
+        push_copies(rt, &mut records, &next, given.copies);
     }
     let mut rrsigs = Vec::new(alloc);
     let signature = record(rt, alloc, given, b"signature");
@@ -81,14 +92,7 @@ pub(crate) fn set(rt: &impl Abort, alloc: Global, given: &Given) -> RecordSet {
 }
 
 /// Whether bytes are these hexadecimal digits.
-pub(crate) fn are_digits(rt: &impl Abort, alloc: Global, bytes: &[u8], parts: &[&str]) -> bool {
-    let digits = hex::encode(alloc, bytes).expect(rt, "memory");
-    let mut rest = digits.as_str();
-    for part in parts {
-        match rest.strip_prefix(*part) {
-            Some(behind) => rest = behind,
-            None => return false,
-        }
-    }
-    rest.is_empty()
+pub(crate) fn are_digits(rt: &impl Abort, alloc: Global, bytes: &[u8], digits: &str) -> bool {
+    let written = hex::encode(alloc, bytes).expect(rt, "memory");
+    written.as_str() == digits
 }

@@ -1,3 +1,4 @@
+//! Readers of one list of items.
 use crate::parts::check;
 use dns_client::RcStream;
 use dns_record::NoMemory;
@@ -28,22 +29,39 @@ fn gives(reader: &mut RcStream<u8>, wanted: &[u8]) -> bool {
     reader.next_item().is_none() && reader.next_item().is_none()
 }
 
+/// Whether readers that are made behind the first item, and at the end, read all, also once the first reader is gone.
+fn read_late(rt: &impl Abort, alloc: Global) -> bool {
+    let mut first = RcStream::from_items(items(rt, alloc)).expect(rt, "memory");
+    let begins = first.next_item() == Some(&7);
+    let mut late = first.reader().expect(rt, "memory");
+    let goes = gives(&mut first, &[8, 9]);
+    let mut later = first.reader().expect(rt, "memory");
+    drop(first);
+    begins && goes && gives(&mut late, &[7, 8, 9]) && gives(&mut later, &[7, 8, 9])
+}
+
+/// Whether a reader of no items gives none.
+fn gives_none(rt: &impl Abort, alloc: Global) -> bool {
+    let mut none = RcStream::from_items(Vec::new(alloc)).expect(rt, "memory");
+    gives(&mut none, &[])
+}
+
 #[test]
 fn each_reader_reads_all_items(rt: HostRuntime) {
     let alloc = rt.alloc();
-    let mut first = RcStream::from_items(items(&rt, alloc)).expect(&rt, "memory");
-    check(&rt, "the first item", first.next_item() == Some(&7));
-    let mut late = first.reader().expect(&rt, "memory");
-    check(&rt, "the rest", gives(&mut first, &[8, 9]));
-    let mut later = first.reader().expect(&rt, "memory");
-    drop(first);
-    check(&rt, "a late reader", gives(&mut late, &[7, 8, 9]));
-    check(&rt, "a later one", gives(&mut later, &[7, 8, 9]));
-    let empty = Vec::new(alloc);
-    let mut none = RcStream::from_items(empty).expect(&rt, "memory");
-    check(&rt, "no items", gives(&mut none, &[]));
+    check(&rt, "late readers", read_late(&rt, alloc));
+    check(&rt, "no items", gives_none(&rt, alloc));
     let twice = read_twice(items(&rt, alloc));
     check(&rt, "two readers", twice == Ok((Some(7), Some(7))));
+}
+
+/// The numbers below 70,000.
+fn many(rt: &impl Abort, alloc: Global) -> Vec<u32> {
+    let mut items = Vec::new(alloc);
+    for item in 0u32..70_000 {
+        items.push(item).expect(rt, "memory");
+    }
+    items
 }
 
 /// How many items a reader gives, up to a limit.
@@ -58,10 +76,7 @@ fn count(reader: &mut RcStream<u32>) -> u32 {
 
 #[test]
 fn a_long_list_is_read_by_each_reader(rt: HostRuntime) {
-    let mut items = Vec::new(rt.alloc());
-    for item in 0u32..70_000 {
-        items.push(item).expect(&rt, "memory");
-    }
+    let items = many(&rt, rt.alloc());
     let mut first = RcStream::from_items(items).expect(&rt, "memory");
     let mut other = first.reader().expect(&rt, "memory");
     check(&rt, "the first", count(&mut first) == 70_000);

@@ -1,7 +1,8 @@
+//! What comes for a request of a client: the first response, and each.
 use crate::parts::check;
-use crate::transfers::{Came, Part, came_by, response_of};
+use crate::transfers::{Came, Part, came_first, came_next, response_of};
 use dns_client::{ClientResponse, ClientStreamingResponse};
-use dns_handle::{DnsResponse, NetError, Notice};
+use dns_handle::{DnsResponse, NetError};
 use dns_mux::{DnsResponseReceiver, DnsResponseStream};
 use futures::task::{Context, Poll};
 use futures::test::MockTask;
@@ -31,52 +32,41 @@ fn stream_of(rt: &impl Abort, alloc: Global, counts: &[usize]) -> DnsResponseStr
     DnsResponseStream::from_items(items)
 }
 
-/// What a poll of a future gives.
-fn came_first(poll: &Poll<Result<DnsResponse, NetError>>) -> Came {
-    match poll {
-        Poll::Pending => Came::Pending,
-        Poll::Ready(Err(NetError::Timeout)) => Came::End,
-        Poll::Ready(item) => came_by(item),
-    }
+/// What the example gives for a stream.
+fn first_of(stream: DnsResponseStream, task: &MockTask) -> Came {
+    came_first(task.enter(|cx| poll_response(stream, cx)))
 }
 
 #[test]
 fn a_response_is_the_first_item(rt: HostRuntime) {
     let alloc = rt.alloc();
     let task = MockTask::new(&rt).ok().expect(&rt, "a task");
-    let stream = stream_of(&rt, alloc, &[1, 0]);
-    let first = task.enter(|cx| poll_response(stream, cx));
-    check(&rt, "the first", came_first(&first) == Came::Answers(1));
-    let none = stream_of(&rt, alloc, &[]);
-    let end = task.enter(|cx| poll_response(none, cx));
-    check(&rt, "none", came_first(&end) == Came::End);
+    let first = first_of(stream_of(&rt, alloc, &[1, 0]), &task);
+    check(&rt, "the first", first == Came::Answers(1));
+    let none = first_of(stream_of(&rt, alloc, &[]), &task);
+    check(&rt, "none", none == Came::End);
+}
+
+/// What a poll of a response gives.
+fn polled(response: &mut ClientResponse<DnsResponseStream>, task: &MockTask) -> Came {
+    came_first(task.enter(|cx| response.poll(cx)))
 }
 
 #[test]
 fn a_response_comes_once(rt: HostRuntime) {
-    let alloc = rt.alloc();
     let task = MockTask::new(&rt).ok().expect(&rt, "a task");
-    let mut response = ClientResponse::new(stream_of(&rt, alloc, &[0, 1]));
-    let first = task.enter(|cx| response.poll(cx));
-    check(&rt, "the first", came_first(&first) == Came::Answers(0));
-    let again = task.enter(|cx| response.poll(cx));
-    let refused = matches!(
-        again,
-        Poll::Ready(Err(NetError::Message(Notice::PolledAfterCompletion)))
-    );
-    check(&rt, "polled again", refused);
-    let mut waiting = ClientResponse::new(DnsResponseReceiver::Receiver(0));
-    let pending = task.enter(|cx| waiting.poll(cx));
-    check(&rt, "not yet", came_first(&pending) == Came::Pending);
+    let mut response = ClientResponse::new(stream_of(&rt, rt.alloc(), &[0, 1]));
+    for wanted in [Came::Answers(0), Came::Again] {
+        check(&rt, "once", polled(&mut response, &task) == wanted);
+    }
 }
 
-/// What a poll of a stream gives.
-fn came_next(poll: &Poll<Option<Result<DnsResponse, NetError>>>) -> Came {
-    match poll {
-        Poll::Pending => Came::Pending,
-        Poll::Ready(None) => Came::End,
-        Poll::Ready(Some(item)) => came_by(item),
-    }
+#[test]
+fn a_response_is_waited_for(rt: HostRuntime) {
+    let task = MockTask::new(&rt).ok().expect(&rt, "a task");
+    let mut waiting = ClientResponse::new(DnsResponseReceiver::Receiver(0));
+    let poll = task.enter(|cx| waiting.poll(cx));
+    check(&rt, "not yet", poll.is_pending());
 }
 
 #[test]
@@ -85,7 +75,7 @@ fn responses_come_one_after_another(rt: HostRuntime) {
     let stream = stream_of(&rt, rt.alloc(), &[1, 0]);
     let mut responses = ClientStreamingResponse::new(stream);
     for wanted in [Came::Answers(1), Came::Answers(0), Came::End] {
-        let poll = task.enter(|cx| responses.poll_next(cx));
-        check(&rt, "an item", came_next(&poll) == wanted);
+        let poll = came_next(task.enter(|cx| responses.poll_next(cx)));
+        check(&rt, "an item", poll == wanted);
     }
 }

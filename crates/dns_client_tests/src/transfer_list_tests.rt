@@ -1,6 +1,6 @@
 //! Random lists of records in random messages: a transfer goes as by a plain machine that takes record by record.
 use crate::parts::check;
-use crate::transfers::{Came, Part, record_of};
+use crate::transfers::{Came, Part, message_of};
 use dns_handle::Notice;
 use dns_transfer::TransferState;
 use std::alloc::Global;
@@ -132,12 +132,8 @@ fn processed(
     transfer: &mut TransferState,
     parts: &[Part],
 ) -> Option<Came> {
-    let mut records = Vec::new(alloc);
-    for part in parts {
-        let record = record_of(rt, alloc, *part);
-        records.push(record).expect(rt, "memory");
-    }
-    match transfer.process(&records) {
+    let message = message_of(rt, alloc, parts);
+    match transfer.process(&message.answers) {
         Ok(()) => None,
         Err(Notice::TransferHasTrailingRecords) => Some(Came::Trailing),
         Err(Notice::TransferIsIncremental) => Some(Came::Incremental),

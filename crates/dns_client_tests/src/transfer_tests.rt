@@ -1,5 +1,6 @@
+//! Transfers by their messages, as a stream gives them and one by one.
 use crate::parts::check;
-use crate::transfers::{Came, Part, came_by, record_of, response_of};
+use crate::transfers::{Came, Part, came_next, message_of, messages_of, response_of};
 use dns_handle::{DnsResponse, NetError};
 use dns_message::Message;
 use dns_mux::{DnsResponseReceiver, DnsResponseStream};
@@ -141,18 +142,9 @@ fn inner_stream(rt: &impl Abort, alloc: Global, inner: &[Inner]) -> DnsResponseS
     DnsResponseStream::from_items(items)
 }
 
-fn came(poll: &Poll<Option<Result<DnsResponse, NetError>>>) -> Came {
-    match poll {
-        Poll::Pending => Came::Pending,
-        Poll::Ready(None) => Came::End,
-        Poll::Ready(Some(item)) => came_by(item),
-    }
-}
-
 /// What a poll of a transfer gives.
 pub(crate) fn polled(transfer: &mut ClientStreamXfr<DnsResponseStream>, task: &MockTask) -> Came {
-    let poll = task.enter(|cx| poll_transfer(transfer, cx));
-    came(&poll)
+    came_next(task.enter(|cx| poll_transfer(transfer, cx)))
 }
 
 /// Whether polls of a transfer give these.
@@ -183,73 +175,71 @@ fn a_transfer_gives_its_messages_up_to_its_end(rt: HostRuntime) {
     }
 }
 
-/// A stream that isn't ready is waited for, and what is left of it is given back.
-fn waits_and_gives_back(rt: &impl Abort, alloc: Global, task: &MockTask) -> bool {
+/// Whether a transfer waits for a stream that isn't ready.
+fn waits(task: &MockTask) -> bool {
     let mut transfer = ClientStreamXfr::new(DnsResponseReceiver::Receiver(0), false);
     let poll = task.enter(|cx| transfer.poll_next(cx));
-    if came(&poll) != Came::Pending || transfer.is_ended() {
-        return false;
-    }
+    poll.is_pending() && !transfer.is_ended()
+}
+
+/// Whether what a transfer leaves of its stream is given back.
+fn gives_back(rt: &impl Abort, alloc: Global, task: &MockTask) -> bool {
     let items = [Inner::Message(&[Part::Address]), Inner::Message(WHOLE)];
     let stream = inner_stream(rt, alloc, &items);
     let mut transfer = ClientStreamXfr::new(stream, false);
-    if !gives(&mut transfer, &[Came::Answers(1), Came::End], task) {
-        return false;
-    }
+    let gave = gives(&mut transfer, &[Came::Answers(1), Came::End], task);
     let mut again = ClientStreamXfr::new(transfer.into_inner(), false);
-    gives(&mut again, &[Came::Answers(3), Came::End], task) && !again.is_ended()
+    let rest = gives(&mut again, &[Came::Answers(3), Came::End], task);
+    gave && rest && !again.is_ended()
 }
 
 #[test]
 fn a_transfer_waits_and_gives_its_stream_back(rt: HostRuntime) {
     let task = MockTask::new(&rt).ok().expect(&rt, "a task");
-    check(&rt, "waits", waits_and_gives_back(&rt, rt.alloc(), &task));
+    check(&rt, "waits", waits(&task));
+    check(&rt, "gives back", gives_back(&rt, rt.alloc(), &task));
 }
 
-/// Whether changes that are cut into messages as the bits say are ended by the last record alone, with an empty message at each
-/// cut where that is asked for.
-fn is_ended_by_the_last(rt: &impl Abort, alloc: Global, cuts: u32, with_empty: bool) -> bool {
-    let mut transfer = TransferState::new(true);
-    let mut records = Vec::new(alloc);
+/// The messages of changes that are cut as the bits say, with an empty one at each cut where that is asked for.
+fn pieces(rt: &impl Abort, alloc: Global, cuts: u32, with_empty: bool) -> Vec<&'static [Part]> {
+    let mut pieces = Vec::new(alloc);
+    let mut start: usize = 0;
     let mut bits = cuts | 32;
-    for part in CHANGES {
-        if transfer.is_ended() {
-            return false;
-        }
-        records
-            .push(record_of(rt, alloc, *part))
-            .expect(rt, "memory");
+    for end in 1..=CHANGES.len() {
         if bits % 2 == 1 {
-            if transfer.process(records.as_slice()).is_err() {
-                return false;
+            let piece = CHANGES.get(start..end).unwrap_or(&[]);
+            pieces.push(piece).expect(rt, "memory");
+            if with_empty {
+                pieces.push(&[]).expect(rt, "memory");
             }
-            records.clear();
-            if with_empty && transfer.process(&[]).is_err() {
-                return false;
-            }
+            start = end;
         }
         bits /= 2;
+    }
+    pieces
+}
+
+/// Whether the last of these messages ends a transfer of changes, and none before it, but for empty ones.
+fn are_ended_by_the_last(rt: &impl Abort, alloc: Global, pieces: &[&[Part]]) -> bool {
+    let mut transfer = TransferState::new(true);
+    for parts in pieces {
+        if transfer.is_ended() && !parts.is_empty() {
+            return false;
+        }
+        let message = message_of(rt, alloc, parts);
+        if transfer.process(&message.answers).is_err() {
+            return false;
+        }
     }
     transfer.is_ended()
 }
 
-/// Changes that are cut into responses as the bits say, with an empty one at each cut where that is asked for.
-fn cut_stream(rt: &impl Abort, alloc: Global, cuts: u32, with_empty: bool) -> DnsResponseStream {
+/// A stream of responses with these answers.
+fn stream_of(rt: &impl Abort, alloc: Global, pieces: &[&[Part]]) -> DnsResponseStream {
     let mut items = Vec::new(alloc);
-    let mut parts = Vec::new(alloc);
-    let mut bits = cuts | 32;
-    for part in CHANGES {
-        parts.push(*part).expect(rt, "memory");
-        if bits % 2 == 1 {
-            let response = response_of(rt, alloc, &parts);
-            items.push(Ok(response)).expect(rt, "memory");
-            parts.clear();
-            if with_empty {
-                let empty = response_of(rt, alloc, &[]);
-                items.push(Ok(empty)).expect(rt, "memory");
-            }
-        }
-        bits /= 2;
+    for parts in pieces {
+        let response = response_of(rt, alloc, parts);
+        items.push(Ok(response)).expect(rt, "memory");
     }
     DnsResponseStream::from_items(items)
 }
@@ -273,21 +263,23 @@ fn answers_of(transfer: &mut ClientStreamXfr<DnsResponseStream>, task: &MockTask
     None
 }
 
-/// Whether a transfer gives all records of changes that are cut as the bits say.
-fn gives_all(rt: &impl Abort, alloc: Global, cuts: u32, with_empty: bool, task: &MockTask) -> bool {
-    let stream = cut_stream(rt, alloc, cuts, with_empty);
+/// Whether a transfer gives all records of changes in these messages.
+fn give_all(rt: &impl Abort, alloc: Global, pieces: &[&[Part]], task: &MockTask) -> bool {
+    let stream = stream_of(rt, alloc, pieces);
     let mut transfer = ClientStreamXfr::new(stream, true);
     answers_of(&mut transfer, task) == Some(CHANGES.len())
 }
 
 #[test]
 fn changes_may_be_cut_anywhere(rt: HostRuntime) {
+    let alloc = rt.alloc();
     let task = MockTask::new(&rt).ok().expect(&rt, "a task");
     for cuts in 0u32..32 {
         for with_empty in [false, true] {
-            let ended = is_ended_by_the_last(&rt, rt.alloc(), cuts, with_empty);
+            let pieces = pieces(&rt, alloc, cuts, with_empty);
+            let ended = are_ended_by_the_last(&rt, alloc, &pieces);
             check(&rt, "ended by the last record", ended);
-            let given = gives_all(&rt, rt.alloc(), cuts, with_empty, &task);
+            let given = give_all(&rt, alloc, &pieces, &task);
             check(&rt, "all records", given);
         }
     }
@@ -295,11 +287,7 @@ fn changes_may_be_cut_anywhere(rt: HostRuntime) {
 
 /// So many records come of these messages, if all of the zone does.
 fn collected(rt: &impl Abort, alloc: Global, messages: &[&[Part]]) -> Option<usize> {
-    let mut all = Vec::new(alloc);
-    for parts in messages {
-        let response = response_of(rt, alloc, parts);
-        all.push(response.message).expect(rt, "memory");
-    }
+    let all = messages_of(rt, alloc, messages);
     let records = all_of(alloc, all).ok().expect(rt, "a transfer")?;
     Some(records.len())
 }
@@ -307,10 +295,8 @@ fn collected(rt: &impl Abort, alloc: Global, messages: &[&[Part]]) -> Option<usi
 #[test]
 fn a_zone_is_whole_or_cut_off(rt: HostRuntime) {
     let alloc = rt.alloc();
-    check(
-        &rt,
-        "whole",
-        collected(&rt, alloc, &[WHOLE, REST]) == Some(6),
-    );
-    check(&rt, "cut off", collected(&rt, alloc, &[WHOLE]).is_none());
+    let whole = collected(&rt, alloc, &[WHOLE, REST]);
+    check(&rt, "whole", whole == Some(6));
+    let cut = collected(&rt, alloc, &[WHOLE]);
+    check(&rt, "cut off", cut.is_none());
 }

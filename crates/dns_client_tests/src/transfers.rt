@@ -5,6 +5,7 @@ use dns_handle::{DnsResponse, NetError, Notice};
 use dns_message::Message;
 use dns_model::{Denial, Proof};
 use dns_record::{DNSClass, Rdata, Record, RecordType};
+use futures::task::Poll;
 use std::alloc::Global;
 use std::process::Abort;
 
@@ -27,6 +28,8 @@ pub(crate) enum Came {
     Trailing,
     Incremental,
     Busy,
+    /// A future that was polled after its answer.
+    Again,
     Other,
     End,
     Pending,
@@ -65,15 +68,40 @@ pub(crate) fn record_of(rt: &impl Abort, alloc: Global, part: Part) -> Record {
     }
 }
 
+/// Puts the records that words stand for behind the others.
+pub(crate) fn push_records(
+    rt: &impl Abort,
+    alloc: Global,
+    records: &mut Vec<Record>,
+    parts: &[Part],
+) {
+    for part in parts {
+        let next = record_of(rt, alloc, *part);
+        records.push(next).expect(rt, "memory");
+    }
+}
+
+/// A message with these answers.
+pub(crate) fn message_of(rt: &impl Abort, alloc: Global, parts: &[Part]) -> Message {
+    let mut message = Message::query(alloc);
+    push_records(rt, alloc, &mut message.answers, parts);
+    message
+}
+
+/// Messages with these answers.
+pub(crate) fn messages_of(rt: &impl Abort, alloc: Global, messages: &[&[Part]]) -> Vec<Message> {
+    let mut all = Vec::new(alloc);
+    for parts in messages {
+        let message = message_of(rt, alloc, parts);
+        all.push(message).expect(rt, "memory");
+    }
+    all
+}
+
 /// A response with these answers.
 pub(crate) fn response_of(rt: &impl Abort, alloc: Global, parts: &[Part]) -> DnsResponse {
-    let mut message = Message::query(alloc);
-    for part in parts {
-        let answer = record_of(rt, alloc, *part);
-        message.answers.push(answer).expect(rt, "memory");
-    }
     DnsResponse {
-        message,
+        message: message_of(rt, alloc, parts),
         chains: Vec::new(alloc),
         denial: Denial::None,
         trail: Trail::new(alloc),
@@ -81,12 +109,31 @@ pub(crate) fn response_of(rt: &impl Abort, alloc: Global, parts: &[Part]) -> Dns
 }
 
 /// What an item is.
-pub(crate) fn came_by(item: &Result<DnsResponse, NetError>) -> Came {
+fn came_by(item: &Result<DnsResponse, NetError>) -> Came {
     match item {
         Ok(response) => Came::Answers(response.message.answers.len()),
         Err(NetError::Message(Notice::TransferHasTrailingRecords)) => Came::Trailing,
         Err(NetError::Message(Notice::TransferIsIncremental)) => Came::Incremental,
+        Err(NetError::Message(Notice::PolledAfterCompletion)) => Came::Again,
         Err(NetError::Busy) => Came::Busy,
         Err(_) => Came::Other,
+    }
+}
+
+/// What a poll of a stream gives.
+pub(crate) fn came_next(poll: Poll<Option<Result<DnsResponse, NetError>>>) -> Came {
+    match poll {
+        Poll::Pending => Came::Pending,
+        Poll::Ready(None) => Came::End,
+        Poll::Ready(Some(item)) => came_by(&item),
+    }
+}
+
+/// What a poll of a future gives, where a time-out says that nothing comes.
+pub(crate) fn came_first(poll: Poll<Result<DnsResponse, NetError>>) -> Came {
+    match poll {
+        Poll::Pending => Came::Pending,
+        Poll::Ready(Err(NetError::Timeout)) => Came::End,
+        Poll::Ready(item) => came_by(&item),
     }
 }

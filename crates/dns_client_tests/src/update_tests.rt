@@ -1,8 +1,9 @@
+//! Messages that change a zone, tell of it or ask for it, by their bytes.
 use crate::parts::{Given, are_digits, check, first, name, set};
 use crate::update_rows::{Call, Row, rows};
 use dns_message::Message;
 use dns_rdata::Soa;
-use dns_record::{DNSClass, Name, NoMemory, RecordType};
+use dns_record::{DNSClass, Name, Record, RecordSet, RecordType};
 use dns_update::{
     append, compare_and_swap, create, delete_all, delete_by_rdata, delete_rrset, notify,
     zone_transfer,
@@ -17,19 +18,19 @@ fn about_set(
     alloc: Global,
     zone: Name,
     call: &Call,
-    given: &Given,
+    set: RecordSet,
     edns: bool,
-) -> Option<Result<Message, NoMemory>> {
-    let set = set(rt, alloc, given);
+) -> Option<Message> {
     if !zone.zone_of(&set.name) {
         return None;
     }
-    match call {
-        Call::Create(_) => Some(create(alloc, set, zone, edns)),
-        Call::AppendToSet(_) => Some(append(alloc, set, zone, true, edns)),
-        Call::Append(_) => Some(append(alloc, set, zone, false, edns)),
-        _ => Some(delete_by_rdata(alloc, set, zone, edns)),
-    }
+    let message = match call {
+        Call::Create(_) => create(alloc, set, zone, edns),
+        Call::AppendToSet(_) => append(alloc, set, zone, true, edns),
+        Call::Append(_) => append(alloc, set, zone, false, edns),
+        _ => delete_by_rdata(alloc, set, zone, edns),
+    };
+    Some(message.expect(rt, "memory"))
 }
 
 /// A message that changes one set of the zone for another.
@@ -37,36 +38,46 @@ fn swapped(
     rt: &impl Abort,
     alloc: Global,
     zone: Name,
-    current: &Given,
-    new: &Given,
+    current: RecordSet,
+    new: RecordSet,
     edns: bool,
-) -> Option<Result<Message, NoMemory>> {
-    let current = set(rt, alloc, current);
-    let new = set(rt, alloc, new);
+) -> Option<Message> {
     if !zone.zone_of(&current.name) || !zone.zone_of(&new.name) {
         return None;
     }
-    Some(compare_and_swap(alloc, current, new, zone, edns))
+    let message = compare_and_swap(alloc, current, new, zone, edns);
+    Some(message.expect(rt, "memory"))
 }
 
-/// A message that deletes all records of a name and type, or of a name.
-fn deleted(
+/// A message that deletes all records of a name and type.
+fn without_set(
+    rt: &impl Abort,
+    alloc: Global,
+    zone: Name,
+    first: Record,
+    edns: bool,
+) -> Option<Message> {
+    if !zone.zone_of(&first.name) {
+        return None;
+    }
+    let message = delete_rrset(alloc, first, zone, edns);
+    Some(message.expect(rt, "memory"))
+}
+
+/// A message that deletes all records of a name.
+fn without_name(
     rt: &impl Abort,
     alloc: Global,
     zone: Name,
     given: &Given,
-    is_set: bool,
     edns: bool,
-) -> Option<Result<Message, NoMemory>> {
-    let first = first(rt, alloc, given);
-    if !zone.zone_of(&first.name) {
+) -> Option<Message> {
+    let owner = name(rt, alloc, given.owner);
+    if !zone.zone_of(&owner) {
         return None;
     }
-    if is_set {
-        return Some(delete_rrset(alloc, first, zone, edns));
-    }
-    let class = first.dns_class;
-    Some(delete_all(alloc, first.name, zone, class, edns))
+    let message = delete_all(alloc, owner, zone, DNSClass(given.class), edns);
+    Some(message.expect(rt, "memory"))
 }
 
 /// A message that tells a server of a set, with its records or without.
@@ -74,54 +85,53 @@ fn told(
     rt: &impl Abort,
     alloc: Global,
     given: &Given,
-    with_records: bool,
+    records: Option<RecordSet>,
     edns: bool,
-) -> Result<Message, NoMemory> {
-    let records = if with_records {
-        Some(set(rt, alloc, given))
-    } else {
-        None
-    };
-    notify(
-        alloc,
-        name(rt, alloc, given.owner),
-        DNSClass(given.class),
-        RecordType(given.record_type),
-        records,
-        edns,
-    )
+) -> Option<Message> {
+    let owner = name(rt, alloc, given.owner);
+    let class = DNSClass(given.class);
+    let record_type = RecordType(given.record_type);
+    let message = notify(alloc, owner, class, record_type, records, edns);
+    Some(message.expect(rt, "memory"))
 }
 
-/// A query for the changes of a zone; `None` where the SOA can't be read.
-fn changes(
-    rt: &impl Abort,
-    alloc: Global,
-    zone: Name,
-    given: &Given,
-) -> Option<Result<Message, NoMemory>> {
-    let soa = first(rt, alloc, given);
-    if Soa::of(&soa).is_none() {
+/// A query for a zone, or for its changes; `None` where the SOA can't be read.
+fn asked(rt: &impl Abort, alloc: Global, zone: Name, known: Option<Record>) -> Option<Message> {
+    if let Some(soa) = &known
+        && Soa::of(soa).is_none()
+    {
         return None;
     }
-    Some(zone_transfer(alloc, zone, Some(soa)))
+    let message = zone_transfer(alloc, zone, known);
+    Some(message.expect(rt, "memory"))
 }
 
-/// The message that a row's call builds, if it may be called.
-fn built(rt: &impl Abort, alloc: Global, row: &Row) -> Option<Result<Message, NoMemory>> {
-    let zone = name(rt, alloc, row.1);
-    let edns = row.3;
-    match row.2 {
-        Call::Swap(current, new) => swapped(rt, alloc, zone, current, new, edns),
-        Call::DeleteRrset(given) => deleted(rt, alloc, zone, given, true, edns),
-        Call::DeleteAll(given) => deleted(rt, alloc, zone, given, false, edns),
-        Call::Notify(given) => Some(told(rt, alloc, given, false, edns)),
-        Call::NotifyWith(given) => Some(told(rt, alloc, given, true, edns)),
-        Call::Axfr => Some(zone_transfer(alloc, zone, None)),
-        Call::Ixfr(given) => changes(rt, alloc, zone, given),
+/// The message that a call builds, if it may be made.
+pub(crate) fn built(
+    rt: &impl Abort,
+    alloc: Global,
+    zone: &str,
+    call: &Call,
+    edns: bool,
+) -> Option<Message> {
+    let zone = name(rt, alloc, zone);
+    match call {
+        Call::Swap(current, new) => {
+            let current = set(rt, alloc, current);
+            swapped(rt, alloc, zone, current, set(rt, alloc, new), edns)
+        }
+        Call::DeleteRrset(given) => without_set(rt, alloc, zone, first(rt, alloc, given), edns),
+        Call::DeleteAll(given) => without_name(rt, alloc, zone, given, edns),
+        Call::Notify(given) => told(rt, alloc, given, None, edns),
+        Call::NotifyWith(given) => told(rt, alloc, given, Some(set(rt, alloc, given)), edns),
+        Call::Axfr => asked(rt, alloc, zone, None),
+        Call::Ixfr(soa) => asked(rt, alloc, zone, Some(first(rt, alloc, soa))),
         Call::Create(given)
         | Call::Append(given)
         | Call::AppendToSet(given)
-        | Call::DeleteByRdata(given) => about_set(rt, alloc, zone, &row.2, given, edns),
+        | Call::DeleteByRdata(given) => {
+            about_set(rt, alloc, zone, call, set(rt, alloc, given), edns)
+        }
     }
 }
 
@@ -138,10 +148,9 @@ fn reads_back(rt: &impl Abort, alloc: Global, bytes: &[u8]) -> bool {
 }
 
 fn holds(rt: &impl Abort, alloc: Global, row: &Row) -> bool {
-    let Some(message) = built(rt, alloc, row) else {
+    let Some(message) = built(rt, alloc, row.1, &row.2, row.3) else {
         return false;
     };
-    let message = message.expect(rt, "memory");
     let bytes = message.to_vec().expect(rt, "memory");
     are_digits(rt, alloc, bytes.as_slice(), row.4) && reads_back(rt, alloc, bytes.as_slice())
 }
