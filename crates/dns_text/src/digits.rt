@@ -1,7 +1,7 @@
-//! Pairs of hexadecimal digits as bytes.
-ghost use Rattle.std.specs.Prelude.{◌≡◌, ◌*◌, ◌%◌, ◌≤◌, Some, None, cond, length, unwrap_or, IfOk, vec_len};
+//! Pairs of hexadecimal digits as bytes, and bytes as such pairs.
+ghost use Rattle.std.specs.Prelude.{◌≡◌, ◌++◌, ◌+◌, ◌*◌, ◌%◌, ◌<◌, ◌≤◌, Some, None, cond, length, slice_index, unwrap_or, IfOk, IfSome, OnOk, OnErr, vec_len};
 ghost use Rattle.std.specs.Option.{option_map};
-ghost use Rattle.hex.specs.Hex.{hex_digit_value};
+ghost use Rattle.hex.specs.Hex.{encode_lower, hex_digit_value, lower_digits};
 ghost use Rattle.dns_text.specs.Pairs.{pairs_in};
 
 use std::alloc::{AllocError, Global};
@@ -54,4 +54,54 @@ pub(crate) fn bytes_of_pairs(alloc: Global, digits: &[u8]) -> Result<Option<Vec<
     } else {
         Ok(None)
     }
+}
+
+// The digit of a value, in lower case.
+fn lower_digit(value: u8) -> u8
+    requires { value < 16 }
+    ensures { result ≡ slice_index lower_digits value }
+{
+    if value < 10 {
+        b'0' + value
+    } else {
+        b'a' - 10 + value
+    }
+}
+
+// Writes the digits of bytes, two for each.
+//
+// LLVM makes vectors of the loop, unless it stands within another.
+#[inline(never)]
+fn encode_pairs(bytes: &[u8], into: &mut [u8])
+    requires { length into.old ≡ 2 * length bytes.now }
+    ensures { into.new ≡ encode_lower bytes.now }
+{
+    'bytes: for at in 0..bytes.len() {
+        let high = lower_digit(bytes[at] / 16);
+        let low = lower_digit(bytes[at] % 16);
+        into[2 * at] = high;
+        into[2 * at + 1] = low;
+    }
+}
+
+// How long a text is with two digits behind it for each of so many bytes, if that is a length.
+fn length_with(front: usize, count: usize) -> Option<usize>
+    ensures { IfSome result (λ end. end ≡ front + 2 * count) }
+{
+    let digits = count.checked_mul(2)?;
+    front.checked_add(digits)
+}
+
+/// Puts the digits of bytes, in lower case, behind a text; the text stays where memory runs out.
+pub(crate) fn push_pairs(text: &mut Vec<u8>, bytes: &[u8]) -> Result<(), AllocError>
+    ensures ok { OnOk result (text.new.items ≡ text.old.items ++ encode_lower bytes.now) }
+    ensures err { OnErr result (text.new.items ≡ text.old.items) }
+{
+    let front = text.len();
+    let Some(end) = length_with(front, bytes.len()) else {
+        return Err(AllocError);
+    };
+    text.resize(end, 0)?;
+    encode_pairs(bytes, &mut text[front..]);
+    Ok(())
 }

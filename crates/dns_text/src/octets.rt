@@ -2,7 +2,7 @@
 ghost use Rattle.std.specs.Prelude.{◌≡◌, ◌++◌, ◌<◌, ◌≤◌, ◌^◌, IfOk, OnOk, OnErr};
 ghost use Rattle.dns_text.specs.Words.{octets_word, octets_in};
 
-use crate::digits::bytes_of_pairs;
+use crate::digits::{bytes_of_pairs, push_pairs};
 use dns_record::{NoMemory, Octets};
 use std::alloc::Global;
 
@@ -31,7 +31,6 @@ pub fn push_octets(text: &mut Vec<u8>, bytes: &[u8]) -> Result<(), NoMemory>
         text.extend_from_slice(b"-")?;
         return Ok(());
     }
-    let digits = hex::encode(*text.allocator(), bytes)?;
-    text.extend_from_slice(digits.as_bytes())?;
+    push_pairs(text, bytes)?;
     Ok(())
 }
