@@ -11,9 +11,10 @@ ghost use Rattle.dns_report.specs.TrailLines.{ask_word, origin_word, place_word,
 ghost use Rattle.dns_report.specs.WrittenLines.{ending_line};
 
 use crate::marks::section_word;
+use crate::names::push_name;
 use crate::words::{
-    end_line, push_denial_words, push_front, push_mark, push_name, push_number, push_text,
-    push_type_word, push_word,
+    end_line, push_denial_words, push_front, push_mark, push_number, push_text, push_type_word,
+    push_word,
 };
 use dns_evidence::{Ending, JudgedSet};
 use dns_model::{AskRef, MarkOrigin};

@@ -6,6 +6,7 @@ mod fault;
 mod judged;
 mod link;
 mod marks;
+mod names;
 mod parts;
 mod record;
 mod report;

@@ -15,9 +15,9 @@ ghost use Rattle.dns_report.specs.WrittenLines.{count_line, step_line, got_line}
 
 use crate::judged::{push_ending, push_sets};
 use crate::marks::section_word;
+use crate::names::push_name;
 use crate::words::{
-    end_line, push_front, push_name, push_number, push_octets_word, push_text, push_type_word,
-    push_word,
+    end_line, push_front, push_number, push_octets_word, push_text, push_type_word, push_word,
 };
 use dns_evidence::{Asked, Reply, Told, Trail};
 use dns_model::Section;

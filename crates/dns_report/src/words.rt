@@ -9,8 +9,9 @@ ghost use Rattle.dns_report.specs.LineWords.{mark_word, denial_words, spaced};
 ghost use Rattle.dns_report.specs.Fields.{fitting_name, is_u16};
 
 use crate::marks::mark_word;
+use crate::names::push_name;
 use dns_model::{Denial, Proof};
-use dns_record::{DNSClass, Name, NameRef, NoMemory, RecordType};
+use dns_record::{DNSClass, Name, NoMemory, RecordType};
 use dns_text::{push_class, push_decimal, push_octets, push_type};
 
 /// Appends bytes as they are.
@@ -44,23 +45,6 @@ pub(crate) fn push_number(into: &mut Vec<u8>, number: u64) -> Result<(), NoMemor
 {
     into.push(b' ')?;
     push_decimal(into, number)
-}
-
-// The name, of which it is known that it is one.
-fn known_name<'a>(name: &'a Name) -> NameRef<'a>
-    ensures same { result ≡ name.now }
-    ensures fits { IsTrue (fitting_name name.now) }
-{
-    name.borrowed().copy()
-}
-
-/// Appends a name in the case in which it stands.
-pub(crate) fn push_name(into: &mut Vec<u8>, name: &Name) -> Result<(), NoMemory>
-    ensures ok { OnOk result (into.new.items ≡ into.old.items ++ (32 ∷ printed name.now)) }
-    ensures fits { IsTrue (fitting_name name.now) }
-{
-    let text = known_name(name).to_ascii(*into.allocator())?;
-    push_word(into, text.as_bytes())
 }
 
 /// Appends the word of a class.
