@@ -100,9 +100,9 @@ def signatures():
 
 
 def hashed():
-    """342 sets of a name of 127 labels, none of them signed. Each asks for the name's NS records, which are there, and then for its DS
+    """511 sets of a name of 127 labels, none of them signed. Each asks for the name's NS records, which are there, and then for its DS
     set; that answer has 1,200 NSEC3 records of one owner, a hundred iterations and a salt of 12 bytes, of the root alone and with
-    opt-out; and their signature asks for the root's keys. The denial is judged by hashes of 129 names, and then the delegation."""
+    opt-out. The denial is judged by hashes of 129 names, and then the delegation."""
     return denied_by(b"s" * 12, 1_200)
 
 
@@ -129,9 +129,10 @@ def denied_by(salt, count):
 
 
 def searching(accept, denial):
-    """342 unsigned sets of a name of 127 labels, whose zone is searched: each asks for the name's NS records, and then for its DS set."""
+    """511 unsigned sets of a name of 127 labels, whose zone is searched: each asks for the name's NS records, and then for its DS set. The root's keys
+    are asked for once."""
     pointed = (0xC000 | 12).to_bytes(2, "big")
-    sets = [sessions.record(pointed, kind, ADDRESS) for kind in (A, *range(OPAQUE, OPAQUE + 254), *range(1_000, 1_087))]
+    sets = [sessions.record(pointed, kind, ADDRESS) for kind in (A, *range(OPAQUE, OPAQUE + 254), *range(1_000, 1_256))]
     own = sessions.question(sessions.name(*DEEP), NS)
     keys = sessions.message(sessions.question(ROOT, DNSKEY), [sessions.record(ROOT, DNSKEY, KEY)])
     lines = (reply(DEEP, A, sessions.message(sessions.question(sessions.name(*DEEP), A), sets)),
