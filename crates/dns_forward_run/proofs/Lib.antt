@@ -1,0 +1,5 @@
+pub mod RetiredLemmas
+pub mod LineLemmas
+pub mod SeatLemmas
+pub mod ForwardLemmas
+pub mod ServingLemmas

@@ -1,0 +1,22 @@
+use Rattle.std.proofs.Common.{◌∙◌, arith}
+use Rattle.dns_forward_run.specs.Retired.{met_by}
+use Rattle.dns_forward_run.proofs.RetiredLemmas.{seated_many, seated_new}
+use Rattle.dns_forward_run.proofs.connections.serve_ports.Goals as goal
+
+pub serve_and_retire-requires-clause-some : goal.serve_and_retire-requires-clause-some
+serve_and_retire-requires-clause-some g c κs within =
+    omega (
+      arith,
+      seated_many (λ s. s.port) c.in_ok-seats.seats.items c.args.ports.items c.in_ok-seats.ensures,
+      c.requires.some,
+    )
+
+pub serve_and_retire-requires-clause-unused : goal.serve_and_retire-requires-clause-unused
+serve_and_retire-requires-clause-unused g c κs within =
+    seated_new (λ s. s.port) (λ p. met_by g.N.Port.Port p) c.in_ok-seats.seats.items c.args.ports.items
+    c.in_ok-seats.ensures c.requires.unused
+
+pub returns-clause-len : goal.returns-clause-len
+returns-clause-len g c =
+    c.in_ok-lines.ensures.len
+    ∙ seated_many (λ s. s.port) c.in_ok-seats.seats.items c.args.ports.items c.in_ok-seats.ensures
