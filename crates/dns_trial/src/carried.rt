@@ -2,13 +2,13 @@
 
 use crate::cuts::cut_at;
 use crate::form::Work;
-use crate::measured::server;
 use dns_handle::NetError;
 use dns_link::{Link, PairLink};
 use dns_multiplexer::{BufDnsStreamHandle, SerialMessage};
 use dns_record::{NoMemory, Octets};
 use dns_tcp::{Feed, TcpStream};
 use std::alloc::Global;
+use std::net::{IpAddr, Ipv4Addr, SocketAddr};
 
 /// The bytes of a message. As an array of a function they would be dear to prove.
 const MESSAGE: &[u8; 510] = &[7; 510];
@@ -18,6 +18,11 @@ const FRAME: usize = 512;
 
 /// So many messages go over a link.
 const MESSAGES: u32 = 100;
+
+// The peer of all links.
+fn server() -> SocketAddr {
+    SocketAddr::new(IpAddr::V4(Ipv4Addr::new(192, 0, 2, 1)), 53)
+}
 
 // The frames of a hundred messages, one behind the other: each message behind its length (RFC 1035, 4.2.2).
 fn frames(alloc: Global) -> Result<Vec<u8>, NoMemory> {

@@ -5,14 +5,8 @@ use dns_text::decimal_in;
 /// What is done.
 #[derive(Clone, Copy)]
 pub(crate) enum Work {
-    /// Random events are played on multiplexers and random calls on caches, and the frame of a message is cut.
+    /// Random calls are played on caches, and the frame of a message is cut.
     All,
-    /// Requests are sent while so many others are live.
-    Sends,
-    /// Responses come to so many live requests.
-    Arrivals,
-    /// Responses are decoded alone.
-    Decoded,
     /// Each entry of the default cache is got.
     Get,
     /// An entry that isn't in the default cache takes the place of the least recently used.
@@ -43,10 +37,6 @@ pub(crate) enum Work {
     Written,
     /// The frame of a message of so many bytes is read, cut before each of its bytes in turn.
     Cut,
-    /// A request goes over a socket, and its answer comes.
-    Asked,
-    /// As many bytes go over a plain socket of std, and come back.
-    Plain,
     /// The keys of a zone are followed over so many sightings.
     Roll,
     /// A zone, or what has changed in it since a serial number, is transferred from a server at a port of this machine.
@@ -65,9 +55,6 @@ struct Kind {
 #[rattlefmt::skip]
 const KINDS: &[Kind] = &[
     Kind { name: b"all", numbers: 3, work: Work::All },
-    Kind { name: b"sends", numbers: 2, work: Work::Sends },
-    Kind { name: b"arrivals", numbers: 2, work: Work::Arrivals },
-    Kind { name: b"decoded", numbers: 1, work: Work::Decoded },
     Kind { name: b"get", numbers: 3, work: Work::Get },
     Kind { name: b"insert", numbers: 3, work: Work::Insert },
     Kind { name: b"copy", numbers: 3, work: Work::Copy },
@@ -83,8 +70,6 @@ const KINDS: &[Kind] = &[
     Kind { name: b"copied", numbers: 1, work: Work::Copied },
     Kind { name: b"written", numbers: 1, work: Work::Written },
     Kind { name: b"cut", numbers: 1, work: Work::Cut },
-    Kind { name: b"asked", numbers: 1, work: Work::Asked },
-    Kind { name: b"plain", numbers: 1, work: Work::Plain },
     Kind { name: b"roll", numbers: 1, work: Work::Roll },
     Kind { name: b"transfer", numbers: 2, work: Work::Transfer },
     Kind { name: b"update", numbers: 2, work: Work::Update },

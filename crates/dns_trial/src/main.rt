@@ -1,7 +1,7 @@
-//! `dns_trial`: plays random events on a multiplexer and random calls on caches, each beside a plain one, carries messages over
-//! connections, and does one thing with one of them or with a roll of keys many times, so that a script can measure what it costs.
+//! `dns_trial`: plays random calls on caches beside a plain list, carries messages over links in memory, transfers and updates a zone of
+//! a real server, and does one thing with a cache or with a roll of keys many times, so that a script can measure what it costs.
 //!
-//! Its contracts say when it ends with which status; that both answer alike is only tested.
+//! Its contracts say when it ends with which status; that all answer alike is only tested.
 #![tactic(auto)]
 
 mod cache_load;
@@ -10,20 +10,13 @@ mod calls;
 mod carried;
 mod cuts;
 mod entries;
-mod events;
-mod few_ids;
 mod follow_load;
 mod form;
-mod measured;
-mod mux_load;
 mod plain_cache;
-mod plain_mux;
 mod program;
-mod server;
 mod shared_load;
 mod shared_lookups;
 mod shelf_played;
-mod sockets;
 mod texts;
 mod transferring;
 mod trial_zone;

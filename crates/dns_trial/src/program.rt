@@ -6,19 +6,17 @@ ghost use Rattle.dns_io.specs.Writing.{bad_words_text};
 
 use crate::cache_load::worked_on;
 use crate::caches_played::Caches;
+use crate::calls::first_difference;
 use crate::carried::carried;
 use crate::cuts::cut;
 use crate::follow_load::followed;
 use crate::form::{Form, Work, form_of};
-use crate::mux_load::{decoded, load};
 use crate::shared_load::shared_work;
 use crate::shared_lookups::shared_lookups;
 use crate::shelf_played::Shelved;
-use crate::sockets::answered;
 use crate::texts::push_line;
 use crate::transferring::transferred;
 use crate::updating::updated;
-use crate::{calls, events};
 use dns_io::Sink;
 use dns_io::status::{self, refuse_words, write_text};
 use dns_record::NoMemory;
@@ -34,13 +32,11 @@ fn push_played(text: &mut Vec<u8>, different: Option<u32>, count: u32) -> Result
     }
 }
 
-// The lines of so many events and so many calls by a seed.
+// The lines of so many calls by a seed.
 fn push_all(alloc: Global, text: &mut Vec<u8>, seed: u32, count: u32) -> Result<(), NoMemory> {
-    let different = events::first_difference(alloc, u64::from(seed), count)?;
+    let different = first_difference::<Caches>(alloc, u64::from(seed), count)?;
     push_played(text, different, count)?;
-    let different = calls::first_difference::<Caches>(alloc, u64::from(seed), count)?;
-    push_played(text, different, count)?;
-    let different = calls::first_difference::<Shelved>(alloc, u64::from(seed), count)?;
+    let different = first_difference::<Shelved>(alloc, u64::from(seed), count)?;
     push_played(text, different, count)
 }
 
@@ -54,8 +50,6 @@ fn done<T: Threads + Wait + Copy + Send + Sync>(
 ) -> Result<u64, NoMemory> {
     match form.work {
         Work::All => cut(alloc, form.third),
-        Work::Sends | Work::Arrivals => load(alloc, form),
-        Work::Decoded => Ok(decoded(alloc, form.first)),
         Work::Get | Work::Insert | Work::Copy | Work::MapGet | Work::MapPut => worked_on(
             alloc, form,
         ),
@@ -70,7 +64,6 @@ fn done<T: Threads + Wait + Copy + Send + Sync>(
         Work::Roll => followed(alloc, form.first),
         Work::Transfer => transferred(rt, alloc, form.first, form.second, text),
         Work::Update => updated(rt, alloc, form.first, form.second, text),
-        Work::Asked | Work::Plain => Ok(answered(rt, threads, alloc, form.work, form.first)),
     }
 }
 
@@ -110,9 +103,6 @@ fn answer<T: Threads + Wait + Copy + Send + Sync, W: Sink>(
 /// Runs the program with its words, those after its name, and answers its status. `threads` is the runtime as well, which lets only `main`
 /// start threads.
 ///
-/// `sends LIVE COUNT` sends requests while so many others are live, `arrivals LIVE COUNT` hands responses of 50 bytes to so many live
-/// requests and takes them, and `decoded COUNT` decodes such responses alone.
-///
 /// `get ENTRIES LINKS PASSES` fills the default cache with so many entries, each with a chain of so many links, and gets each of them in
 /// each pass. `insert` puts as many into a cache with room for one fewer, and `copy` makes and lets go as many without a cache.
 /// `map-get ENTRIES PASSES` and `map-put` do the same with the map that the cache stands on.
@@ -126,8 +116,7 @@ fn answer<T: Threads + Wait + Copy + Send + Sync, W: Sink>(
 /// `made COUNT` makes so many links in memory, each with a hundred messages of 510 bytes behind their lengths; `read COUNT` makes them and
 /// reads the messages, and `copied COUNT` reads their bytes plainly, a frame a read, and copies each frame. `written COUNT` writes as many
 /// messages to so many links. `cut COUNT` cuts the frame of one message of so many bytes, at most 65,535, before each of its bytes in turn and then
-/// into single bytes, and reads it each time. `asked COUNT` sends requests to a server of this machine, and `plain COUNT` carries as many
-/// bytes by plain sockets.
+/// into single bytes, and reads it each time.
 ///
 /// `roll COUNT` follows the keys of a zone over so many sightings, a second apart, of a set of four keys with one signature that a key accepts which
 /// is trusted.
@@ -137,9 +126,8 @@ fn answer<T: Threads + Wait + Copy + Send + Sync, W: Sink>(
 /// and else is 0. `update PORT NUMBER` sends such a server one of ten messages about that zone, and writes `sent` with its bytes, under id 0, and `code` with the
 /// response code.
 ///
-/// Each writes `done` and how often it went well. `all SEED COUNT SIZE` plays random events on a multiplexer and on a plain machine, and then
-/// random calls on both caches and on a plain list, and then on a shelf and on a plain list. Of each it writes `alike COUNT`, or `different` with the number of the first event or
-/// call that they answer otherwise, counted from 0. Then it does what `cut SIZE` does.
+/// Each writes `done` and how often it went well. `all SEED COUNT SIZE` plays random calls on both caches and on a plain list, and then on a shelf and
+/// on a plain list. Of each it writes `alike COUNT`, or `different` with the number of the first call that they answer otherwise, counted from 0. Then it does what `cut SIZE` does.
 ///
 /// 0: the lines are written. 2: the words are no form. 5: a write failed after a prefix of the text. 6: memory ran out.
 pub(crate) fn run<T: Threads + Wait + Copy + Send + Sync, W: Sink>(

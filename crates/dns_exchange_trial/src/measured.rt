@@ -1,11 +1,13 @@
 //! The multiplexer beside the plain machine: what it answers to the same events.
+ghost use Rattle.std.specs.Prelude.{◌≡◌, [], false};
+ghost use Rattle.dns_multiplexer.specs.Multiplexers.{machine_of};
 
-use crate::few_ids::FewIds;
+use crate::machine::Machine;
 use crate::plain_mux::{Answer, Event, SIZE, TIMEOUT};
 use dns_handle::{DnsRequest, DnsRequestOptions, IoKind, NetError, Notice};
 use dns_message::Message;
 use dns_multiplexer::{
-    BufDnsStreamHandle, DnsMultiplexer, DnsRequestSender, RequestId, SerialMessage, Taken,
+    BufDnsStreamHandle, DnsMultiplexer, DnsRequestSender, Draws, RequestId, SerialMessage, Taken,
 };
 use dns_record::NoMemory;
 use std::alloc::Global;
@@ -26,7 +28,15 @@ pub(crate) fn request(alloc: Global) -> DnsRequest {
 }
 
 /// A multiplexer with the settings of the plain machine, and so many live requests at most.
-pub(crate) fn multiplexer(alloc: Global, draws: FewIds, maximum: usize) -> DnsMultiplexer<FewIds> {
+pub(crate) fn multiplexer<D: Draws + Drop>(
+    alloc: Global,
+    draws: D,
+    maximum: usize,
+) -> DnsMultiplexer<D>
+    ensures requests { (machine_of result).state.requests ≡ [] }
+    ensures outbound { (machine_of result).state.outbound ≡ [] }
+    ensures open { (machine_of result).is_shutdown ≡ false }
+{
     let (handle, queue) = BufDnsStreamHandle::with_buffer_size(alloc, server(), SIZE);
     DnsMultiplexer::new(alloc, server(), handle, queue, draws)
         .with_timeout(TIMEOUT)
@@ -50,32 +60,41 @@ pub(crate) fn set_front(response: &mut [u8; 50], id: u16, mark: u8) {
     response[3] = 0x80 | (mark % 16);
 }
 
-// What a send answered.
-fn told_by(sent: &Result<RequestId, NetError>) -> Result<Answer, NoMemory> {
-    match sent {
-        Ok(RequestId(number)) => Ok(Answer::Sent(*number)),
-        Err(NetError::NoMemory) => Err(NoMemory),
-        Err(NetError::Busy) => Ok(Answer::Busy),
-        Err(NetError::Message(Notice::IdSpaceExhausted)) => Ok(Answer::Exhausted),
-        Err(NetError::Message(Notice::SendQueueFull)) => Ok(Answer::QueueFull),
-        Err(_) => Ok(Answer::Other),
+/// That response with an id and a mark.
+pub(crate) fn response_with(id: u16, mark: u8) -> [u8; 50] {
+    let mut response = response();
+    set_front(&mut response, id, mark);
+    response
+}
+
+/// What a send is answered that is refused.
+pub(crate) fn refused(error: &NetError) -> Result<Answer, NoMemory> {
+    match error {
+        NetError::NoMemory => Err(NoMemory),
+        NetError::Busy => Ok(Answer::Busy),
+        NetError::Message(Notice::IdSpaceExhausted) => Ok(Answer::Exhausted),
+        NetError::Message(Notice::SendQueueFull) => Ok(Answer::QueueFull),
+        _ => Ok(Answer::Other),
     }
 }
 
 /// What a send is answered.
-pub(crate) fn send(
+pub(crate) fn send<D: Draws + Drop>(
     alloc: Global,
-    mux: &mut DnsMultiplexer<FewIds>,
+    mux: &mut DnsMultiplexer<D>,
     moment: u64,
 ) -> Result<Answer, NoMemory> {
     if mux.is_shutdown() {
         return Ok(Answer::Other);
     }
-    told_by(&mux.send_message(alloc, &request(alloc), moment))
+    match mux.send_message(alloc, &request(alloc), moment) {
+        Ok(RequestId(number)) => Ok(Answer::Sent(number)),
+        Err(error) => refused(&error),
+    }
 }
 
-// What was taken for a request.
-fn given(taken: &Taken) -> Answer {
+/// What was taken for a request.
+pub(crate) fn given(taken: &Taken) -> Answer {
     match taken {
         Taken::Item(Ok(response)) => Answer::Response(
             (response.message.response_code.0 % 16) as u8,
@@ -88,12 +107,12 @@ fn given(taken: &Taken) -> Answer {
 }
 
 /// What a request is given.
-pub(crate) fn taken(mux: &mut DnsMultiplexer<FewIds>, number: u64) -> Answer {
+pub(crate) fn taken<D: Draws + Drop>(mux: &mut DnsMultiplexer<D>, number: u64) -> Answer {
     given(&mux.take(RequestId(number)))
 }
 
-// The id of the message that is to be sent.
-fn outbound(message: &Option<SerialMessage>) -> Answer {
+/// The id of the message that is to be sent.
+pub(crate) fn outbound(message: &Option<SerialMessage>) -> Answer {
     match message {
         None => Answer::Nothing,
         Some(message) => match message.bytes.as_slice() {
@@ -104,28 +123,23 @@ fn outbound(message: &Option<SerialMessage>) -> Answer {
 }
 
 /// What is popped.
-pub(crate) fn popped(mux: &mut DnsMultiplexer<FewIds>) -> Answer {
+pub(crate) fn popped<D: Draws + Drop>(mux: &mut DnsMultiplexer<D>) -> Answer {
     outbound(&mux.pop_outbound())
 }
 
-/// What the multiplexer answers to an event, where the bytes that come are those of a response.
-pub(crate) fn answer(
-    alloc: Global,
-    mux: &mut DnsMultiplexer<FewIds>,
-    response: &mut [u8; 50],
-    event: Event,
-) -> Result<Answer, NoMemory> {
-    match event {
-        Event::Send(moment) => return send(alloc, mux, moment),
-        Event::Arrive(id, mark) => {
-            set_front(response, id, mark);
-            return Ok(Answer::Arrived(mux.arrive(alloc, response)?));
+impl<D: Draws + Drop> Machine for DnsMultiplexer<D> {
+    fn answer(&mut self, alloc: Global, event: Event) -> Result<Answer, NoMemory> {
+        match event {
+            Event::Send(moment) => return send(alloc, self, moment),
+            Event::Arrive(id, mark) => {
+                return Ok(Answer::Arrived(self.arrive(alloc, &response_with(id, mark))?));
+            }
+            Event::Take(number) => return Ok(taken(self, number)),
+            Event::Pop => return Ok(popped(self)),
+            Event::Cancel(number) => self.cancel(RequestId(number)),
+            Event::Tick(now) => self.tick(now),
+            Event::Close => self.close(IoKind::UnexpectedEof),
         }
-        Event::Take(number) => return Ok(taken(mux, number)),
-        Event::Pop => return Ok(popped(mux)),
-        Event::Cancel(number) => mux.cancel(RequestId(number)),
-        Event::Tick(now) => mux.tick(now),
-        Event::Close => mux.close(IoKind::UnexpectedEof),
+        Ok(Answer::Nothing)
     }
-    Ok(Answer::Nothing)
 }

@@ -1,7 +1,6 @@
 //! A multiplexer as one would write it with lists alone, and what both machines are told and answer.
 ghost use Rattle.std.specs.Prelude.{◌<◌, length, IfSome};
 
-use crate::few_ids::FewIds;
 use dns_multiplexer::{Arrival, Draws, RequestId};
 use dns_record::NoMemory;
 use std::alloc::Global;
@@ -70,14 +69,14 @@ struct Waiting {
 
 /// The requests in the order of their numbers, what waits for them in the order in which it came, and what is to be sent.
 #[derive(Drop)]
-pub(crate) struct Plain {
+pub(crate) struct Plain<D: Draws + Drop> {
     /// The last time that it was told, in milliseconds.
     pub(crate) now: u64,
     pub(crate) is_closed: bool,
     requests: Vec<PlainRequest>,
     waiting: Vec<Waiting>,
     outbound: Vec<u16>,
-    draws: FewIds,
+    draws: D,
 }
 
 // Where the first item of a request stands.
@@ -133,9 +132,9 @@ fn holder(requests: &[PlainRequest], id: u16) -> Option<usize> {
     None
 }
 
-impl Plain {
+impl<D: Draws + Drop> Plain<D> {
     /// No request yet.
-    pub(crate) fn new(alloc: Global, draws: FewIds) -> Plain {
+    pub(crate) fn new(alloc: Global, draws: D) -> Plain<D> {
         Plain {
             now: 0,
             is_closed: false,
@@ -149,6 +148,18 @@ impl Plain {
     /// How many requests were sent.
     pub(crate) fn count(&self) -> u64 {
         self.requests.len() as u64
+    }
+
+    /// Whether an event that is answered so may be the next one: requests are sent, messages go out and responses come in their order.
+    pub(crate) fn is_ready(&self, event: Event, answer: Answer) -> bool {
+        match (event, answer) {
+            (Event::Send(_), Answer::Sent(number)) => self.count() == number,
+            (Event::Pop, Answer::Popped(id)) => self.outbound.first().copied() == Some(id),
+            (Event::Take(number), Answer::Response(_)) => {
+                place_of(&self.waiting, number as usize).is_some()
+            }
+            _ => true,
+        }
     }
 
     // An id that no live request has, among a hundred that are drawn.

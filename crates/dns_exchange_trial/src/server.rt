@@ -1,6 +1,9 @@
 //! A server of this machine, which sends back what it reads, marked as a response.
+use std::alloc::{AllocError, Global};
 use std::io::{Read, Write};
 use std::net::TcpListener;
+use std::thread;
+use std::thread::Threads;
 
 /// The bytes of a request without a question, behind their length.
 pub(crate) const FRAME: usize = 14;
@@ -28,4 +31,15 @@ pub(crate) fn serve(listener: &TcpListener, count: u32) -> u64 {
         Ok((mut stream, _)) => serve_all(&mut stream, count),
         Err(_) => 0,
     }
+}
+
+/// The same of so many connections side by side.
+pub(crate) fn serve_each<T: Threads + Sync>(
+    threads: &T,
+    alloc: Global,
+    listener: &TcpListener,
+    connections: usize,
+    count: u32,
+) -> Result<Vec<u64>, AllocError> {
+    thread::map_indices(threads, alloc, connections, &|_| serve(listener, count))
 }
