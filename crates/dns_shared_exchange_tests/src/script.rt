@@ -23,6 +23,8 @@ pub(crate) enum Step {
     Arrive(usize, Heard),
     /// A response with the id.
     Respond(u16, Heard),
+    /// The next message that is to be sent comes back as it is.
+    Echo(Heard),
     Take(u64, Heard),
     Cancel(u64, Heard),
     Close(IoKind, Heard),
@@ -77,6 +79,12 @@ fn are_arrived<W: Abort + Wait>(
     true
 }
 
+// The next message that is to be sent comes back.
+fn echoed<W: Abort + Wait>(rt: &W, alloc: Global, caller: &mut Caller<ListDraws>) -> Heard {
+    let message = caller.popped(rt).expect(rt, "a message");
+    caller.arrive(rt, alloc, message.bytes.as_slice())
+}
+
 // Whether a step goes as it says.
 fn goes<W: Abort + Wait>(
     rt: &W,
@@ -94,6 +102,7 @@ fn goes<W: Abort + Wait>(
         Step::Arrivals(count, len) => are_arrived(rt, alloc, caller, count, len),
         Step::Arrive(len, heard) => arrived(rt, alloc, caller, len) == heard,
         Step::Respond(id, heard) => caller.arrive(rt, alloc, &response_bytes(id)) == heard,
+        Step::Echo(heard) => echoed(rt, alloc, caller) == heard,
         Step::Take(number, heard) => caller.take(rt, alloc, number) == heard,
         Step::Cancel(number, heard) => caller.cancel(rt, alloc, number) == heard,
         Step::Close(fault, heard) => caller.close(rt, alloc, fault) == heard,

@@ -51,6 +51,19 @@ const SCRIPTS: &[Script] = &[
         ],
     },
     Script {
+        name: "ninety-nine and another one don't",
+        maximum: 32,
+        size: 32,
+        ids: NINETY_NINE,
+        steps: &[
+            Step::Send(12, 0, Heard::Of(0)),
+            Step::Send(12, 0, Heard::Of(1)),
+            Step::Pop(Some(7)),
+            Step::Pop(Some(8)),
+            Step::Pop(None),
+        ],
+    },
+    Script {
         name: "in a queue of size 0 one message waits; what it refused drew an id",
         maximum: 32,
         size: 0,
@@ -65,14 +78,15 @@ const SCRIPTS: &[Script] = &[
         ],
     },
     Script {
-        name: "65,535 bytes are sent, and 65,536 are too long",
+        name: "65,535 bytes are sent, and 65,536 are too long; as many bytes are an arrival",
         maximum: 32,
         size: 32,
         ids: &[7, 8],
         steps: &[
             Step::Send(65_536, 0, Heard::TooLong),
             Step::Send(65_535, 0, Heard::Of(0)),
-            Step::Pop(Some(8)),
+            Step::Echo(Heard::Of(0)),
+            Step::Take(0, Heard::Response(8)),
         ],
     },
     Script {
@@ -143,6 +157,14 @@ const SCRIPTS: &[Script] = &[
             Step::Close(EOF, Heard::Done),
         ],
     },
+];
+
+/// 7, then 7 ninety-nine times, then 8.
+const NINETY_NINE: &[u16] = &[
+    7, 7, 7, 7, 7, 7, 7, 7, 7, 7, 7, 7, 7, 7, 7, 7, 7, 7, 7, 7, 7, 7, 7, 7, 7, 7, 7, 7, 7, 7, 7, 7,
+    7, 7, 7, 7, 7, 7, 7, 7, 7, 7, 7, 7, 7, 7, 7, 7, 7, 7, 7, 7, 7, 7, 7, 7, 7, 7, 7, 7, 7, 7, 7, 7,
+    7, 7, 7, 7, 7, 7, 7, 7, 7, 7, 7, 7, 7, 7, 7, 7, 7, 7, 7, 7, 7, 7, 7, 7, 7, 7, 7, 7, 7, 7, 7, 7,
+    7, 7, 7, 7, 8,
 ];
 
 #[test]
