@@ -1,4 +1,5 @@
-//! Names, records and messages, and the bytes that signatures are over: the public names of the crates below, in one place.
+//! Names, records and messages, those that change a zone among them, and the bytes that signatures are over: the public names of
+//! the crates below, in one place.
 //!
 //! ```rust
 //! use dns_wire::{DNSClass, Message, Name, Query, RecordType};
@@ -26,4 +27,8 @@ pub use dns_rdata::{
 pub use dns_record::{
     DNSClass, Name, NameRef, NoMemory, Octets, OpCode, Query, Rdata, Record, RecordSet, RecordType,
     ResponseCode, Text, clone_records,
+};
+pub use dns_update::{
+    append, compare_and_swap, create, delete_all, delete_by_rdata, delete_rrset, notify,
+    zone_transfer,
 };
