@@ -28,7 +28,11 @@ fn serve_all<S: Read + Write>(stream: &mut S, count: u32) -> u64 {
 /// The same of the first connection of a listener.
 pub(crate) fn serve(listener: &TcpListener, count: u32) -> u64 {
     match listener.accept() {
-        Ok((mut stream, _)) => serve_all(&mut stream, count),
+        Ok((mut stream, _)) => {
+            // As name servers do: else the system holds a response back while the client hasn't said that it has the one before.
+            let _ = stream.set_nodelay(true);
+            serve_all(&mut stream, count)
+        }
         Err(_) => 0,
     }
 }
