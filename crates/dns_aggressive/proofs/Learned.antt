@@ -52,7 +52,7 @@ apart_step true x xs is h = h
 apart_step false x xs is h =
     ap (λ b. not b && are_apart (latest xs)) (none_latest (same_place x) xs is) ∙ h
 
-apart_latest : (xs : List KeptValue) → are_apart (latest xs) ≡ true
+pub apart_latest : (xs : List KeptValue) → are_apart (latest xs) ≡ true
 unfolding are_apart latest
 apart_latest [] = refl
 apart_latest (x ∷ xs) = apart_step (list_any (same_place x) xs) x xs refl (apart_latest xs)

@@ -2,6 +2,12 @@ pub mod Loops
 pub mod Places
 pub mod StayingRecords
 pub mod Learned
+pub mod Orders
+pub mod Latest
+pub mod Compaction
+pub mod Agreeing
+pub mod ZoneRuns
+pub mod Ascending
 pub mod Chains
 pub mod Groups
 pub mod LiveRecords

@@ -1,136 +1,11 @@
--- Which records stay, as the lists are gone through from their end; and records moved to the front by their flags.
-use Rattle.std.proofs.Common.{◌≡◌, ℕ, ◌+◌, ◌-◌, ◌<◌, ◌≤◌, zero, suc, Bool, true, false, cond, not, ◌&&◌, ◌||◌, List, [], ◌∷◌, ◌++◌, length, drop, take, reverse, min, get_or, set, refl, sym, ap, ◌∙◌, subst, ⊎_elim, arith, add-one}
-use Rattle.std.specs.BTreeSet as tree
-use Rattle.std.specs.BTreeSet.{BTreeSet}
-use Rattle.std.specs.List.{list_any, swap}
-use Rattle.std.specs.Ordering.{is_eq}
+-- Records moved to the front by their flags.
+use Rattle.std.proofs.Common.{◌≡◌, ℕ, ◌+◌, ◌<◌, ◌≤◌, Bool, true, false, cond, List, [], ◌∷◌, ◌++◌, length, drop, take, min, get_or, set, refl, sym, ap, ◌∙◌, subst, ⊎_elim, arith}
+use Rattle.std.specs.List.{swap}
 use Rattle.std.proofs.lemmas.Bool.{cases_lt}
-use Rattle.std.proofs.lemmas.List.{drop_all, drop_more, drop-set-lt, get_or_default, length-append, length-drop, length-set, length-take, reverse-append, take_all, take_at, take_more, take_more_set, take-set-le}
+use Rattle.std.proofs.lemmas.List.{drop_more, drop-set-lt, get_or_default, length-set, length-take, take_all, take_more, take_more_set, take-set-le}
 use Rattle.std.proofs.lemmas.Grind.{drop_more_same}
 use Rattle.std.proofs.lemmas.List.Edits.{length-swap, swap_is}
-use Rattle.std.proofs.lemmas.List.Folds.{list_any-append}
-use Rattle.dns_aggressive.specs.declared.kept.KeptRecord.TheVariants.{Nsec}
-use Rattle.dns_aggressive.specs.Records.{KeptValue}
-use Rattle.dns_aggressive.specs.Lists.{is_same, latest, place_of, same_place}
-use Rattle.dns_aggressive.specs.Flags.{are_apart, flagged}
-use Rattle.dns_aggressive.specs.Places.{Key, has_place, key_place, place_cmp}
-use Rattle.dns_aggressive.proofs.Places.{key_cmp, placed_more}
-
--- ---- flags, the last one first
-
--- so many flags say which records of a list stay
-pub record AreFlags (flags : List Bool) (list : List KeptValue) : Type 0 where
-  pub stays : flagged (reverse flags) list ≡ latest list
-  pub long : length flags ≡ length list
-
-pub no_flags : AreFlags [] []
-unfolding flagged latest
-no_flags = record { stays = refl; long = refl }
-
-one_step : (b : Bool) (x : KeptValue) (xs : List KeptValue)
-    → cond (not b) (x ∷ xs) xs ≡ cond b xs (x ∷ xs)
-one_step true x xs = refl
-one_step false x xs = refl
-
-pub flags_more : (flags : List Bool) (list : List KeptValue) (x : KeptValue) (flag : Bool)
-    → flag ≡ not (list_any (same_place x) list)
-    → AreFlags flags list → AreFlags (flags ++ flag ∷ []) (x ∷ list)
-unfolding flagged latest
-flags_more flags list x flag is h = record {
-  stays = ap (λ fs. flagged fs (x ∷ list)) (reverse-append flags (flag ∷ []))
-      ∙ ap (λ ys. cond flag (x ∷ ys) ys) h.stays
-      ∙ ap (λ b. cond b (x ∷ latest list) (latest list)) is
-      ∙ one_step (list_any (same_place x) list) x (latest list);
-  long = let e = length-append flags (flag ∷ []) in let l = h.long in omega (arith, e, l);
-}
-
-or_none : (a b : Bool) → a ≡ false → (a || b) ≡ b
-or_none true b h = cc
-or_none false b h = refl
-
-not_false : (a b : Bool) → (not a && b) ≡ true → a ≡ false
-not_false true b h = cc
-not_false false b h = refl
-
-rest_true : (a b : Bool) → (not a && b) ≡ true → b ≡ true
-rest_true true b h = cc
-rest_true false b h = h
-
--- behind a record none has its place
-pub apart_behind : (list : List KeptValue) (i : ℕ) (d : KeptValue) → are_apart list ≡ true → i < length list
-    → list_any (same_place (get_or list i d)) (drop (suc i) list) ≡ false
-unfolding are_apart
-apart_behind [] i d h within = absurd (omega (arith, within))
-apart_behind (x ∷ list) zero d h within = not_false (list_any (same_place x) list) (are_apart list) h
-apart_behind (x ∷ list) (suc i) d h within =
-    apart_behind list i d (rest_true (list_any (same_place x) list) (are_apart list) h) (omega (arith, within))
-
--- a record of the first list stays, unless one of the second list has its place
-pub first_stays : (kept taken : List KeptValue) (i : ℕ) (d : KeptValue) → are_apart kept ≡ true → i < length kept
-    → list_any (same_place (get_or kept i d)) (drop (i + 1) kept ++ taken)
-    ≡ list_any (same_place (get_or kept i d)) taken
-first_stays kept taken i d apart within =
-    list_any-append (same_place (get_or kept i d)) (drop (i + 1) kept) taken
-    ∙ or_none (list_any (same_place (get_or kept i d)) (drop (i + 1) kept))
-    (list_any (same_place (get_or kept i d)) taken)
-    (ap (λ n. list_any (same_place (get_or kept i d)) (drop n kept)) (add-one i) ∙ apart_behind kept i d apart within)
-
--- ---- one step back in a list
-
-back_one : {X : Type 0} (all : List X) (n : ℕ) (x : X) → 0 < n → n ≤ length all → x ≡ get_or all (n - 1) x
-    → drop (n - 1) all ≡ x ∷ drop n all
-back_one all n x some within read =
-    drop_more all (n - 1) x (omega (arith, some, within))
-    ∙ ap (λ y. y ∷ drop (n - 1 + 1) all) (sym read)
-    ∙ ap (λ m. x ∷ drop m all) (omega (arith, some))
-
-pub flags_none : (flags : List Bool) (all : List KeptValue) → flags ≡ [] → AreFlags flags (drop (length all) all)
-flags_none flags all e =
-    subst (λ fs. AreFlags fs (drop (length all) all)) (sym e)
-    (subst (λ l. AreFlags [] l) (sym (drop_all (length all) all (omega arith))) no_flags)
-
-pub places_none : (places : BTreeSet Key) (all : List KeptValue) → places.keys ≡ []
-    → (k : KeptValue) → has_place places (place_of k) ≡ list_any (same_place k) (drop (length all) all)
-places_none places all e k =
-    ap (list_any (λ key. is_eq (place_cmp (place_of k) (key_place key)))) e
-    ∙ sym (ap (list_any (same_place k)) (drop_all (length all) all (omega arith)))
-
--- the flag of the record before those that have theirs
-pub flags_back : (flags more : List Bool) (all : List KeptValue) (n : ℕ) (x : KeptValue) (flag : Bool) → 0 < n
-    → n ≤ length all
-    → x ≡ get_or all (n - 1) x → more ≡ flags ++ flag ∷ [] → flag ≡ not (list_any (same_place x) (drop n all))
-    → AreFlags flags (drop n all) → AreFlags more (drop (n - 1) all)
-flags_back flags more all n x flag some within read grown is h =
-    subst (λ l. AreFlags more l) (sym (back_one all n x some within read))
-    (subst (λ fs. AreFlags fs (x ∷ drop n all)) (sym grown) (flags_more flags (drop n all) x flag is h))
-
--- its place is noted too
-pub places_back : (old new : BTreeSet Key) (key : Key) (all : List KeptValue) (n : ℕ) (x : KeptValue) → 0 < n
-    → n ≤ length all
-    → x ≡ get_or all (n - 1) x → key_place key ≡ place_of x → tree.Updates key_cmp old new key true
-    → ((k : KeptValue) → has_place old (place_of k) ≡ list_any (same_place k) (drop n all))
-    → (k : KeptValue) → has_place new (place_of k) ≡ list_any (same_place k) (drop (n - 1) all)
-places_back old new key all n x some within read is updates noted k =
-    placed_more old new key updates (place_of k)
-    ∙ ap (λ p. is_same (place_of k) p || has_place old (place_of k)) is
-    ∙ ap (λ b. same_place k x || b) (noted k)
-    ∙ sym (ap (list_any (same_place k)) (back_one all n x some within read))
-
--- the flag of a record of the first list
-pub first_flags_back : (flags more : List Bool) (kept taken : List KeptValue) (n : ℕ) (x : KeptValue) (flag : Bool)
-    → 0 < n
-    → n ≤ length kept → are_apart kept ≡ true → x ≡ get_or kept (n - 1) x → more ≡ flags ++ flag ∷ []
-    → flag ≡ not (list_any (same_place x) taken)
-    → AreFlags flags (drop n kept ++ taken) → AreFlags more (drop (n - 1) kept ++ taken)
-first_flags_back flags more kept taken n x flag some within apart read grown is h =
-    let there : list_any (same_place x) (drop n kept ++ taken) ≡ list_any (same_place x) taken =
-    ap (λ m. list_any (same_place x) (drop m kept ++ taken)) (omega (arith, some))
-    ∙ ap (λ y. list_any (same_place y) (drop (n - 1 + 1) kept ++ taken)) read
-    ∙ first_stays kept taken (n - 1) x apart (omega (arith, some, within))
-    ∙ ap (λ y. list_any (same_place y) taken) (sym read) in
-    subst (λ l. AreFlags more (l ++ taken)) (sym (back_one kept n x some within read))
-    (subst (λ fs. AreFlags fs (x ∷ (drop n kept ++ taken))) (sym grown)
-    (flags_more flags (drop n kept ++ taken) x flag (is ∙ ap not (sym there)) h))
+use Rattle.dns_aggressive.specs.Flags.{flagged}
 
 -- ---- records moved to the front
 
@@ -240,15 +115,6 @@ packed_more flags old new after s i d long within set_ is h =
       long = ap length is ∙ length-swap new s i ∙ h.long;
     }
 
--- a record for places past the end
-pub nowhere : KeptValue
-nowhere = record {
-  zone = [];
-  item = Nsec
-      (record { owner = []; fields = record { next = []; types = [] } });
-  expires = 0;
-}
-
 -- all are gone through
 pub packed_all : {X : Type 0} (flags : List Bool) (old new : List X) (s i : ℕ) → length flags ≡ length old
     → length flags ≤ i
@@ -256,10 +122,3 @@ pub packed_all : {X : Type 0} (flags : List Bool) (old new : List X) (s i : ℕ)
 packed_all flags old new s i long end h =
     h.front ∙ ap (λ fs. flagged fs (take i old)) (take_all i flags end)
     ∙ ap (flagged flags) (take_all i old (omega (arith, end, long)))
-
--- ---- the last ones
-
-pub last_turned : {X : Type 0} (xs : List X) (limit gone : ℕ) → gone + limit ≡ length xs
-    → take limit (drop gone xs ++ take gone xs) ≡ drop gone xs
-last_turned xs limit gone sum =
-    take_at (drop gone xs) (take gone xs) limit (let e = length-drop gone xs in omega (arith, sum, e))

@@ -8,3 +8,7 @@ pub mod Chains
 pub mod Groups
 pub mod Answers
 pub mod Flags
+pub mod Orders
+pub mod Compaction
+pub mod Agreeing
+pub mod ZoneRuns

@@ -1,26 +1,28 @@
--- For private functions alone: places as keys of an ordered set.
-use Rattle.std.specs.Prelude.{ℕ, Bool, List}
+-- For private functions alone: places in an order in which those of one zone stand together, and in it those of one group.
+use Rattle.std.specs.Prelude.{ℕ, List}
 use Rattle.std.specs.declared.cmp.Ordering.{Ordering}
 use Rattle.std.specs.Ordering.{nat_cmp, ordering_then}
 use Rattle.std.specs.Cmp.Lexicographic.{slice_cmp}
 use Rattle.std.specs.Borrow.{Bor}
-use Rattle.std.specs.BTreeSet as tree
-use Rattle.std.specs.BTreeSet.{BTreeSet}
 use Rattle.dns_model.specs.Names.{Labels, name_cmp}
-use Rattle.dns_aggressive.specs.Lists.{Place}
+use Rattle.dns_aggressive.specs.Records.{KeptValue}
+use Rattle.dns_aggressive.specs.Lists.{Place, place_of}
 
 abbrev pub Key : Type 0
-Key = Bor Labels × Bor Labels × ℕ × ℕ × Bor (List ℕ)
+Key = Bor Labels × ℕ × ℕ × Bor (List ℕ) × Bor Labels
 
 abbrev pub key_place : Key → Place
-key_place key = record { zone = key.0.now; owner = key.1.now; rtype = key.2; iterations = key.3; salt = key.4.now }
+key_place key = record { zone = key.0.now; owner = key.4.now; rtype = key.1; iterations = key.2; salt = key.3.now }
 
--- places in order, names as in canonical order
+-- by the zone, the type, and how owners are hashed
+abbrev pub group_cmp : Place → Place → Ordering
+group_cmp a b =
+    ordering_then (ordering_then (ordering_then (name_cmp a.zone b.zone) (nat_cmp a.rtype b.rtype))
+    (nat_cmp a.iterations b.iterations)) (slice_cmp nat_cmp a.salt b.salt)
+
+-- within a group by the owner, names as in canonical order
 abbrev pub place_cmp : Place → Place → Ordering
-place_cmp a b =
-    ordering_then (ordering_then (ordering_then (ordering_then (name_cmp a.zone b.zone) (name_cmp a.owner b.owner))
-    (nat_cmp a.rtype b.rtype)) (nat_cmp a.iterations b.iterations)) (slice_cmp nat_cmp a.salt b.salt)
+place_cmp a b = ordering_then (group_cmp a b) (name_cmp a.owner b.owner)
 
--- the place is among the keys
-abbrev pub has_place : BTreeSet Key → Place → Bool
-has_place places place = tree.contains_by (λ key. place_cmp place (key_place key)) places
+abbrev pub record_cmp : KeptValue → KeptValue → Ordering
+record_cmp one two = place_cmp (place_of one) (place_of two)

@@ -1,11 +1,10 @@
 //! Records that are kept for later denials (RFC 8198, 5.1, 5.2 and 5.4).
-ghost use Rattle.std.specs.Prelude.{◌≡◌, ◌&&◌, option_map};
+ghost use Rattle.std.specs.Prelude.{◌≡◌};
 ghost use Rattle.std.specs.Option.{option_copied};
-ghost use Rattle.dns_aggressive.specs.Denials.{is_live_in};
 ghost use Rattle.dns_aggressive.specs.Records.{is_live as is_live_at, nsec_of, nsec3_of};
 
 use dns_rdata::{Nsec3Record, NsecRecord};
-use dns_record::{Name, NameRef};
+use dns_record::Name;
 use std::marker::Model;
 
 /// A record by which names and types are denied.
@@ -83,12 +82,5 @@ impl Kept {
         ensures { result ≡ is_live_at now self.now }
     {
         now < self.expires
-    }
-
-    // Whether it is still used, and is a record of this zone.
-    pub(crate) fn is_live_in(&self, zone: &NameRef<'_>, now: u64) -> bool
-        ensures { result ≡ is_live_in now zone.now self.now }
-    {
-        self.is_live(now) && self.zone.borrowed().eq_name(zone)
     }
 }

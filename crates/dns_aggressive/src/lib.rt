@@ -3,14 +3,19 @@
 #![tactic(auto)]
 
 mod chain_index;
+mod compacting;
 mod kept;
+mod kept_list;
 mod live;
 mod negative_store;
 mod nsec3_groups;
+mod order;
 mod place;
+mod placing;
 mod staying;
 mod synthesizing;
 mod taking;
+mod zone_run;
 mod zone_search;
 
 pub use kept::{Kept, KeptRecord};

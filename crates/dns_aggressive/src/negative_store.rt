@@ -6,7 +6,7 @@ ghost use Rattle.dns_aggressive.specs.Promises.{IsDenial};
 ghost use Rattle.dns_aggressive.specs.Taking.{taken as taken_in};
 
 use crate::kept::Kept;
-use crate::staying::{keep_flagged, keep_last, stays};
+use crate::kept_list::KeptList;
 use crate::synthesizing::{Synthesized, made_in};
 use crate::taking::taken;
 use crate::zone_search::{may_deny, zone_of};
@@ -23,7 +23,7 @@ pub struct NegativeStore {
     alloc: Global,
     limit: u32,
     most: Option<u32>,
-    kept: Vec<Kept>,
+    kept: KeptList,
 }
 
 impl Model for NegativeStore {
@@ -32,9 +32,9 @@ impl Model for NegativeStore {
 
     ghost Value = { StoreValue };
 
-    ghost view = { λ s. record { limit = s.limit; most = s.most; kept = s.kept.items } };
+    ghost view = { λ s. record { limit = s.limit; most = s.most; kept = s.kept } };
 
-    ghost invariant = { λ s. IsStored s.kept.items };
+    ghost invariant = { λ s. IsStored s.kept };
 }
 
 // By hand, so that a function that lets one go calls this.
@@ -59,7 +59,7 @@ impl NegativeStore {
             alloc,
             limit,
             most: None,
-            kept: Vec::new(alloc),
+            kept: KeptList::new(alloc),
         }
     }
 
@@ -85,12 +85,9 @@ impl NegativeStore {
         ensures from { OnOk result (AreAmong self.new.kept (self.old.kept ++ taken_in response.now now)) }
         ensures err { OnErr result (self.new ≡ self.old) }
     {
-        let mut taken = taken(self.alloc, response, now)?;
+        let taken = taken(self.alloc, response, now)?;
         let number = u32::try_from(taken.len()).unwrap_or(u32::MAX);
-        let flags = stays(self.alloc, &self.kept, &taken)?;
-        self.kept.append(&mut taken)?;
-        keep_flagged(&mut self.kept, &flags);
-        keep_last(&mut self.kept, self.limit as usize);
+        self.kept.learn(taken, self.limit as usize)?;
         Ok(number)
     }
 

@@ -1,37 +1,42 @@
-//! Where records stand, as keys of an ordered set: of one place only the newest is kept.
+//! Where records stand: of one place only the newest is kept.
 ghost use Rattle.std.specs.Prelude.{◌≡◌};
+ghost use Rattle.std.specs.Ordering.{is_eq};
 ghost use Rattle.dns_aggressive.specs.Lists.{place_of};
-ghost use Rattle.dns_aggressive.specs.Places.{has_place, key_place};
+ghost use Rattle.dns_aggressive.specs.Places.{key_place, record_cmp};
 
 use crate::kept::{Kept, KeptRecord};
 use dns_record::{Name, RecordType};
-use std::collections::BTreeSet;
+use std::cmp::Ordering;
 
-/// A record's zone, owner and type, and of an NSEC3 record its iterations and salt, all lent.
-pub(crate) type PlaceKey<'a> = (&'a Name, &'a Name, u16, u16, &'a [u8]);
+/// A record's zone and type, of an NSEC3 record its iterations and salt, and its owner, all lent.
+type PlaceKey<'a> = (&'a Name, u16, u16, &'a [u8], &'a Name);
 
-/// Places of records. Names are compared with A to Z folded.
-pub(crate) type Places<'a> = BTreeSet<PlaceKey<'a>>;
-
-/// The place of a record.
-pub(crate) fn place_key<'a>(kept: &'a Kept) -> PlaceKey<'a>
+// The place of a record.
+fn place_key<'a>(kept: &'a Kept) -> PlaceKey<'a>
     ensures { key_place result ≡ place_of kept.now }
 {
     match &kept.item {
-        KeptRecord::Nsec(nsec) => (&kept.zone, &nsec.owner, RecordType::NSEC.0, 0, &[]),
+        KeptRecord::Nsec(nsec) => (&kept.zone, RecordType::NSEC.0, 0, &[], &nsec.owner),
         KeptRecord::Nsec3(nsec3) => (
             &kept.zone,
-            &nsec3.owner,
             RecordType::NSEC3.0,
             nsec3.iterations,
             nsec3.salt.as_slice(),
+            &nsec3.owner,
         ),
     }
 }
 
-/// Whether a record's place is among some.
-pub(crate) fn is_placed<'a>(places: &Places<'a>, kept: &'a Kept) -> bool
-    ensures { result ≡ has_place places.now (place_of kept.now) }
+/// Which of two records comes first, by their places. Names are compared with A to Z folded.
+pub(crate) fn compare_places(one: &Kept, two: &Kept) -> Ordering
+    ensures { result ≡ record_cmp one.now two.now }
 {
-    places.contains(&place_key(kept))
+    place_key(one).cmp(&place_key(two))
+}
+
+/// Whether neither comes first.
+pub(crate) fn have_one_place(one: &Kept, two: &Kept) -> bool
+    ensures { result ≡ is_eq (record_cmp one.now two.now) }
+{
+    compare_places(one, two) == Ordering::Equal
 }

@@ -5,12 +5,11 @@ ghost use Rattle.dns_model.specs.declared.answered.Answered.TheVariants.{No};
 ghost use Rattle.dns_model.specs.SoundAnswers.{is_secure};
 ghost use Rattle.dns_rules.specs.NsecVerdict.{nsec_verdict};
 ghost use Rattle.dns_rules.specs.Nsec3Verdict.{nsec3_verdict, parameters_in};
-ghost use Rattle.dns_aggressive.specs.Answers.{hashed_answer};
+ghost use Rattle.dns_aggressive.specs.Answers.{hashed_answer, named_answer};
 ghost use Rattle.dns_aggressive.specs.Denials.{at_most, code_by, decided_among, hashed_ways, is_live_in, nsec3s_in, synthesized, ways_tried};
 ghost use Rattle.dns_aggressive.specs.Groups.{IsGrouped, lent};
 
-use crate::kept::Kept;
-use crate::live::{live_nsec3s, live_nsecs, seconds_left};
+use crate::kept_list::KeptList;
 use crate::nsec3_groups::Nsec3Groups;
 use dns_denial::{Nsec3Parameters, verify_nsec, verify_nsec3};
 use dns_model::{Answered, Proof};
@@ -57,7 +56,7 @@ impl Drop for Synthesized {
 /// What the first group of a zone that denies a query comes to.
 pub(crate) fn made_in(
     alloc: Global,
-    kept: &[Kept],
+    kept: &KeptList,
     most: Option<u32>,
     zone: Name,
     query: &Query,
@@ -66,10 +65,11 @@ pub(crate) fn made_in(
     ensures { IfOk result (λ made. made ≡ option_map (synthesized kept.now now)
         (decided_among kept.now query.now now zone (ways_tried most kept.now now zone))) }
 {
-    let nsecs = live_nsecs(alloc, kept, &zone.borrowed(), now)?;
-    if let Some(code) = code_by_nsecs(query, &zone, &nsecs) {
-        let ttl = seconds_left(kept, &zone.borrowed(), None, now);
+    if let Some((code, ttl)) = by_names(alloc, kept, &zone, query, now)? {
         return Ok(Some(Synthesized { code, zone, ttl }));
+    }
+    if !kept.of_zone(&zone.borrowed()).has_live_nsec3(now) {
+        return Ok(None);
     }
     match by_hashes(alloc, kept, most, &zone, query, now)? {
         Some((code, ttl)) => Ok(Some(Synthesized { code, zone, ttl })),
@@ -77,10 +77,28 @@ pub(crate) fn made_in(
     }
 }
 
+// The code that the NSEC records of a zone show, and their ttl.
+fn by_names(
+    alloc: Global,
+    kept: &KeptList,
+    zone: &Name,
+    query: &Query,
+    now: u64,
+) -> Result<Option<(ResponseCode, u32)>, NoMemory>
+    ensures { IfOk result (λ found. option_map (λ f. (f.0.0, f.1)) found ≡ named_answer kept.now query.now now zone.now) }
+{
+    let run = kept.of_zone(&zone.borrowed());
+    let nsecs = run.live_nsecs(alloc, now)?;
+    match code_by_nsecs(query, zone, &nsecs) {
+        Some(code) => Ok(Some((code, run.seconds_left(None, now)))),
+        None => Ok(None),
+    }
+}
+
 // The code and the ttl of the first group of NSEC3 records that denies a query.
 fn by_hashes(
     alloc: Global,
-    kept: &[Kept],
+    kept: &KeptList,
     most: Option<u32>,
     zone: &Name,
     query: &Query,
@@ -89,7 +107,8 @@ fn by_hashes(
     ensures { IfOk result (λ found. option_map (λ f. (f.0.0, f.1)) found
         ≡ hashed_answer kept.now query.now now zone.now (at_most most (hashed_ways now zone.now kept.now))) }
 {
-    let nsec3s = live_nsec3s(alloc, kept, &zone.borrowed(), now)?;
+    let run = kept.of_zone(&zone.borrowed());
+    let nsec3s = run.live_nsec3s(alloc, now)?;
     let groups = Nsec3Groups::new(alloc, &nsec3s)?;
     let firsts = tried(&groups.firsts, most);
     first_answer(alloc, kept, &groups, firsts, zone, query, now)
@@ -98,7 +117,7 @@ fn by_hashes(
 // The same of the groups of these first records.
 fn first_answer<'a>(
     alloc: Global,
-    kept: &[Kept],
+    kept: &KeptList,
     groups: &Nsec3Groups<'a>,
     firsts: &[&'a Nsec3Record],
     zone: &Name,
@@ -113,7 +132,8 @@ fn first_answer<'a>(
         let way = Nsec3Parameters::of(*first);
         let nsec3s = groups.copies(alloc, &way)?;
         if let Some(code) = code_by_nsec3s(query, zone, &nsec3s) {
-            let ttl = seconds_left(kept, &zone.borrowed(), Some(&way), now);
+            let run = kept.of_zone(&zone.borrowed());
+            let ttl = run.seconds_left(Some(&way), now);
             return Ok(Some((code, ttl)));
         }
     }

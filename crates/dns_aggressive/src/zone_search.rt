@@ -4,7 +4,7 @@ ghost use Rattle.std.specs.List.{find};
 ghost use Rattle.dns_rules.specs.DenialInZones.{is_data_type as is_data_type_in};
 ghost use Rattle.dns_aggressive.specs.Denials.{has_live as has_live_in, may_deny as may_deny_in, names_up, zone_for};
 
-use crate::kept::Kept;
+use crate::kept_list::KeptList;
 use dns_record::{DNSClass, NameRef, Query, RecordType};
 
 /// Whether a query may be denied: it is of class IN, and of a type that zones hold as data.
@@ -26,7 +26,7 @@ fn is_data_type(record_type: RecordType) -> bool
 }
 
 /// The apex of the longest zone that may hold a query and has a live record.
-pub(crate) fn zone_of<'a>(kept: &[Kept], query: &'a Query, now: u64) -> Option<NameRef<'a>>
+pub(crate) fn zone_of<'a>(kept: &KeptList, query: &'a Query, now: u64) -> Option<NameRef<'a>>
     ensures { result ≡ zone_for kept.now query.now now }
 {
     let name = query.name.borrowed();
@@ -40,7 +40,7 @@ pub(crate) fn zone_of<'a>(kept: &[Kept], query: &'a Query, now: u64) -> Option<N
 
 // The longest of a name and those above it that is the zone of a live record.
 #[tactic(auto, unfolding(crate::specs::Denials::names_up))]
-fn longest<'a>(kept: &[Kept], name: &NameRef<'a>, now: u64) -> Option<NameRef<'a>>
+fn longest<'a>(kept: &KeptList, name: &NameRef<'a>, now: u64) -> Option<NameRef<'a>>
     ensures { result ≡ find (has_live_in now kept.now) (names_up name.now) }
 {
     if has_live(kept, name, now) {
@@ -51,13 +51,8 @@ fn longest<'a>(kept: &[Kept], name: &NameRef<'a>, now: u64) -> Option<NameRef<'a
 }
 
 // Whether a zone has a live record.
-fn has_live(kept: &[Kept], zone: &NameRef<'_>, now: u64) -> bool
+fn has_live(kept: &KeptList, zone: &NameRef<'_>, now: u64) -> bool
     ensures { result ≡ has_live_in now kept.now zone.now }
 {
-    for one in kept {
-        if one.is_live_in(zone, now) {
-            return true;
-        }
-    }
-    false
+    kept.of_zone(zone).has_live(now)
 }

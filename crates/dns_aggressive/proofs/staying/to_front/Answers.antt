@@ -1,6 +1,7 @@
 use Rattle.std.proofs.Common.{◌+◌, true, false, sym, subst, ◌∙◌}
 use Rattle.std.proofs.lemmas.List.{get_or_default}
-use Rattle.dns_aggressive.proofs.StayingRecords.{IsPacked, nowhere, packed_more, packed_none, packed_over}
+use Rattle.dns_aggressive.specs.Orders.{nowhere}
+use Rattle.dns_aggressive.proofs.StayingRecords.{IsPacked, packed_more, packed_none, packed_over}
 use Rattle.dns_aggressive.proofs.staying.to_front.Goals as goal
 use Rattle.dns_aggressive.proofs.staying.to_front.Goals.{then-flag, else-flag}
 

@@ -1,10 +1,10 @@
-use Rattle.std.proofs.Common.{rules, ◌≡◌, None, Some, map, ap, ◌∙◌}
-use Rattle.std.specs.List.{filter}
-use Rattle.dns_model.specs.declared.answered.Answered.TheVariants.{No}
-use Rattle.dns_rules.specs.NsecVerdict.{nsec_verdict}
-use Rattle.dns_aggressive.specs.Answers.{hashed_answer}
-use Rattle.dns_aggressive.specs.Denials.{at_most, code_by, group, hashed_ways, is_live_in, nsecs_in, seconds_left}
-use Rattle.dns_aggressive.proofs.Deciding.{made_first, made_later, shown_by_nsecs}
+use Rattle.std.proofs.Common.{rules, ◌≡◌, None, Some, false, map, subst, ap, ◌∙◌}
+use Rattle.std.specs.List.{list_any}
+use Rattle.dns_aggressive.specs.Answers.{hashed_answer, named_answer}
+use Rattle.dns_aggressive.specs.Denials.{at_most, hashed_ways}
+use Rattle.dns_aggressive.specs.ZoneRuns.{IsZoneRun, stands_hashed}
+use Rattle.dns_aggressive.proofs.Deciding.{made_first, made_later}
+use Rattle.dns_aggressive.proofs.ZoneRuns.{named_none, named_seconds, named_shown, no_hashed_answer}
 use Rattle.dns_aggressive.proofs.synthesizing.made_in.Goals as goal
 
 pub returns-in-Some : goal.returns-in-Some
@@ -13,13 +13,27 @@ returns-in-Some c =
     let query = c.args.query.now in
     let now = c.args.now in
     let zone = c.args.zone in
-    let code = c.in-Some.code.0 in
-    let shown = shown_by_nsecs kept query now zone c.in_ok-nsecs.nsecs.items (Some code)
-    (c.in_ok-nsecs.ensures ∙ ap (λ z. nsecs_in (filter (is_live_in now z) kept)) c.borrowed.ensures)
-    (c.in-Some.ensures ∙ ap (λ ns. code_by (λ k. nsec_verdict query zone k No ns)) c.deref.ensures.value) in
-    ap (λ t. Some (record { code = code; zone = zone; ttl = t })) (c.seconds_left-ttl.ensures
-    ∙ ap (λ z. seconds_left now (group now z kept None)) c.borrowed-in-Some.ensures)
-    ∙ made_first kept query now zone (map Some (at_most c.args.most (hashed_ways now zone kept))) code shown
+    let told : Some (c.in-Some.code.0, c.in-Some.ttl)
+    ≡ named_answer c.args.kept.now c.args.query.now c.args.now c.args.zone = search rules in
+    ap (λ t. Some (record { code = c.in-Some.code.0; zone = zone; ttl = t }))
+    (named_seconds kept query now zone c.in-Some.code.0 c.in-Some.ttl told)
+    ∙ made_first kept query now zone (map Some (at_most c.args.most (hashed_ways now zone kept))) c.in-Some.code.0
+    (named_shown kept query now zone c.in-Some.code.0 c.in-Some.ttl told)
+
+pub returns-then-not-has_live_nsec3 : goal.returns-then-not-has_live_nsec3
+returns-then-not-has_live_nsec3 c =
+    let kept = c.args.kept.now in
+    let query = c.args.query.now in
+    let now = c.args.now in
+    let zone = c.args.zone in
+    let run = c.of_zone.result in
+    let is : IsZoneRun c.args.kept.now c.args.zone c.of_zone.result =
+    subst (λ z. IsZoneRun c.args.kept.now z c.of_zone.result) c.borrowed.ensures c.of_zone.ensures in
+    let named : None ≡ named_answer c.args.kept.now c.args.query.now c.args.now c.args.zone = search rules in
+    let none : list_any (stands_hashed c.of_zone.result c.args.now) c.of_zone.result.positions.now
+    ≡ false = search rules in
+    made_later kept query now zone (at_most c.args.most (hashed_ways now zone kept)) None
+    (named_none kept query now zone named) (no_hashed_answer kept zone run now is query c.args.most none)
 
 pub returns-in-Some-2 : goal.returns-in-Some-2
 returns-in-Some-2 c =
@@ -27,14 +41,13 @@ returns-in-Some-2 c =
     let query = c.args.query.now in
     let now = c.args.now in
     let zone = c.args.zone in
-    let ways = at_most c.args.most (hashed_ways now zone kept) in
-    let none = shown_by_nsecs kept query now zone c.in_ok-nsecs.nsecs.items None
-    (c.in_ok-nsecs.ensures ∙ ap (λ z. nsecs_in (filter (is_live_in now z) kept)) c.borrowed.ensures)
-    (c.in_default.ensures ∙ ap (λ ns. code_by (λ k. nsec_verdict query zone k No ns)) c.deref.ensures.value) in
+    let named : None ≡ named_answer c.args.kept.now c.args.query.now c.args.now c.args.zone = search rules in
     let told : Some (c.in-Some-2.code.0, c.in-Some-2.ttl)
     ≡ hashed_answer c.args.kept.now c.args.query.now c.args.now c.args.zone
     (at_most c.args.most (hashed_ways c.args.now c.args.zone c.args.kept.now)) = search rules in
-    made_later kept query now zone ways (Some (c.in-Some-2.code.0, c.in-Some-2.ttl)) none told
+    made_later kept query now zone (at_most c.args.most (hashed_ways now zone kept))
+    (Some (c.in-Some-2.code.0, c.in-Some-2.ttl)) (named_none kept query now zone named)
+    told
 
 pub returns-in-None : goal.returns-in-None
 returns-in-None c =
@@ -42,10 +55,10 @@ returns-in-None c =
     let query = c.args.query.now in
     let now = c.args.now in
     let zone = c.args.zone in
-    let ways = at_most c.args.most (hashed_ways now zone kept) in
-    let none = shown_by_nsecs kept query now zone c.in_ok-nsecs.nsecs.items None
-    (c.in_ok-nsecs.ensures ∙ ap (λ z. nsecs_in (filter (is_live_in now z) kept)) c.borrowed.ensures)
-    (c.in_default.ensures ∙ ap (λ ns. code_by (λ k. nsec_verdict query zone k No ns)) c.deref.ensures.value) in
-    let told : None ≡ hashed_answer c.args.kept.now c.args.query.now c.args.now c.args.zone
+    let named : None ≡ named_answer c.args.kept.now c.args.query.now c.args.now c.args.zone = search rules in
+    let told : None
+    ≡ hashed_answer c.args.kept.now c.args.query.now c.args.now c.args.zone
     (at_most c.args.most (hashed_ways c.args.now c.args.zone c.args.kept.now)) = search rules in
-    made_later kept query now zone ways None none told
+    made_later kept query now zone (at_most c.args.most (hashed_ways now zone kept)) None
+    (named_none kept query now zone named)
+    told

@@ -19,15 +19,14 @@ returns-clause-denial c =
 pub returns-clause-made : goal.returns-clause-made
 returns-clause-made c =
     let store = c.args.self.now in
-    let kept : c.deref.result.now ≡ store.kept = c.deref.ensures.value ∙ ap (λ s. s.kept) c.self.view_is in
-    let kept-2 : c.deref-2.result.now ≡ store.kept = c.deref-2.ensures.value ∙ ap (λ s. s.kept) c.self.view_is in
+    let kept : c.self.inside.kept ≡ store.kept = ap (λ s. s.kept) c.self.view_is in
     let zone : zone_for store.kept c.args.query.now c.args.now ≡ Some c.in_ok-zone.zone =
     ap (λ ks. zone_for ks c.args.query.now c.args.now) (sym kept) ∙ sym c.in-Some.ensures
     ∙ ap Some (sym c.in_ok-zone.ensures) in
     IfOk-weaker c.made_in.result _ _
     (λ denial is. is
     ∙ ap (λ ks. option_map (synthesized ks c.args.now) (decided_among ks c.args.query.now c.args.now c.in_ok-zone.zone
-    (ways_tried c.self.inside.most ks c.args.now c.in_ok-zone.zone))) kept-2
+    (ways_tried c.self.inside.most ks c.args.now c.in_ok-zone.zone))) kept
     ∙ ap (λ most. option_map (synthesized store.kept c.args.now)
     (decided_among store.kept c.args.query.now c.args.now c.in_ok-zone.zone
     (ways_tried most store.kept c.args.now c.in_ok-zone.zone))) (ap (λ s. s.most) c.self.view_is)
