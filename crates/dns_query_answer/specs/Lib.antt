@@ -1,0 +1,11 @@
+-- Definitions of the status and the text of an answer.
+pub mod Status
+pub mod SentenceWords
+pub mod Places
+pub mod PlaceValues
+pub mod SignatureWords
+pub mod CauseWords
+pub mod Following
+pub mod Reasons
+pub mod DenialWords
+pub mod AnswerText
