@@ -7,6 +7,10 @@ pub use dns_forwarded::{
     replies_are_read_back,
 };
 pub use dns_handle::{IoKind, Protocol};
+pub use dns_listener::{
+    CountedPort, DatagramPort, ListListener, Listener, PortCounts, SocketListener, SocketPort,
+    StreamPort,
+};
 pub use dns_ports::{ListPort, Port, PortFault};
 pub use dns_record::{NoMemory, Octets};
 pub use dns_respond::{Exchanged, respond, respond_over};

@@ -11,11 +11,13 @@ use std::thread::{self, Threads};
 /// So often the gate lets the seat that it holds look anew.
 const TURNS: u32 = 1_000_000;
 
-/// Holds the first request of seat 0 until seat 1 comes for its second request, so after it has sent its first reply. It counts who
-/// passed, and whether the wait was in vain.
+/// Holds the first request of seat 0 until seat 1 comes for its second request, so after it has sent its first reply. It counts how many
+/// passed, adds up their seats and their numbers, and tells whether the wait was in vain.
 #[derive(Drop)]
 struct Holding {
     passed: AtomicU64,
+    seats: AtomicU64,
+    numbers: AtomicU64,
     freed: AtomicU64,
     vain: AtomicU64,
 }
@@ -24,6 +26,8 @@ impl Holding {
     fn new() -> Holding {
         Holding {
             passed: AtomicU64::new(0),
+            seats: AtomicU64::new(0),
+            numbers: AtomicU64::new(0),
             freed: AtomicU64::new(0),
             vain: AtomicU64::new(0),
         }
@@ -44,6 +48,8 @@ impl Holding {
 impl Gate for Holding {
     fn pass(&self, seat: u32, number: u32) {
         self.passed.fetch_add(1, Ordering::SeqCst);
+        self.seats.fetch_add(u64::from(seat), Ordering::SeqCst);
+        self.numbers.fetch_add(u64::from(number), Ordering::SeqCst);
         if seat == 0 && number == 0 {
             self.hold();
         }
@@ -83,9 +89,15 @@ fn are_served<R: Threads + Wait + Abort + Copy + Send + Sync>(
 #[test]
 fn a_seat_that_waits_holds_no_other_up(rt: HostRuntime) {
     let gate = Holding::new();
-    check_held(&rt, "both", are_served(rt, rt.alloc(), &gate, 2));
+    check_held(&rt, "both", are_served(rt, rt.alloc(), &gate, 3));
     check_held(&rt, "held", gate.vain.load(Ordering::SeqCst) == 0);
-    check_held(&rt, "each request", gate.passed.load(Ordering::SeqCst) == 4);
+    check_held(&rt, "each request", gate.passed.load(Ordering::SeqCst) == 6);
+    check_held(
+        &rt,
+        "three of seat 1",
+        gate.seats.load(Ordering::SeqCst) == 3,
+    );
+    check_held(&rt, "up to 2", gate.numbers.load(Ordering::SeqCst) == 6);
 }
 
 #[test]

@@ -1,4 +1,5 @@
-//! Tests of seats that are served side by side: how each ends, and that a fault or a wait of one changes nothing at the others.
+//! Tests of seats that are served side by side: how each ends, and that a fault or a wait of one changes nothing at the others; and the
+//! forwarder of docs/LIBRARY.md, through the facades that it names.
 //!
 //! They stand apart, since a crate with tests of its own is proved twice.
 #![tactic(auto)]
@@ -9,6 +10,8 @@ mod ending_tests;
 mod gate_tests;
 #[cfg(test)]
 mod given;
+#[cfg(test)]
+mod library_tests;
 #[cfg(test)]
 mod many_tests;
 #[cfg(test)]
