@@ -42,4 +42,5 @@ def main():
               f"{warm / cold:.2f} of it; one gives {answers} answers and {faults} faults")
 
 
-main()
+if __name__ == "__main__":
+    main()

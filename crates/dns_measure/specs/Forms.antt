@@ -14,7 +14,7 @@ use Rattle.dns_measure.specs.declared.form.Work.{Work}
 use Rattle.dns_measure.specs.declared.form.Work.TheVariants.{Decode, OnSession, Signatures, Replies, Responses}
 use Rattle.dns_measure.specs.declared.denials.Judging.{Judging}
 use Rattle.dns_measure.specs.declared.denials.Judging.TheVariants.{Gathered, Listed, Indexed, InList, InIndex}
-use Rattle.dns_measure.specs.declared.form.SessionWork.TheVariants.{LookUp, LookUpAnew, Verdicts, Denials}
+use Rattle.dns_measure.specs.declared.form.SessionWork.TheVariants.{LookUp, LookUpAnew, Respond, RespondAnew, Verdicts, Denials}
 
 -- how often is a number of 32 bits
 abbrev pub passes_in : List ℕ → Option ℕ
@@ -40,7 +40,7 @@ abbrev pub denials_form : Option Judging → Option ℕ → Option Form
 denials_form judging passes = option_and_then (λ j. reading_form (OnSession (Denials j)) passes) judging
 
 -- what words ask for: `verdicts`, `signatures`, `forwarded`, `responded`, `decode PASSES`, `lookup PASSES`, `anew PASSES`,
--- `denials JUDGING PASSES`, or `signed RECORDS PASSES` with at most 65535 records
+-- `respond PASSES`, `respond-anew PASSES`, `denials JUDGING PASSES`, or `signed RECORDS PASSES` with at most 65535 records
 abbrev pub form_in : List (List ℕ) → Option Form
 form_in (name ∷ []) =
     if bytes_eq name (codes "verdicts") then Some (Reading (OnSession Verdicts) 1)
@@ -52,6 +52,8 @@ form_in (name ∷ passes ∷ []) =
     if bytes_eq name (codes "decode") then reading_form Decode (passes_in passes)
     else if bytes_eq name (codes "lookup") then reading_form (OnSession LookUp) (passes_in passes)
     else if bytes_eq name (codes "anew") then reading_form (OnSession LookUpAnew) (passes_in passes)
+    else if bytes_eq name (codes "respond") then reading_form (OnSession Respond) (passes_in passes)
+    else if bytes_eq name (codes "respond-anew") then reading_form (OnSession RespondAnew) (passes_in passes)
     else None
 form_in (name ∷ what ∷ passes ∷ []) =
     if bytes_eq name (codes "signed") then signed_form (decimal_in 65535 what) (passes_in passes)

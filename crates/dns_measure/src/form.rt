@@ -13,6 +13,10 @@ pub enum SessionWork {
     LookUp,
     /// The same, each time with an empty cache.
     LookUpAnew,
+    /// A request for its query is answered, over one validator, whose cache is filled by the first lookup.
+    Respond,
+    /// The same, each time with an empty cache.
+    RespondAnew,
     /// What the NSEC or NSEC3 records of each reply prove is told. Once alone.
     Verdicts,
     /// Something is asked of those records.
@@ -127,6 +131,12 @@ pub(crate) fn form_of(words: &[Vec<u8>]) -> Option<Form>
             }
             if name.as_slice() == b"anew".as_slice() {
                 return reading_form(Work::OnSession(SessionWork::LookUpAnew), passes);
+            }
+            if name.as_slice() == b"respond".as_slice() {
+                return reading_form(Work::OnSession(SessionWork::Respond), passes);
+            }
+            if name.as_slice() == b"respond-anew".as_slice() {
+                return reading_form(Work::OnSession(SessionWork::RespondAnew), passes);
             }
             None
         }

@@ -1,9 +1,12 @@
-//! Lookups of a session's query, one after another.
+//! Lookups of a session's query, or requests for it that are answered, one after another.
 
-use dns_handle::{DnsRequestOptions, DnsResponse, NetError};
+use dns_forwarded::Outcome;
+use dns_handle::{DnsRequest, DnsRequestOptions, DnsResponse, NetError, Protocol};
 use dns_lookup::DnssecDnsHandle;
-use dns_record::{NoMemory, Query};
+use dns_message::EncodeError;
+use dns_record::{NoMemory, Octets, Query};
 use dns_recorded::Recorded;
+use dns_respond::{Exchanged, respond_over};
 use dns_session::Session;
 use dns_session_lookup::{SessionLookup, SessionVerifier, Verification, session_lookup};
 use std::alloc::Global;
@@ -17,15 +20,45 @@ pub struct Lookups {
     pub faults: u64,
 }
 
+/// What is done again and again.
+#[derive(Clone, Copy)]
+pub struct Repeating {
+    /// A request for the query is answered, and the query isn't looked up alone.
+    responds: bool,
+    /// Each time with an empty cache.
+    anew: bool,
+}
+
+impl Repeating {
+    /// The query is looked up.
+    pub const LOOK_UP: Repeating = Repeating {
+        responds: false,
+        anew: false,
+    };
+
+    /// A request for the query is answered.
+    pub const RESPOND: Repeating = Repeating {
+        responds: true,
+        anew: false,
+    };
+
+    /// The same, each time with an empty cache.
+    pub(crate) fn anew(mut self) -> Repeating {
+        self.anew = true;
+        self
+    }
+}
+
 /// What is looked up again and again.
 #[derive(Clone, Copy)]
 struct Repeated<'a> {
     query: &'a Query,
+    /// A request for it in wire form.
+    request: &'a [u8],
     options: DnsRequestOptions,
     /// Seconds.
     moment: u64,
-    /// Each time with an empty cache.
-    anew: bool,
+    how: Repeating,
 }
 
 /// As many as a validator makes room for by itself.
@@ -56,14 +89,56 @@ fn with_reply(counts: Lookups, reply: &Result<DnsResponse, NetError>) -> Result<
     }
 }
 
-// Looks it up, and counts what came of it.
+// A request for it, with DO, in wire form; no bytes where there is none.
+fn request_for(alloc: Global, query: &Query) -> Result<Octets, NoMemory> {
+    let mut options = DnsRequestOptions::default();
+    options.edns_set_dnssec_ok = true;
+    let request = DnsRequest::from_query(alloc, query.try_clone()?, options)?;
+    match request.message.to_vec() {
+        Ok(bytes) => Ok(bytes),
+        Err(EncodeError::NoMemory) => Err(NoMemory),
+        Err(EncodeError::TooLong) => Octets::from_slice(alloc, b""),
+    }
+}
+
+// Answers the request for it.
+fn respond(
+    alloc: Global,
+    what: Repeated,
+    handle: &mut DnssecDnsHandle<Recorded, SessionVerifier>,
+) -> Result<Exchanged, NoMemory> {
+    let depth = what.options.max_request_depth;
+    respond_over(
+        alloc,
+        handle,
+        what.request,
+        Protocol::Udp,
+        depth,
+        what.moment,
+    )
+}
+
+// The counts, with what came of an exchange.
+fn with_exchange(counts: Lookups, exchange: &Exchanged) -> Lookups {
+    let is_answered = matches!(exchange.outcome, Outcome::Answered(_));
+    Lookups {
+        answers: counts.answers.saturating_add(u64::from(is_answered)),
+        faults: counts.faults.saturating_add(u64::from(!is_answered)),
+    }
+}
+
+// Looks it up or answers the request for it, and counts what came of that.
 fn count_one(
     alloc: Global,
     what: Repeated,
     handle: &mut DnssecDnsHandle<Recorded, SessionVerifier>,
     counts: Lookups,
 ) -> Result<Lookups, NoMemory> {
-    with_reply(counts, &look_up(alloc, what, handle))
+    if what.how.responds {
+        Ok(with_exchange(counts, &respond(alloc, what, handle)?))
+    } else {
+        with_reply(counts, &look_up(alloc, what, handle))
+    }
 }
 
 // The validator, with an empty cache where that is wanted.
@@ -72,14 +147,14 @@ fn made_ready(
     what: Repeated,
     handle: DnssecDnsHandle<Recorded, SessionVerifier>,
 ) -> Result<DnssecDnsHandle<Recorded, SessionVerifier>, NoMemory> {
-    if what.anew {
+    if what.how.anew {
         handle.validation_cache_size(alloc, CACHE_ENTRIES)
     } else {
         Ok(handle)
     }
 }
 
-// Looks it up so many times.
+// Does it so many times.
 fn count_all(
     alloc: Global,
     what: Repeated,
@@ -97,12 +172,12 @@ fn count_all(
     Ok(counts)
 }
 
-/// Looks a session's query up so many times, over one validator, each time with an empty cache or not, and counts what came of it.
+/// Looks a session's query up so many times, over one validator, by itself or for a request, and counts what came of it.
 pub(crate) fn count_lookups(
     alloc: Global,
     session: Session,
     times: u32,
-    anew: bool,
+    how: Repeating,
 ) -> Result<Lookups, NoMemory> {
     let SessionLookup {
         validator,
@@ -110,11 +185,13 @@ pub(crate) fn count_lookups(
         options,
         moment,
     } = session_lookup(alloc, Verification::ByList, session)?;
+    let request = request_for(alloc, &query)?;
     let what = Repeated {
         query: &query,
+        request: request.as_slice(),
         options,
         moment,
-        anew,
+        how,
     };
     count_all(alloc, what, validator, times)
 }

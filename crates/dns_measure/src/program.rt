@@ -11,7 +11,7 @@ use crate::counts::count_passes;
 use crate::denials::count_denials;
 use crate::form::{Form, SessionWork, Work, form_of};
 use crate::frames::cut_off;
-use crate::lookups::count_lookups;
+use crate::lookups::{Repeating, count_lookups};
 use crate::replies::push_replies;
 use crate::responses::push_response;
 use crate::signatures::push_accepted;
@@ -38,15 +38,15 @@ fn decode(alloc: Global, passes: u32, bytes: &[u8], text: &mut Vec<u8>) -> Resul
     Ok(status::DONE)
 }
 
-// Looks a session up so many times, each time with an empty cache or not, and puts what was counted behind a text.
+// Looks a session up so many times, and puts what was counted behind a text.
 fn push_counted(
     alloc: Global,
     passes: u32,
     session: Session,
-    anew: bool,
+    how: Repeating,
     text: &mut Vec<u8>,
 ) -> Result<(), NoMemory> {
-    let counts = count_lookups(alloc, session, passes, anew)?;
+    let counts = count_lookups(alloc, session, passes, how)?;
     push_lookups(text, counts)
 }
 
@@ -60,8 +60,14 @@ fn push_text(
 ) -> Result<(), NoMemory> {
     match work {
         SessionWork::Verdicts => push_lines(alloc, session, text),
-        SessionWork::LookUp => push_counted(alloc, passes, session, false, text),
-        SessionWork::LookUpAnew => push_counted(alloc, passes, session, true, text),
+        SessionWork::LookUp => push_counted(alloc, passes, session, Repeating::LOOK_UP, text),
+        SessionWork::LookUpAnew => {
+            push_counted(alloc, passes, session, Repeating::LOOK_UP.anew(), text)
+        }
+        SessionWork::Respond => push_counted(alloc, passes, session, Repeating::RESPOND, text),
+        SessionWork::RespondAnew => {
+            push_counted(alloc, passes, session, Repeating::RESPOND.anew(), text)
+        }
         SessionWork::Denials(judging) => {
             push_denials(text, count_denials(alloc, judging, session, passes)?)
         }

@@ -21,6 +21,8 @@ pub(crate) enum Work {
     SharedGet,
     /// So many lookups are served from one shared cache by each of so many threads.
     SharedLookups,
+    /// In so many rounds so many seats of a forwarder over one shared cache answer a thousand requests each.
+    Serve,
     /// An entry under six links is put into a shelf, whose verifier hashes so many bytes for a signature.
     ShelfInsert,
     /// Such an entry is made and dropped, and its chain tested.
@@ -62,6 +64,7 @@ const KINDS: &[Kind] = &[
     Kind { name: b"map-put", numbers: 2, work: Work::MapPut },
     Kind { name: b"shared-get", numbers: 3, work: Work::SharedGet },
     Kind { name: b"shared-lookups", numbers: 2, work: Work::SharedLookups },
+    Kind { name: b"serve", numbers: 2, work: Work::Serve },
     Kind { name: b"shelf-insert", numbers: 3, work: Work::ShelfInsert },
     Kind { name: b"shelf-test", numbers: 3, work: Work::ShelfTest },
     Kind { name: b"shelf-for", numbers: 3, work: Work::ShelfFor },

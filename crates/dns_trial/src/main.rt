@@ -14,6 +14,7 @@ mod follow_load;
 mod form;
 mod plain_cache;
 mod program;
+mod serve_load;
 mod shared_load;
 mod shared_lookups;
 mod shelf_played;

@@ -1,7 +1,7 @@
 //! Warm lookups by several threads, with a validator each over one shared cache.
 
 use crate::weighing::Weighing;
-use dns_evidence::Trail;
+use dns_evidence::{Trail, Verifier};
 use dns_handle::{DnsRequestOptions, DnsResponse, NetError};
 use dns_lookup::DnssecDnsHandle;
 use dns_message::Message;
@@ -25,7 +25,7 @@ const KEYS: &[u8; 34] =
     b"\0\0\x84\0\0\x01\0\x01\0\0\0\0\0\0\x30\0\x01\0\0\x30\0\x01\0\0\x0e\x10\0\x06\x01\x01\x03\x0d\xaa\xbb";
 
 /// A validator over a holder.
-type Sharing<T> = DnssecDnsHandle<Recorded, Weighing, DefaultSharedCache<Weighing, T>>;
+pub(crate) type Sharing<V, T> = DnssecDnsHandle<Recorded, V, DefaultSharedCache<V, T>>;
 
 // A question about the root.
 fn question(alloc: Global, query_type: RecordType) -> Result<Query, NoMemory> {
@@ -62,23 +62,24 @@ fn upstream(alloc: Global) -> Result<Recorded, NetError> {
     Ok(recorded)
 }
 
-// A validator that trusts the root's key, over a holder of its own.
-fn validator<T: Wait + Copy>(
+/// A validator that trusts the root's key, over a holder of its own.
+pub(crate) fn validator<V: Verifier + Drop, T: Wait + Copy>(
     alloc: Global,
-    cache: &DefaultSharedCache<Weighing, T>,
-) -> Result<Sharing<T>, NetError> {
+    cache: &DefaultSharedCache<V, T>,
+    verifier: V,
+) -> Result<Sharing<V, T>, NetError> {
     let mut anchors = TrustAnchors::empty(alloc);
     let key = Octets::from_slice(alloc, b"\xaa\xbb")?;
     let _ = anchors.insert_with_name(Name::root(alloc)?, 13, key)?;
     let holder = cache.share()?;
-    let made = DnssecDnsHandle::with_cache(upstream(alloc)?, anchors, Weighing::new(0), holder)?;
+    let made = DnssecDnsHandle::with_cache(upstream(alloc)?, anchors, verifier, holder)?;
     Ok(made)
 }
 
 // Looks the root's name servers up so many times: how many answers were served from the cache, by one send.
 fn look_up_all<T: Wait + Copy>(
     alloc: Global,
-    validator: &mut Sharing<T>,
+    validator: &mut Sharing<Weighing, T>,
     count: u32,
 ) -> Result<u64, NetError> {
     let mut served: u64 = 0;
@@ -96,7 +97,7 @@ fn looked_up<T: Wait + Copy>(
     cache: &DefaultSharedCache<Weighing, T>,
     count: u32,
 ) -> Result<u64, NetError> {
-    let mut sharing = validator(alloc, cache)?;
+    let mut sharing = validator(alloc, cache, Weighing::new(0))?;
     look_up_all(alloc, &mut sharing, count)
 }
 
