@@ -1,0 +1,5 @@
+-- What contracts of this crate name, from what is told of a lookup to a call of the program.
+pub mod Answers
+pub mod Files
+pub mod FixedTexts
+pub mod Calls

@@ -1,0 +1,16 @@
+//! The program for questions as a call: [`run_query`] asks a server what words ask for, and writes the answer with its marks.
+//!
+//! Files come in as texts, the network, the clock and the stopwatches as traits, and what is written goes to any sink; so the program's `main`
+//! is all that stands over the system.
+#![tactic(auto)]
+
+mod complaints;
+mod endings;
+mod files;
+mod fixed_texts;
+mod program;
+mod telling;
+mod told;
+
+pub use files::FileTexts;
+pub use program::run_query;
