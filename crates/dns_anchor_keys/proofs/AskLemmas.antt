@@ -1,9 +1,11 @@
 -- Zones that are asked one after another, as a loop asks them.
-use Rattle.std.proofs.Common.{◌≡◌, ◌∙◌, ℕ, List, [], ◌∷◌, ◌++◌, Result, Ok, Err, refl, sym, ap, subst, append_assoc, append-nil, length}
+use Rattle.std.proofs.Common.{◌≡◌, ◌∙◌, ℕ, List, [], ◌∷◌, ◌++◌, length, Result, Ok, Err, refl, sym, ap, subst}
+use Rattle.std.proofs.Common.{append_assoc, append-nil}
 use Rattle.dns_model.specs.Names.{Labels}
 use Rattle.dns_model.specs.Records.{Rr}
 use Rattle.dns_handle.specs.declared.handle.DnsHandle as handle
-use Rattle.dns_anchor_keys.specs.Asking.{AsksZones, FailsZone, FailsZones, Failed, Heard, HearsKeys, keys_before, keys_in}
+use Rattle.dns_anchor_keys.specs.Asking.{AsksZones, FailsZone, FailsZones, Failed, Heard, HearsKeys}
+use Rattle.dns_anchor_keys.specs.Asking.{keys_before, keys_in}
 use Rattle.dns_anchor_keys.specs.declared.fault.AnchorsFault.{AnchorsFault}
 use Rattle.dns_anchor_keys.specs.declared.fault.AnchorsFault.TheVariants as fault
 
@@ -55,6 +57,7 @@ module _ {H : Type 0} (meanings : handle.Ghosts H) (now : ℕ) where
       → FailsZone meanings now zone at new error → FailsZones meanings now zones first new error
   unfolding AsksZones
   continues_failed zones first had zone rest at new (fault.Unanswered asked error) so heard =
-      so new (Err (fault.Unanswered asked error)) (Failed error heard.1 (ap (λ z. Err (fault.Unanswered z error)) heard.0))
+      so new (Err (fault.Unanswered asked error))
+      (Failed error heard.1 (ap (λ z. Err (fault.Unanswered z error)) heard.0))
   continues_failed zones first had zone rest at new fault.NoKey so heard = absurd heard
   continues_failed zones first had zone rest at new fault.NoMemory so heard = tt

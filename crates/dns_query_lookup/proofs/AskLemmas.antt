@@ -8,9 +8,11 @@ use Rattle.dns_signatures.specs.Signatures.{ArithmeticValue, all_used, arithmeti
 use Rattle.dns_query_lookup.specs.Asks.{HasNoKeys}
 use Rattle.dns_query_lookup.specs.CallValues.{CallValue}
 
-pub untrusted_by : {H T : Type 0} (meanings : handle.Ghosts (NotingHandle H T)) (call seen : CallValue) (used : ArithmeticValue)
+pub untrusted_by : {H T : Type 0} (meanings : handle.Ghosts (NotingHandle H T)) (call seen : CallValue)
+    (used : ArithmeticValue)
     (old new : NotingHandle H T) (why : AnchorsFault) → seen ≡ call → used ≡ all_used
-    → Trusts meanings (arithmetic_answers used) seen.moment seen.lines old new (Err why) → HasNoKeys meanings call old why
+    → Trusts meanings (arithmetic_answers used) seen.moment seen.lines old new (Err why)
+    → HasNoKeys meanings call old why
 untrusted_by meanings call seen used old new why view all trusts = record {
   new = new;
   untrusted = subst (λ c. Trusts meanings (arithmetic_answers all_used) c.moment c.lines old new (Err why)) view

@@ -9,7 +9,9 @@ returns-in_err-ask_zone g c =
     rw (p.1, p.2)
     (continues_failed g.H.DnsHandle c.args.now c.args.zones.now c.args.handle.now c.zones.keys.items c.in-Some.zone.now
     c.in-Some.more.now c.zones.handle c.ask_zone.new.handle c.in_err-ask_zone.field-0.0
-    (subst (λ rest. Continues g.H.DnsHandle c.args.now c.args.zones.now c.args.handle.now c.zones.keys.items rest c.zones.handle)
+    (subst
+    (λ rest. Continues g.H.DnsHandle c.args.now c.args.zones.now c.args.handle.now c.zones.keys.items rest
+    c.zones.handle)
     c.in-Some.ensures.cases.0 c.zones.invariant)
     c.in_err-ask_zone.ensures)
 
@@ -17,12 +19,16 @@ pub zones-preserved : goal.zones-preserved
 zones-preserved g c =
     continues_more g.H.DnsHandle c.args.now c.args.zones.now c.args.handle.now c.zones.keys.items c.in-Some.zone.now
     c.in-Some.more.now c.zones.handle c.ask_zone.new.handle c.ask_zone.new.into.items
-    (subst (λ rest. Continues g.H.DnsHandle c.args.now c.args.zones.now c.args.handle.now c.zones.keys.items rest c.zones.handle)
+    (subst
+    (λ rest. Continues g.H.DnsHandle c.args.now c.args.zones.now c.args.handle.now c.zones.keys.items rest
+    c.zones.handle)
     c.in-Some.ensures.cases.0 c.zones.invariant)
     c.in_ok-ask_zone.ensures
 
 pub returns : goal.returns
 returns g c =
     continues_end g.H.DnsHandle c.args.now c.args.zones.now c.args.handle.now c.zones.keys.items c.zones.handle
-    (subst (λ rest. Continues g.H.DnsHandle c.args.now c.args.zones.now c.args.handle.now c.zones.keys.items rest c.zones.handle)
+    (subst
+    (λ rest. Continues g.H.DnsHandle c.args.now c.args.zones.now c.args.handle.now c.zones.keys.items rest
+    c.zones.handle)
     (none_left c.zones.rest.now c.in_default.ensures.cases) c.zones.invariant)

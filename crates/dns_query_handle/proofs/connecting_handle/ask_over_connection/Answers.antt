@@ -29,6 +29,7 @@ returns-in-Ok g c =
       dialed = g.D.Dialer.calls c.connect-made.new.dial;
       asked = c.in-Ok.ensures.dialed.1;
       told = subst
-          (λ l. IsToldWithThose (g.D.Dialer.calls c.connect-made.new.dial) (g.D.Link.Link.calls l) (g.D.Dialer.calls c.retire.new.self))
+          (λ l. IsToldWithThose (g.D.Dialer.calls c.connect-made.new.dial) (g.D.Link.Link.calls l)
+          (g.D.Dialer.calls c.retire.new.self))
           c.into_link.ensures c.retire.ensures.calls;
     })

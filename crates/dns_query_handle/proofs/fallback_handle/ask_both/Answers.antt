@@ -7,7 +7,8 @@ use Rattle.dns_query_handle.proofs.fallback_handle.ask_both.Goals as goal
 pub returns-then-is_truncated : goal.returns-then-is_truncated
 returns-then-is_truncated g c =
     Again (reply_of c.send-reply.result)
-    (subst (λ r. SendsRequest g.U.DnsHandle r c.args.now c.args.first.now (reply_of c.send-reply.result) c.send-reply.new.self)
+    (subst
+    (λ r. SendsRequest g.U.DnsHandle r c.args.now c.args.first.now (reply_of c.send-reply.result) c.send-reply.new.self)
     c.in_ok-copy.ensures (c.send-reply.ensures.sent, c.send-reply.ensures.requested))
     (sym c.is_truncated.ensures ∙ c.if-is_truncated.true)
     (c.send.ensures.sent, c.send.ensures.requested)

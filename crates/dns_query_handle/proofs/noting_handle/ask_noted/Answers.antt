@@ -13,4 +13,5 @@ pub returns : goal.returns
 returns g c =
     Noted _ c.timed_send-reply.ensures
     (c.in_ok-note.ensures.ok
-    ∙ ap (λ q. c.args.notes.now.items ++ note_of q (reply_of c.timed_send-reply.result.0) c.timed_send-reply.result.1) c.in_ok-query.ensures)
+    ∙ ap (λ q. c.args.notes.now.items ++ note_of q (reply_of c.timed_send-reply.result.0) c.timed_send-reply.result.1)
+    c.in_ok-query.ensures)

@@ -7,7 +7,8 @@ pub returns-in_err-trusted : goal.returns-in_err-trusted
 returns-in_err-trusted g c =
     let p = err_from_is_err_and c.from_residual.result c.from_residual.ensures.1 in
     rw (p.1, p.2)
-    (untrusted_by _ c.args.call.now _ c.new-verifier.result c.args.handle c.anchor_keys.new.handle c.in_err-trusted.field-0.0
+    (untrusted_by _ c.args.call.now _ c.new-verifier.result c.args.handle c.anchor_keys.new.handle
+    c.in_err-trusted.field-0.0
     c.call.view_is c.new-verifier.ensures c.in_err-trusted.ensures)
 
 pub returns : goal.returns

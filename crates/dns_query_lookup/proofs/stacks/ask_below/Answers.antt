@@ -13,7 +13,8 @@ returns g c = record {
         ∙ ap checked.is_disabled_by c.new-timed.ensures.handle ∙ c.new-checking.ensures.disabled
         ∙ ap (λ v. v.is_disabled) c.call.view_is;
     watch = ap timed.watch_of c.new-noting.ensures.handle ∙ c.new-timed.ensures.watch;
-    limit = ap timed.limit_of c.new-noting.ensures.handle ∙ c.new-timed.ensures.limit ∙ ap (λ v. v.limit) c.call.view_is;
+    limit = ap timed.limit_of c.new-noting.ensures.handle ∙ c.new-timed.ensures.limit
+        ∙ ap (λ v. v.limit) c.call.view_is;
     stopwatch = c.new-noting.ensures.watch;
     unnoted = c.new-noting.ensures.notes;
   };
