@@ -1,5 +1,6 @@
 -- How a run ends that asks a server, out of what the server was asked and answered.
-use Rattle.std.proofs.Common.{true, false, ◌≡◌, ◌<◌, ◌≤◌, ◌∙◌, ℕ, List, [], Option, None, Some, IfSome, IfOk, IsOk, MatchResult, Result, Ok, Err, length, refl, sym, ap, subst, arith}
+use Rattle.std.proofs.Common.{true, false, ◌≡◌, ◌<◌, ◌≤◌, ◌∙◌, ℕ, List, [], Option, None, Some, IfSome, IfOk, IsOk}
+use Rattle.std.proofs.Common.{MatchResult, Result, Ok, Err, length, refl, sym, ap, subst, arith}
 use Rattle.std.proofs.lemmas.Result.{IfOk-weaker}
 use Rattle.std.specs.Prelude.{unwrap_or}
 use Rattle.std.specs.Option.{option_map}
@@ -21,7 +22,9 @@ use Rattle.dns_io.specs.Writing.{TakesPrefix}
 use Rattle.dns_io.proofs.Leaving.{of_read, of_any, of_long, nothing_taken}
 use Rattle.dns_session.specs.SessionValue.{SessionValue}
 use Rattle.dns_session.specs.Grammar.{session_of}
-use Rattle.dns_run.specs.Asks.{ServerCall, AnswersOver, Reported, Failed, EndsAsk, ExplainedOver, TellsOver, AsksSession, IsInquiryOf, IsReplyText, IsSoundAt, ServerEnds, ServerTells, Ended, TooLong, Nothing, at_moment}
+use Rattle.dns_run.specs.Asks.{ServerCall, AnswersOver, Reported, Failed, EndsAsk, ExplainedOver, TellsOver}
+use Rattle.dns_run.specs.Asks.{AsksSession, IsInquiryOf, IsReplyText, IsSoundAt, ServerEnds, ServerTells, Ended}
+use Rattle.dns_run.specs.Asks.{TooLong, Nothing, at_moment}
 use Rattle.dns_run.specs.Explaining.{IsExplained, judge_by}
 use Rattle.dns_run.specs.ExplainingOver.{IsJudgingOf, IsToldText, JudgesSession}
 use Rattle.dns_run.specs.Outcomes.{Wrote, WrotePrefix}

@@ -18,7 +18,8 @@ use Rattle.dns_run.specs.Outcomes.{IsTrailReport, IsFault}
 use Rattle.dns_session_lookup.specs.Replies.{session_records}
 use Rattle.dns_run.specs.Runs.{IfSession}
 use Rattle.dns_session_lookup.specs.Soundness.{session_judge}
-use Rattle.dns_run.proofs.EndLemmas.{RunEnding, Reported, Failed, Refused, Later, Says, ending, session_same, no_line, no_records, own_class}
+use Rattle.dns_run.proofs.EndLemmas.{RunEnding, Reported, Failed, Refused, Later, Says, ending, session_same, no_line}
+use Rattle.dns_run.proofs.EndLemmas.{no_records, own_class}
 use Rattle.dns_session_lookup.proofs.ReplyLemmas.{session_replied}
 
 -- a trail for a valid session proves its query

@@ -1,5 +1,6 @@
 -- What a session must end with, out of how a run ended.
-use Rattle.std.proofs.Common.{ℕ, ◌≡◌, ◌≢◌, ◌≤◌, ◌∙◌, true, zero, suc, List, Option, None, Some, Result, Ok, Err, refl, sym, ap, subst, arith}
+use Rattle.std.proofs.Common.{ℕ, ◌≡◌, ◌≢◌, ◌≤◌, ◌∙◌, true, zero, suc, List, Option, None, Some, Result, Ok, Err, refl}
+use Rattle.std.proofs.Common.{sym, ap, subst, arith}
 use Rattle.std.specs.Io.KnownBytes.{Appends}
 use Rattle.dns_model.specs.SoundAnswers.{Told, ResponseValue}
 use Rattle.dns_model.specs.Trails.{Answered, Denied}
@@ -19,7 +20,8 @@ use Rattle.dns_session_lookup.specs.Replies.{session_told, session_message, sess
 use Rattle.dns_session_lookup.specs.Answering.{IsSessionAnswer}
 use Rattle.dns_session_lookup.specs.Causes.{HasNoMessage, HasForeign, FaultCause, NoMessage, OtherClass, NotDenied}
 use Rattle.dns_run.specs.Outcomes.{IsTrailReport, IsFault, Derives, Fails, Refuses, Wrote, Leaves}
-use Rattle.dns_run.specs.Runs.{EndsWith, Ended, Stopped, EndsAsAnswered, EndsAsSession, EndsByGrammar, IfSession, IfBadLine}
+use Rattle.dns_run.specs.Runs.{EndsWith, Ended, Stopped, EndsAsAnswered, EndsAsSession, EndsByGrammar, IfSession}
+use Rattle.dns_run.specs.Runs.{IfBadLine}
 use Rattle.dns_run.specs.Runs as runs
 use Rattle.dns_session_lookup.proofs.ReplyLemmas.{err_same}
 use Rattle.dns_run.proofs.TopLemmas.{some_same, trail_foreign}

@@ -1,5 +1,6 @@
 -- How a run ends by its words, out of what was done for them.
-use Rattle.std.proofs.Common.{ℕ, ◌≡◌, ◌≢◌, ◌∙◌, Bool, true, false, not, List, map, Option, None, Some, refl, sym, ap, subst}
+use Rattle.std.proofs.Common.{ℕ, ◌≡◌, ◌≢◌, ◌∙◌, Bool, true, false, not, List, map, Option, None, Some, refl, sym, ap}
+use Rattle.std.proofs.Common.{subst}
 use Rattle.std.specs.Prelude.{Vec}
 use Rattle.std.specs.Option.{option_map_or}
 use Rattle.dns_asking.specs.Servers.{Network}
@@ -17,7 +18,8 @@ use Rattle.dns_run.specs.Benches.{WritesBench}
 use Rattle.dns_run.specs.Asks.{server_call, EndsAsk}
 use Rattle.dns_run.specs.Completing.{IsValid, EndsSecurely}
 use Rattle.dns_run.specs.Ends.{EndsRun, EndsOver}
-use Rattle.dns_run.specs.Forms.{asked_form, asks_server, goes_further, form_verifies, help_text, other_form, shown_by, tells_fault, version_text}
+use Rattle.dns_run.specs.Forms.{asked_form, asks_server, goes_further, form_verifies, help_text, other_form, shown_by}
+use Rattle.dns_run.specs.Forms.{tells_fault, version_text}
 use Rattle.dns_run.specs.Outcomes.{Leaves, LeavesPrefix, Reports, Derives, Fails}
 use Rattle.dns_run.specs.Runs.{EndsAsSession, EndsByGrammar, EndsByWords, IfSession}
 use Rattle.dns_run.specs.Tasks.{EndsTask}

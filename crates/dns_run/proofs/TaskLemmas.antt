@@ -1,5 +1,6 @@
 -- What a run over an input leaves that does a task, out of what bytes come to.
-use Rattle.std.proofs.Common.{◌≡◌, ◌<◌, ◌≤◌, ◌⊎◌, ◌∙◌, Bool, false, ℕ, List, [], Option, None, Some, IfSome, Result, Ok, Err, length, refl, sym, ap, subst, arith, inl, inr}
+use Rattle.std.proofs.Common.{◌≡◌, ◌<◌, ◌≤◌, ◌⊎◌, ◌∙◌, Bool, false, ℕ, List, [], Option, None, Some, IfSome, Result}
+use Rattle.std.proofs.Common.{Ok, Err, length, refl, sym, ap, subst, arith, inl, inr}
 use Rattle.std.specs.Io.KnownBytes.{Appends}
 use Rattle.dns_model.specs.Chains.{Judge, judge}
 use Rattle.dns_model.specs.Records.{Question}
@@ -40,7 +41,9 @@ use Rattle.dns_session_lookup.specs.Soundness.{session_judge}
 use Rattle.dns_session_lookup.specs.Verifying.{listing}
 use Rattle.dns_session_lookup.specs.declared.verification.Verification.{Verification}
 use Rattle.dns_session_lookup.specs.declared.verification.Verification.TheVariants.{ByList}
-use Rattle.dns_run.specs.Tasks.{AuditEnds, QuestionsEnd, RollEnds, DenyEnds, AnswersDeny, Told, Faulted, EndsAsFault, MayFail, AnswersQuestions, Listed, Failed, question_judge, denied_trail, TaskEnds, TaskTells, Ended, TooLong, Nothing, EndsTask}
+use Rattle.dns_run.specs.Tasks.{AuditEnds, QuestionsEnd, RollEnds, DenyEnds, AnswersDeny, Told, Faulted, EndsAsFault}
+use Rattle.dns_run.specs.Tasks.{MayFail, AnswersQuestions, Listed, Failed, question_judge, denied_trail, TaskEnds}
+use Rattle.dns_run.specs.Tasks.{TaskTells, Ended, TooLong, Nothing, EndsTask}
 
 -- ---- what bytes come to, written
 
