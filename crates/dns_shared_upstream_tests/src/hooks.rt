@@ -108,9 +108,9 @@ impl<'a> CountedDraws<'a> {
 }
 
 impl<'a> Draws for CountedDraws<'a> {
-    ghost draws_id = { λ old id new. ListDraws.draws_id old.draws id new.draws };
+    ghost draws_id = { λ old id new. ⟦<ListDraws as Draws>⟧.draws_id old.draws id new.draws };
 
-    ghost draws_port = { λ old port new. ListDraws.draws_port old.draws port new.draws };
+    ghost draws_port = { λ old port new. ⟦<ListDraws as Draws>⟧.draws_port old.draws port new.draws };
 
     fn id(&mut self) -> u16 {
         self.drawn.fetch_add(1, Ordering::SeqCst);
