@@ -39,6 +39,19 @@ judging_in word =
 abbrev pub denials_form : Option Judging → Option ℕ → Option Form
 denials_form judging passes = option_and_then (λ j. reading_form (OnSession (Denials j)) passes) judging
 
+-- what is done as often as is said
+abbrev pub repeated_work : List ℕ → Option Work
+repeated_work word =
+    if bytes_eq word (codes "decode") then Some Decode
+    else if bytes_eq word (codes "lookup") then Some (OnSession LookUp)
+    else if bytes_eq word (codes "anew") then Some (OnSession LookUpAnew)
+    else if bytes_eq word (codes "respond") then Some (OnSession Respond)
+    else if bytes_eq word (codes "respond-anew") then Some (OnSession RespondAnew)
+    else None
+
+abbrev pub repeated_form : Option Work → Option ℕ → Option Form
+repeated_form work passes = option_and_then (λ w. reading_form w passes) work
+
 -- what words ask for: `verdicts`, `signatures`, `forwarded`, `responded`, `decode PASSES`, `lookup PASSES`, `anew PASSES`,
 -- `respond PASSES`, `respond-anew PASSES`, `denials JUDGING PASSES`, or `signed RECORDS PASSES` with at most 65535 records
 abbrev pub form_in : List (List ℕ) → Option Form
@@ -48,13 +61,7 @@ form_in (name ∷ []) =
     else if bytes_eq name (codes "forwarded") then Some (Reading Replies 1)
     else if bytes_eq name (codes "responded") then Some (Reading Responses 1)
     else None
-form_in (name ∷ passes ∷ []) =
-    if bytes_eq name (codes "decode") then reading_form Decode (passes_in passes)
-    else if bytes_eq name (codes "lookup") then reading_form (OnSession LookUp) (passes_in passes)
-    else if bytes_eq name (codes "anew") then reading_form (OnSession LookUpAnew) (passes_in passes)
-    else if bytes_eq name (codes "respond") then reading_form (OnSession Respond) (passes_in passes)
-    else if bytes_eq name (codes "respond-anew") then reading_form (OnSession RespondAnew) (passes_in passes)
-    else None
+form_in (name ∷ passes ∷ []) = repeated_form (repeated_work name) (passes_in passes)
 form_in (name ∷ what ∷ passes ∷ []) =
     if bytes_eq name (codes "signed") then signed_form (decimal_in 65535 what) (passes_in passes)
     else if bytes_eq name (codes "denials") then denials_form (judging_in what) (passes_in passes)

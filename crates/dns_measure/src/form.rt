@@ -1,7 +1,7 @@
 //! The words that the program takes.
 ghost use Rattle.std.specs.Prelude.{◌≡◌};
 ghost use Rattle.dns_text.specs.Words.{decimal_in};
-ghost use Rattle.dns_measure.specs.Forms.{asked_form, denials_form, judging_in as judging_of_word, passes_in as passes_of_word, reading_form, signed_form};
+ghost use Rattle.dns_measure.specs.Forms.{asked_form, denials_form, judging_in as judging_of_word, passes_in as passes_of_word, reading_form, repeated_form, repeated_work as work_of_word, signed_form};
 
 use crate::denials::Judging;
 use dns_text::{decimal_in, u16_in};
@@ -102,6 +102,36 @@ fn denials_form(judging: &[u8], passes: &[u8]) -> Option<Form>
     reading_form(Work::OnSession(SessionWork::Denials(judging)), passes)
 }
 
+// What is done as often as is said.
+fn repeated_work(word: &[u8]) -> Option<Work>
+    ensures { result ≡ work_of_word word.now }
+{
+    if word == b"decode".as_slice() {
+        return Some(Work::Decode);
+    }
+    if word == b"lookup".as_slice() {
+        return Some(Work::OnSession(SessionWork::LookUp));
+    }
+    if word == b"anew".as_slice() {
+        return Some(Work::OnSession(SessionWork::LookUpAnew));
+    }
+    if word == b"respond".as_slice() {
+        return Some(Work::OnSession(SessionWork::Respond));
+    }
+    if word == b"respond-anew".as_slice() {
+        return Some(Work::OnSession(SessionWork::RespondAnew));
+    }
+    None
+}
+
+// To work on an input as two words say.
+fn repeated_form(name: &[u8], passes: &[u8]) -> Option<Form>
+    ensures { result ≡ repeated_form (work_of_word name.now) (passes_of_word passes.now) }
+{
+    let work = repeated_work(name)?;
+    reading_form(work, passes)
+}
+
 /// What words ask for.
 pub(crate) fn form_of(words: &[Vec<u8>]) -> Option<Form>
     ensures { result ≡ asked_form words.now }
@@ -122,24 +152,7 @@ pub(crate) fn form_of(words: &[Vec<u8>]) -> Option<Form>
             }
             None
         }
-        [name, passes] => {
-            if name.as_slice() == b"decode".as_slice() {
-                return reading_form(Work::Decode, passes);
-            }
-            if name.as_slice() == b"lookup".as_slice() {
-                return reading_form(Work::OnSession(SessionWork::LookUp), passes);
-            }
-            if name.as_slice() == b"anew".as_slice() {
-                return reading_form(Work::OnSession(SessionWork::LookUpAnew), passes);
-            }
-            if name.as_slice() == b"respond".as_slice() {
-                return reading_form(Work::OnSession(SessionWork::Respond), passes);
-            }
-            if name.as_slice() == b"respond-anew".as_slice() {
-                return reading_form(Work::OnSession(SessionWork::RespondAnew), passes);
-            }
-            None
-        }
+        [name, passes] => repeated_form(name, passes),
         [name, what, passes] => {
             if name.as_slice() == b"signed".as_slice() {
                 return signed_form(what, passes);
