@@ -3,5 +3,6 @@ pub mod Calls
 pub mod Reading
 pub mod Pieces
 pub mod Writing
+pub mod Leaving
 pub mod Standard
 pub mod Runs

@@ -6,10 +6,12 @@
 //! [`TextSink`] hold their bytes in memory and fail where they are told to, [`SureSource`] and
 //! [`SureSink`] never do, and [`InputSource`] and [`OutputSink`] stand over std's readers and writers.
 //!
-//! A program takes its words by [`words_of`], and ends with one of the statuses of [`status`].
+//! A program takes its words by [`words_of`], and ends with one of the statuses of [`status`]. One that is given a dialer gives it back
+//! beside the status, as [`RunEnd`].
 #![tactic(auto)]
 
 mod calls;
+mod run_end;
 mod sink;
 mod source;
 mod standard;
@@ -18,6 +20,7 @@ mod text_sink;
 mod text_source;
 mod words;
 
+pub use run_end::RunEnd;
 pub use sink::{Sink, SinkFault, write_all};
 pub use source::{Failed, INPUT_LIMIT, ReadStop, Source, read_all};
 pub use standard::{InputSource, OutputSink};

@@ -17,6 +17,11 @@ ReadsAs view (Err stop) told = StopsAs stop told
 abbrev pub bad_line_text : ℕ → List ℕ
 bad_line_text number = codes "bad line " ++ decimal number ++ 10 ∷ []
 
+-- status 3, and the text names this line, the first that can't stand at its place
+pub record NamesLine (number status : ℕ) (text : List ℕ) : Type 0 where
+  pub refused : status ≡ 3
+  pub spelled : text ≡ bad_line_text number
+
 -- the status of a program that works on a session: 0 where bytes are one, and 3 where they are none
 abbrev pub session_status : {X : Type 0} → Result X ℕ → ℕ
 session_status (Ok session) = 0
