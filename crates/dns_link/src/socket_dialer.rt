@@ -60,10 +60,12 @@ impl<R: Net + Drop> SocketDialer<R> {
     }
 }
 
-/// A stream to a peer. Connecting, reads and writes wait for so many milliseconds at most; 0 counts as 1.
+/// A stream to a peer. Connecting, reads and writes wait for so many milliseconds at most; 0 counts as 1. What is written is sent at once
+/// (TCP_NODELAY): requests are small, and one must not wait until an earlier one is acknowledged.
 fn open_stream<R: Net>(net: &R, peer: &SocketAddr, timeout_ms: u64) -> io::Result<R::Stream> {
     let timeout = Duration::from_millis(timeout_ms.max(1));
     let stream = TcpStream::connect_timeout(net, peer, timeout)?;
+    stream.set_nodelay(true)?;
     stream.set_read_timeout(Some(timeout))?;
     stream.set_write_timeout(Some(timeout))?;
     Ok(stream)

@@ -111,7 +111,7 @@ fn open_datagrams<R: Net + Clock + Copy + Drop>(
     }
 }
 
-// The next client's stream, and its address. A read of it waits for so long at most.
+// The next client's stream, and its address. A read of it waits for so long at most, and replies are sent at once.
 fn next_stream<L: OpenListener>(listener: &L) -> io::Result<(L::Stream, SocketAddr)>
 where
     L::Stream: OpenStream,
@@ -119,6 +119,7 @@ where
     for _ in 0..u64::MAX {
         match listener.accept() {
             Ok((stream, client)) => {
+                stream.set_nodelay(true)?;
                 stream.set_read_timeout(Some(Duration::from_secs(SILENCE_SECONDS)))?;
                 stream.set_write_timeout(Some(Duration::from_secs(SILENCE_SECONDS)))?;
                 return Ok((stream, client));
