@@ -38,8 +38,9 @@ impl Clock for FixedClock {
     }
 }
 
-/// The system's clock. Where it fails or stands before 1970, the last moment is told again, at first 0.
-#[derive(Drop)]
+/// The system's clock. Where it fails or stands before 1970, the last moment is told again, at first 0. A copy begins at the same moment,
+/// and from then on each remembers its own.
+#[derive(Clone, Drop)]
 pub struct SystemClock<R: time::Clock + Drop> {
     clock: R,
     last: u64,
