@@ -1,6 +1,5 @@
 -- What a call of the program comes to: by its words, then by its files, then by what the network answers (RFC 4035, 4.3 and 5).
 use Rattle.std.specs.Prelude.{ℕ, ◌≡◌, ◌*◌, not, ◌||◌, is_some, unwrap_or, Bool, true, List, Option, Result, Ok, Err}
-use Rattle.std.specs.Io.KnownBytes.{Appends}
 use Rattle.std.specs.declared.net.socket_addr.SocketAddr.{SocketAddr}
 use Rattle.dns_handle.specs.Requests.{plain_options}
 use Rattle.dns_master_file.specs.Reading.{LineValue}
@@ -79,9 +78,3 @@ TellsWords meanings (Ok form.Help) anchors resolver outside seed status text = (
 TellsWords meanings (Ok form.Version) anchors resolver outside seed status text = (status ≡ 0) × (text ≡ version_text)
 TellsWords meanings (Err (words.Refused reason place)) anchors resolver outside seed status text = IsSilent 2 status text
 TellsWords meanings (Err words.NoMemory) anchors resolver outside seed status text = ⊥
-
--- a text of which a fact holds was written
-pub record Wrote (before now : Option (List ℕ)) (Fact : List ℕ → Type 0) : Type 0 where
-  pub text : List ℕ
-  pub fact : Fact text
-  pub written : Appends before now text

@@ -3,9 +3,10 @@ ghost use Rattle.std.specs.Prelude.{◌≡◌, ◌<◌, map};
 ghost use Rattle.std.specs.Io.KnownBytes.{Appends};
 ghost use Rattle.std.specs.Option.{option_copied};
 ghost use Rattle.dns_model.specs.Counts.{Rose};
+ghost use Rattle.dns_io.specs.Leaving.{Wrote};
 ghost use Rattle.dns_query_lookup.specs.Servers.{meanings_over};
 ghost use Rattle.dns_query_words.specs.Reading.{form_in};
-ghost use Rattle.dns_query_run.specs.Calls.{TellsWords, Wrote};
+ghost use Rattle.dns_query_run.specs.Calls.{TellsWords};
 
 use crate::endings::words_ending;
 use crate::files::FileTexts;
