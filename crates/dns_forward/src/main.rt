@@ -1,9 +1,9 @@
 //! `dns_forward`: a validating forwarder, which answers the requests of clients over one server, by a session on the standard input.
 #![tactic(auto)]
 
-use dns_forward_run::{RuntimeClock, run_forward_seeded};
+use dns_forward_run::run_forward_seeded;
 use dns_io::{InputSource, OutputSink, status, words_of};
-use dns_link::SocketDialer;
+use dns_link::{SocketDialer, SystemClock};
 use dns_listener::SocketListener;
 use std::process::ExitCode;
 use std::random::RandomSource;
@@ -41,7 +41,7 @@ fn main(rt: HostRuntime) -> ExitCode {
         &mut output,
         dial,
         &mut listen,
-        RuntimeClock::new(rt),
+        SystemClock::new(rt),
         seed,
     );
     ExitCode::from(end.status)

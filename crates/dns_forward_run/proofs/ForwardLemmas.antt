@@ -5,9 +5,9 @@ use Rattle.dns_model.specs.Counts.{Rose}
 use Rattle.dns_io.specs.Reading.{input_limit, too_long_text, IsEnded, ReadsFront}
 use Rattle.dns_io.specs.Runs.{AnInput, Asked, FixedText, KeepsOutside, KeepsSink, Outside}
 use Rattle.dns_io.specs.Writing.{bad_words_text, TakesPrefix, WritesText}
+use Rattle.dns_io.specs.Leaving.{Wrote, WrotePrefix}
 use Rattle.dns_io.proofs.Leaving.{of_read, of_any, of_long, nothing_taken}
 use Rattle.dns_io.proofs.Runs as runs
-use Rattle.dns_forward_run.specs.Outcomes.{Wrote, WrotePrefix}
 use Rattle.dns_session.specs.Grammar.{session_of}
 use Rattle.dns_forward_run.specs.Forwards.{EndsByWords, EndsForward, Ended, ForwardEnds, ForwardTells, IsStopped, IsUnserved, IsUntouched, Met, NetView, Nothing, StopsByWords, TooLong}
 use Rattle.dns_forward_run.specs.Forms.{form_asks, help_text, version_text}

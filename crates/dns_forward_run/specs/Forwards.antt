@@ -7,13 +7,14 @@ use Rattle.dns_asking.specs.declared.address.ServerAddress.{ServerAddress}
 use Rattle.dns_handle.specs.declared.io_kind.IoKind.{IoKind}
 use Rattle.dns_io.specs.Reading.{input_limit, too_long_text, OfInput}
 use Rattle.dns_io.specs.Writing.{bad_words_text, WritesText}
+use Rattle.dns_io.specs.Leaving.{Leaves, WrotePrefix}
 use Rattle.dns_link.specs.Calls.{NetCalls}
 use Rattle.dns_link.specs.Counts.{CountsValue, with_fault}
 use Rattle.dns_listener.specs.Listening.{ListenerCounts}
 use Rattle.dns_model.specs.Counts.{Rose}
-use Rattle.dns_forward_run.specs.Outcomes.{Leaves, NamesLine, WrotePrefix}
 use Rattle.dns_session.specs.SessionValue.{SessionValue}
 use Rattle.dns_session.specs.Grammar.{session_of}
+use Rattle.dns_session.specs.Stops.{NamesLine}
 use Rattle.dns_tcp.specs.Dialing.{IsAskedFor, dial_to}
 use Rattle.dns_forward_run.specs.Forms.{help_text, seats_of, version_text}
 use Rattle.dns_forward_run.specs.Lines.{lines_from, lines_status}

@@ -5,6 +5,5 @@ pub mod Retired
 pub mod Forwards
 pub mod Keeping
 pub mod Openings
-pub mod Outcomes
 pub mod Settings
 pub mod Steps

@@ -9,8 +9,8 @@ use Rattle.dns_ports.specs.declared.port.Port as port
 use Rattle.dns_io.specs.Writing.{TakesPrefix}
 use Rattle.dns_listener.specs.Listening.{ListenerCounts, PortCountsValue}
 use Rattle.dns_seats.specs.declared.seat.Served.{Served}
-use Rattle.dns_forward_run.specs.Outcomes.{NamesLine}
 use Rattle.dns_session.specs.SessionValue.{SessionValue}
+use Rattle.dns_session.specs.Stops.{NamesLine}
 use Rattle.dns_forward_run.specs.Forwards.{ForwardEnds, Forwards, IsUnserved, Met, NetView}
 use Rattle.dns_forward_run.specs.Lines.{line_of, lines_from, lines_status}
 use Rattle.dns_forward_run.specs.Retired.{AreBack, IsLineOf, IsRefused, met_by}

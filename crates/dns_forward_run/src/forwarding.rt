@@ -1,20 +1,19 @@
 //! A session that clients are served for, and bytes that may be one.
 ghost use Rattle.std.specs.Prelude.{◌≡◌, ◌≢◌, ◌≤◌, ◌<◌, ◌^◌, length, None};
 ghost use Rattle.dns_io.specs.Reading.{input_limit};
+ghost use Rattle.dns_io.specs.Leaving.{Wrote, WrotePrefix};
 ghost use Rattle.dns_session.specs.Grammar.{session_of};
 ghost use Rattle.dns_forward_run.specs.Forms.{AreFew};
 ghost use Rattle.dns_forward_run.specs.Forwards.{ForwardEnds, ForwardTells, IsUnserved, met_of, net_view};
 ghost use Rattle.dns_forward_run.specs.Steps.{ComesTo, IsLow, KeepsDialer, KeepsWriting, Refuses, ServesAs};
-ghost use Rattle.dns_forward_run.specs.Outcomes.{Wrote, WrotePrefix};
 
 use crate::connections::over_connections;
 use crate::datagrams::over_datagrams;
 use crate::ending::{Ending, ForwardEnding, write_ending};
 use crate::form::{Carried, Service};
-use crate::run_end::RunEnd;
 use crate::seating::Setting;
 use crate::trust::trust_of;
-use dns_io::{Sink, status};
+use dns_io::{RunEnd, Sink, status};
 use dns_link::{Clock, Dialer};
 use dns_listener::Listener;
 use dns_multiplexer::RandDraws;

@@ -5,7 +5,6 @@
 //! [`run_forward`] answers.
 #![tactic(auto)]
 
-mod clock;
 mod connection;
 mod connections;
 mod datagrams;
@@ -16,13 +15,10 @@ mod lines;
 mod opening;
 mod picked;
 mod program;
-mod run_end;
 mod seating;
 mod serving;
 mod stop;
 mod trust;
 
-pub use clock::RuntimeClock;
 pub use form::{Carried, Service};
 pub use program::{run_forward, run_forward_seeded};
-pub use run_end::RunEnd;

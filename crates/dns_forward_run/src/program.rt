@@ -7,9 +7,8 @@ ghost use Rattle.dns_forward_run.specs.Keeping.{KeepsForward};
 
 use crate::form::{Form, form_of, help_text, version_text};
 use crate::forwarding::{Forwarding, forward};
-use crate::run_end::RunEnd;
 use dns_io::status::{self, read_status, refuse_long, refuse_words, write_text};
-use dns_io::{ReadStop, Sink, Source, read_all};
+use dns_io::{ReadStop, RunEnd, Sink, Source, read_all};
 use dns_link::{Clock, Dialer};
 use dns_listener::Listener;
 use std::alloc::Global;

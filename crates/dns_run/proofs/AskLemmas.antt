@@ -19,6 +19,7 @@ use Rattle.dns_asking.specs.Servers.{AsksServer, ByDatagrams, OverConnection, Un
 use Rattle.dns_asking.specs.declared.inquiry.Inquiry.{Inquiry}
 use Rattle.dns_io.specs.Reading.{input_limit, too_long_text}
 use Rattle.dns_io.specs.Writing.{TakesPrefix}
+use Rattle.dns_io.specs.Leaving.{Wrote, WrotePrefix}
 use Rattle.dns_io.proofs.Leaving.{of_read, of_any, of_long, nothing_taken}
 use Rattle.dns_session.specs.SessionValue.{SessionValue}
 use Rattle.dns_session.specs.Grammar.{session_of}
@@ -27,7 +28,6 @@ use Rattle.dns_run.specs.Asks.{AsksSession, IsInquiryOf, IsReplyText, IsSoundAt,
 use Rattle.dns_run.specs.Asks.{TooLong, Nothing, at_moment}
 use Rattle.dns_run.specs.Explaining.{IsExplained, judge_by}
 use Rattle.dns_run.specs.ExplainingOver.{IsJudgingOf, IsToldText, JudgesSession}
-use Rattle.dns_run.specs.Outcomes.{Wrote, WrotePrefix}
 use Rattle.dns_run.specs.declared.judging.Judging.{Judging}
 use Rattle.dns_run.proofs.ExplainLemmas.{at_own_moment, judging_session}
 use Rattle.dns_session_lookup.specs.Soundness.{session_judge}

@@ -7,6 +7,7 @@ use Rattle.dns_model.specs.Trails.{Answered, Denied}
 use Rattle.dns_rules.specs.DerivationParts.{is_foreign}
 use Rattle.dns_rules.specs.Outcome.{foreign_record}
 use Rattle.dns_handle.specs.Errors.{ErrorValue, ForeignClassRecord}
+use Rattle.dns_io.specs.Leaving.{Wrote, Leaves}
 use Rattle.dns_lookup.specs.LookupParts.{told_of}
 use Rattle.dns_lookup.specs.Causes.{has_response}
 use Rattle.dns_report.specs.declared.parts.Parts.{Parts}
@@ -19,7 +20,7 @@ use Rattle.dns_session_lookup.specs.Soundness.{IsSound}
 use Rattle.dns_session_lookup.specs.Replies.{session_told, session_message, session_records}
 use Rattle.dns_session_lookup.specs.Answering.{IsSessionAnswer}
 use Rattle.dns_session_lookup.specs.Causes.{HasNoMessage, HasForeign, FaultCause, NoMessage, OtherClass, NotDenied}
-use Rattle.dns_run.specs.Outcomes.{IsTrailReport, IsFault, Derives, Fails, Refuses, Wrote, Leaves}
+use Rattle.dns_run.specs.Outcomes.{IsTrailReport, IsFault, Derives, Fails, Refuses}
 use Rattle.dns_run.specs.Runs.{EndsWith, Ended, Stopped, EndsAsAnswered, EndsAsSession, EndsByGrammar, IfSession}
 use Rattle.dns_run.specs.Runs.{IfBadLine}
 use Rattle.dns_run.specs.Runs as runs

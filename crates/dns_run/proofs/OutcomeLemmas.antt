@@ -2,10 +2,11 @@
 use Rattle.std.proofs.Common.{◌<◌, ℕ, List, [], Option, None, Some, IfSome, length, refl}
 use Rattle.dns_io.specs.Reading.{input_limit, too_long_text}
 use Rattle.dns_io.specs.Writing.{TakesPrefix}
+use Rattle.dns_io.specs.Leaving.{Wrote, Leaves, WrotePrefix}
 use Rattle.dns_io.proofs.Leaving.{of_any, of_long, nothing_taken}
 use Rattle.dns_report.specs.declared.parts.Parts.{Parts}
 use Rattle.dns_session_lookup.specs.declared.verification.Verification.{Verification}
-use Rattle.dns_run.specs.Outcomes.{Wrote, Leaves, WrotePrefix, LeavesPrefix, ComesTo, Reports, Derives, Fails}
+use Rattle.dns_run.specs.Outcomes.{LeavesPrefix, ComesTo, Reports, Derives, Fails}
 use Rattle.dns_run.specs.Outcomes.{Refuses, Reported, Failed, Refused, TooLong, Nothing}
 
 -- a report of an answer that has a trail is a report

@@ -14,13 +14,14 @@ use Rattle.dns_run.specs.declared.form.Form.{Form}
 use Rattle.dns_run.specs.declared.form.Form.TheVariants.{Validate, Task, Bench, Ask, Help, Version}
 use Rattle.dns_run.specs.declared.task.Task.{Task as TaskKind}
 use Rattle.dns_io.specs.Writing.{bad_words_text, WritesText}
+use Rattle.dns_io.specs.Leaving.{Leaves}
 use Rattle.dns_run.specs.Benches.{WritesBench}
 use Rattle.dns_run.specs.Asks.{server_call, EndsAsk}
 use Rattle.dns_run.specs.Completing.{IsValid, EndsSecurely}
 use Rattle.dns_run.specs.Ends.{EndsRun, EndsOver}
 use Rattle.dns_run.specs.Forms.{asked_form, asks_server, goes_further, form_verifies, help_text, other_form, shown_by}
 use Rattle.dns_run.specs.Forms.{tells_fault, version_text}
-use Rattle.dns_run.specs.Outcomes.{Leaves, LeavesPrefix, Reports, Derives, Fails}
+use Rattle.dns_run.specs.Outcomes.{LeavesPrefix, Reports, Derives, Fails}
 use Rattle.dns_run.specs.Runs.{EndsAsSession, EndsByGrammar, EndsByWords, IfSession}
 use Rattle.dns_run.specs.Tasks.{EndsTask}
 use Rattle.dns_run.proofs.CompletingLemmas.{ends_securely}

@@ -20,6 +20,7 @@ use Rattle.dns_audit.specs.ReportValue.{ReportValue}
 use Rattle.dns_audit.specs.ReportGrammar.{audit_of}
 use Rattle.dns_io.specs.Reading.{input_limit, too_long_text, OfInput}
 use Rattle.dns_io.specs.Writing.{TakesPrefix}
+use Rattle.dns_io.specs.Leaving.{Leaves, Wrote, WrotePrefix}
 use Rattle.dns_io.proofs.Leaving.{of_read, of_any, of_long, nothing_taken}
 use Rattle.dns_deny.specs.DenyGrammar.{DenyValue, deny_of}
 use Rattle.dns_deny.specs.DenialLines.{denials_text}
@@ -35,7 +36,7 @@ use Rattle.dns_run.specs.declared.task.Task.TheVariants.{Audit, Questions, Roll,
 use Rattle.dns_session_lookup.specs.Causes.{AnswersSession}
 use Rattle.dns_run.specs.Explaining.{ExplainEnds, IsExplained}
 use Rattle.dns_run.specs.Forms.{goes_further}
-use Rattle.dns_run.specs.Outcomes.{Fails, Leaves, Wrote, WrotePrefix}
+use Rattle.dns_run.specs.Outcomes.{Fails}
 use Rattle.dns_session_lookup.specs.Answering.{session_limits}
 use Rattle.dns_session_lookup.specs.Soundness.{session_judge}
 use Rattle.dns_session_lookup.specs.Verifying.{listing}

@@ -20,16 +20,16 @@ use Rattle.dns_report.specs.Report.{report_text, view_text}
 use Rattle.dns_report.specs.Faults.{fault_text}
 use Rattle.dns_session.specs.SessionValue.{SessionValue}
 use Rattle.dns_session.specs.Grammar.{session_of}
+use Rattle.dns_session.specs.Stops.{NamesLine}
 use Rattle.dns_io.specs.Reading.{input_limit, too_long_text, OfInput}
+use Rattle.dns_io.specs.Leaving.{Leaves, WrotePrefix}
 use Rattle.dns_session_lookup.specs.Answering.{session_depth, session_limits}
 use Rattle.dns_run.specs.Explaining.{IsExplained}
-use Rattle.dns_run.specs.Outcomes.{Leaves, WrotePrefix}
 use Rattle.dns_session_lookup.specs.Soundness.{session_judge}
 use Rattle.dns_session_lookup.specs.Verifying.{session_answers, verifier_answers}
 use Rattle.dns_session_lookup.specs.contracts.verification.SessionVerifierVerifier.TheImpl as tests
 use Rattle.dns_session_lookup.specs.declared.verification.Verification.{Verification}
 use Rattle.dns_session_lookup.specs.declared.verification.SessionVerifier.{SessionVerifier}
-use Rattle.dns_run.specs.BadLines.{NamesLine}
 
 -- ---- how a server is asked
 

@@ -1,8 +1,8 @@
 -- The line of one lookup below nested zones, and how a run ends that writes it.
 use Rattle.std.specs.Prelude.{ℕ, ◌≡◌, ◌≢◌, ◌⊎◌, Bool, List, [], ◌++◌, codes, decimal, Option, if◌then◌else◌}
+use Rattle.dns_io.specs.Leaving.{Wrote, WrotePrefix}
 use Rattle.dns_bench_zones.specs.declared.bench.BenchCount.{BenchCount}
 use Rattle.dns_bench_zones.specs.Benches.{IsOwnCount}
-use Rattle.dns_run.specs.Outcomes.{Wrote, WrotePrefix}
 
 -- whether the address of the host is there and all of it Secure
 abbrev pub secure_word : Bool → List ℕ

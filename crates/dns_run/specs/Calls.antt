@@ -1,5 +1,6 @@
 -- For private functions of this crate only: how a server is asked, out of what was given for it, and what such a function promises.
 use Rattle.std.specs.Prelude.{ℕ, ◌<◌, List, Option, IfOk}
+use Rattle.dns_io.specs.Leaving.{Wrote, WrotePrefix}
 use Rattle.dns_asking.specs.Servers.{Network}
 use Rattle.dns_asking.specs.declared.inquiry.Inquiry.{Inquiry}
 use Rattle.dns_multiplexer.specs.declared.draws.RandDraws.{RandDraws}
@@ -8,7 +9,6 @@ use Rattle.dns_session.specs.Grammar.{session_of}
 use Rattle.dns_session_lookup.specs.declared.verification.SessionVerifier.{SessionVerifier}
 use Rattle.dns_run.specs.Asks.{EndsAsk, IsInquiryOf, ServerCall, ServerEnds, ServerTells, TellsOver, server_call}
 use Rattle.dns_run.specs.ExplainingOver.{IsJudgingOf}
-use Rattle.dns_run.specs.Outcomes.{Wrote, WrotePrefix}
 use Rattle.dns_run.specs.declared.judging.Judging.{Judging}
 use Rattle.dns_run.specs.declared.server.AskedEnd.{AskedEnd}
 use Rattle.dns_run.specs.declared.server.ServerAsk.{ServerAsk}

@@ -1,12 +1,13 @@
 -- What a run over a valid session ends with (RFC 4035, 4.3 and 5).
 use Rattle.std.specs.Prelude.{ℕ, ◌≡◌, ◌≤◌, List, Option, Ok}
+use Rattle.dns_io.specs.Leaving.{Wrote}
 use Rattle.dns_laws.specs.Valid.{IsValidSession}
 use Rattle.dns_lookup.specs.Completing.{first_told, AnswersSecurely}
 use Rattle.dns_report.specs.declared.parts.Parts.{Parts}
 use Rattle.dns_session_lookup.specs.declared.verification.Verification.{Verification}
 use Rattle.dns_session.specs.SessionValue.{SessionValue}
 use Rattle.dns_session_lookup.specs.Answering.{session_replies, session_depth}
-use Rattle.dns_run.specs.Outcomes.{IsTrailReport, Wrote}
+use Rattle.dns_run.specs.Outcomes.{IsTrailReport}
 use Rattle.dns_session_lookup.specs.Soundness.{session_judge}
 
 -- the session is valid for its query, by its keys, algorithms and accepted signatures at its moment, within its depth

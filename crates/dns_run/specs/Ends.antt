@@ -1,15 +1,16 @@
 -- What a run promises: how it ends by its words, its input and its output, and what it asks of a server (RFC 4035, 4.3 and 5). `told` is
 -- what the source tells of the input, `before` and `now` what the sink told that it took.
 use Rattle.std.specs.Prelude.{ℕ, ◌≡◌, List, Vec, Option, None, Some, IfSome}
+use Rattle.dns_io.specs.Leaving.{Leaves}
+use Rattle.dns_io.specs.declared.run_end.RunEnd.{RunEnd}
 use Rattle.dns_asking.specs.Servers.{Network}
 use Rattle.dns_multiplexer.specs.declared.draws.RandDraws.{RandDraws}
 use Rattle.dns_run.specs.Asks.{server_call, EndsAsk}
 use Rattle.dns_run.specs.Completing.{IsValid, EndsSecurely}
 use Rattle.dns_run.specs.Forms.{asked_form, words_verify, IfAsks, IfAsksNone, IfTask, IfTellsFault, IfValidates}
-use Rattle.dns_run.specs.Outcomes.{Leaves, LeavesPrefix, Reports, Derives, Fails}
+use Rattle.dns_run.specs.Outcomes.{LeavesPrefix, Reports, Derives, Fails}
 use Rattle.dns_run.specs.Runs.{EndsAsSession, EndsByGrammar, EndsByWords, IfSession}
 use Rattle.dns_run.specs.Tasks.{EndsTask}
-use Rattle.dns_run.specs.declared.program.RunEnd.{RunEnd}
 
 -- how a run ends, whatever it asks of a server
 pub record EndsRun {Z : Type 0} (asked : List (Vec ℕ Z)) (status : ℕ) (told before now : Option (List ℕ)) : Type 0 where

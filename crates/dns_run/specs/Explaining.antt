@@ -13,12 +13,12 @@ use Rattle.dns_report.specs.declared.parts.Parts.TheVariants.{WithTrail}
 use Rattle.dns_report.specs.Report.{report_text}
 use Rattle.dns_report.specs.Faults.{fault_text}
 use Rattle.dns_session.specs.SessionValue.{SessionValue}
+use Rattle.dns_session.specs.Stops.{NamesLine}
 use Rattle.dns_session_lookup.specs.Answering.{session_limits}
 use Rattle.dns_session_lookup.specs.Causes.{AnswersSession}
 use Rattle.dns_session_lookup.specs.Soundness.{session_judge}
 use Rattle.dns_session_lookup.specs.Verifying.{verifier_answers}
 use Rattle.dns_session_lookup.specs.declared.verification.Verification.{Verification}
-use Rattle.dns_run.specs.BadLines.{NamesLine}
 use Rattle.dns_run.specs.declared.judging.Judging.{Judging}
 
 -- ---- what is written

@@ -9,6 +9,5 @@ pub mod Tasks
 pub mod Benches
 pub mod Asks
 pub mod Calls
-pub mod BadLines
 pub mod Explaining
 pub mod ExplainingOver

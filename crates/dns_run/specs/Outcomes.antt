@@ -1,6 +1,5 @@
 -- What an input comes to, and what a run leaves.
 use Rattle.std.specs.Prelude.{ℕ, ◌≡◌, ◌≢◌, ◌<◌, IsTrue, List, [], length, Option, Ok, Err}
-use Rattle.std.specs.Io.KnownBytes.{Appends}
 use Rattle.dns_model.specs.SoundAnswers.{ResponseValue}
 use Rattle.dns_handle.specs.Errors as seen
 use Rattle.dns_handle.specs.Errors.{ErrorValue}
@@ -15,7 +14,7 @@ use Rattle.dns_session.specs.SessionValue.{SessionValue}
 use Rattle.dns_session.specs.Grammar.{session_of}
 use Rattle.dns_session.specs.Stops.{bad_line_text}
 use Rattle.dns_io.specs.Reading.{input_limit, too_long_text, OfInput}
-use Rattle.dns_io.specs.Writing.{TakesPrefix}
+use Rattle.dns_io.specs.Leaving.{WrotePrefix}
 use Rattle.dns_session_lookup.specs.Answering.{IsSessionAnswer}
 use Rattle.dns_session_lookup.specs.Soundness.{IsSound}
 use Rattle.dns_session_lookup.specs.Causes.{FaultCause}
@@ -66,16 +65,6 @@ pub record Refuses (bytes text : List ℕ) : Type 0 where
   pub read : session_of bytes ≡ Err number
   pub spelled : text ≡ bad_line_text number
 
--- a text of which a fact holds was written
-pub record Wrote (before now : Option (List ℕ)) (Fact : List ℕ → Type 0) : Type 0 where
-  pub text : List ℕ
-  pub fact : Fact text
-  pub written : Appends before now text
-
--- a text was written that stands so to the told bytes; where none are told, to some bytes
-abbrev pub Leaves : (List ℕ → List ℕ → Type 0) → Option (List ℕ) → Option (List ℕ) → Option (List ℕ) → Type 0
-Leaves Fact told before now = OfInput told (λ bytes. Wrote before now (Fact bytes))
-
 -- what a run over bytes may write: nothing, where memory runs out before a text is there
 pub data ComesTo (how : Verification) (shows : Parts) (bytes text : List ℕ) : Type 0 where
   Reported : Derives how shows bytes text → ComesTo how shows bytes text
@@ -83,12 +72,6 @@ pub data ComesTo (how : Verification) (shows : Parts) (bytes text : List ℕ) : 
   Refused : Refuses bytes text → ComesTo how shows bytes text
   TooLong : input_limit < length bytes → text ≡ too_long_text → ComesTo how shows bytes text
   Nothing : text ≡ [] → ComesTo how shows bytes text
-
--- a prefix of a text of which a fact holds was written
-pub record WrotePrefix (before now : Option (List ℕ)) (Fact : List ℕ → Type 0) : Type 0 where
-  pub text : List ℕ
-  pub fact : Fact text
-  pub written : TakesPrefix before now text
 
 -- a prefix of a text that the told bytes come to was written; where none are told, of one that some bytes come to
 abbrev pub LeavesPrefix : Verification → Parts → Option (List ℕ) → Option (List ℕ) → Option (List ℕ) → Type 0

@@ -10,12 +10,13 @@ use Rattle.dns_session.specs.SessionValue.{SessionValue}
 use Rattle.dns_session.specs.Grammar.{session_of}
 use Rattle.dns_session.specs.Stops.{bad_line_text}
 use Rattle.dns_io.specs.Writing.{bad_words_text, WritesText}
+use Rattle.dns_io.specs.Leaving.{Leaves}
 use Rattle.dns_run.specs.declared.form.Form.{Form}
 use Rattle.dns_run.specs.declared.form.Form.TheVariants.{Validate, Task, Bench, Ask, Help, Version}
 use Rattle.dns_run.specs.Forms.{help_text, version_text}
 use Rattle.dns_session_lookup.specs.Replies.{session_records}
 use Rattle.dns_session_lookup.specs.Causes.{HasNoMessage, HasForeign}
-use Rattle.dns_run.specs.Outcomes.{Leaves, Refuses}
+use Rattle.dns_run.specs.Outcomes.{Refuses}
 use Rattle.dns_run.specs.Benches.{WritesBench}
 
 -- ---- by its words

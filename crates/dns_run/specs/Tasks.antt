@@ -12,6 +12,7 @@ use Rattle.dns_handle.specs.declared.error.NetError.{NetError}
 use Rattle.dns_handle.specs.declared.error.NetError.TheVariants.{NoMemory}
 use Rattle.dns_session.specs.SessionValue.{SessionValue}
 use Rattle.dns_session.specs.Grammar.{session_of}
+use Rattle.dns_session.specs.Stops.{NamesLine}
 use Rattle.dns_audit.specs.ReportValue.{ReportValue}
 use Rattle.dns_audit.specs.ReportGrammar.{audit_of}
 use Rattle.dns_audit.specs.AuditText.{audit_text}
@@ -23,14 +24,14 @@ use Rattle.dns_roll.specs.TrustedText.{rolled_text}
 use Rattle.dns_deny.specs.DenyGrammar.{DenyValue, deny_of}
 use Rattle.dns_deny.specs.DenialLines.{denials_text}
 use Rattle.dns_io.specs.Reading.{input_limit, too_long_text, OfInput}
+use Rattle.dns_io.specs.Leaving.{Leaves, WrotePrefix}
 use Rattle.dns_run.specs.declared.task.Task.{Task}
 use Rattle.dns_run.specs.declared.task.Task.TheVariants.{Audit, Questions, Roll, Deny, Explain}
 use Rattle.dns_lookup.specs.LookupAnswers.{ShowsItsDenial}
 use Rattle.dns_session_lookup.specs.Answering.{session_limits, IsSessionAnswer, IsSessionTrail}
 use Rattle.dns_session_lookup.specs.Causes.{AnswersSession}
-use Rattle.dns_run.specs.BadLines.{NamesLine}
 use Rattle.dns_run.specs.Explaining.{ExplainEnds}
-use Rattle.dns_run.specs.Outcomes.{IsFault, Leaves, WrotePrefix}
+use Rattle.dns_run.specs.Outcomes.{IsFault}
 use Rattle.dns_session_lookup.specs.Soundness.{session_judge}
 use Rattle.dns_session_lookup.specs.Verifying.{listing}
 use Rattle.dns_session_lookup.specs.declared.verification.Verification.TheVariants.{ByList}

@@ -24,8 +24,8 @@ mod task;
 pub use dns_evidence::Listed;
 pub use dns_handle::{DnsRequestOptions, DnsResponse, NetError};
 pub use dns_io::{
-    Failed, InputSource, OutputSink, Sink, SinkFault, Source, SureSink, SureSource, TextSink,
-    TextSource, words_of,
+    Failed, InputSource, OutputSink, RunEnd, Sink, SinkFault, Source, SureSink, SureSource,
+    TextSink, TextSource, words_of,
 };
 pub use dns_link::{Clock, Dialer, FixedClock, ListDialer, SocketDialer, SystemClock};
 pub use dns_lookup::DnssecDnsHandle;
@@ -40,4 +40,4 @@ pub use dns_session_lookup::{
     session_lookup, session_options, session_upstream, session_verifier,
 };
 pub use dns_trust::TrustAnchors;
-pub use program::{RunEnd, run, run_seeded};
+pub use program::{run, run_seeded};

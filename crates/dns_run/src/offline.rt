@@ -2,9 +2,10 @@
 ghost use Rattle.std.specs.Prelude.{◌≡◌, ◌≢◌, ◌≤◌, false, length};
 ghost use Rattle.dns_io.specs.Reading.{input_limit};
 ghost use Rattle.dns_io.specs.Runs.{outside, AnInput, KeepsOutside, KeepsSink};
+ghost use Rattle.dns_io.specs.Leaving.{Leaves, Wrote, WrotePrefix};
 ghost use Rattle.dns_run.specs.Ends.{EndsRun};
 ghost use Rattle.dns_run.specs.Forms.{asked_form, asks_server, words_ask};
-ghost use Rattle.dns_run.specs.Outcomes.{Leaves, LeavesPrefix, Wrote, WrotePrefix, ComesTo, Derives, Fails, Refuses};
+ghost use Rattle.dns_run.specs.Outcomes.{LeavesPrefix, ComesTo, Derives, Fails, Refuses};
 
 use crate::bench::write_bench;
 use crate::form::{Form, form_of, help_text, version_text};

@@ -9,21 +9,12 @@ use crate::form::{Form, form_of};
 use crate::offline::run_offline;
 use crate::server::{AskedEnd, ServerAsk, ask};
 use dns_handle::DnsHandle;
-use dns_io::{Sink, Source};
+use dns_io::{RunEnd, Sink, Source};
 use dns_link::{Clock, Dialer, Link};
 use dns_multiplexer::RandDraws;
 use dns_tcp::TcpExchange;
 use dns_udp::UdpExchange;
 use std::alloc::Global;
-
-/// How a run ended.
-#[derive(Drop)]
-pub struct RunEnd<D: Drop> {
-    /// The status.
-    pub status: u8,
-    /// The dialer that was given, which has each link and socket back; None only beside status 6.
-    pub dial: Option<D>,
-}
 
 /// Runs the program with its words, those after its name, and answers its status.
 ///

@@ -2,8 +2,9 @@
 ghost use Rattle.std.specs.Prelude.{◌≡◌, ◌≢◌, ◌<◌, ◌^◌, ◌≤◌, false, length, IfOk};
 ghost use Rattle.dns_io.specs.Reading.{input_limit};
 ghost use Rattle.dns_io.specs.Runs.{outside, AnInput, KeepsOutside, KeepsSink};
+ghost use Rattle.dns_io.specs.Leaving.{Leaves, Wrote, WrotePrefix};
 ghost use Rattle.dns_run.specs.Forms.{goes_further};
-ghost use Rattle.dns_run.specs.Outcomes.{Leaves, Wrote, WrotePrefix, Fails};
+ghost use Rattle.dns_run.specs.Outcomes.{Fails};
 ghost use Rattle.dns_run.specs.Tasks.{TaskEnds, TaskTells, EndsTask};
 ghost use Rattle.dns_session_lookup.specs.declared.verification.Verification.TheVariants.{ByList};
 
