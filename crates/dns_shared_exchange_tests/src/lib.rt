@@ -18,3 +18,5 @@ mod script;
 mod script_tests;
 #[cfg(test)]
 mod thread_tests;
+#[cfg(test)]
+mod told;

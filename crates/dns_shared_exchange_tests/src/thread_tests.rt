@@ -2,6 +2,7 @@
 use crate::caller::{Caller, TRIES, draws_of};
 use crate::heard::Heard;
 use crate::parts::{asking, check, query, response_bytes, type_asked};
+use crate::told::Told;
 use dns_multiplexer::{Draws, ListDraws, RandDraws, SerialMessage, Taken};
 use std::alloc::Global;
 use std::process::Abort;
@@ -21,7 +22,7 @@ fn ask_first<W: Abort + Wait>(
     rt: &W,
     alloc: Global,
     mut caller: Caller<ListDraws>,
-    told: &AtomicU64,
+    told: &Told,
 ) -> bool {
     if caller.send(rt, alloc, &query(alloc), 0) != Heard::Of(0) {
         return false;
@@ -29,14 +30,14 @@ fn ask_first<W: Abort + Wait>(
     let Some(id) = caller.pop(rt) else {
         return false;
     };
-    told.store(u64::from(id).saturating_add(1), Ordering::SeqCst);
+    told.store(u64::from(id).saturating_add(1));
     matches!(caller.wait(rt, alloc, 0), Taken::Item(Ok(response)) if response.message.id == id)
 }
 
 // The id that a word tells, once it does.
-fn heard_id(told: &AtomicU64) -> Option<u16> {
+fn heard_id(told: &Told) -> Option<u16> {
     for _ in 0..TRIES {
-        let found = told.load(Ordering::SeqCst);
+        let found = told.load();
         if found != 0 {
             return u16::try_from(found.saturating_sub(1)).ok();
         }
@@ -50,7 +51,7 @@ fn respond_later<W: Abort + Wait>(
     rt: &W,
     alloc: Global,
     mut caller: Caller<ListDraws>,
-    told: &AtomicU64,
+    told: &Told,
 ) -> bool {
     let Some(id) = heard_id(told) else {
         return false;
@@ -62,7 +63,7 @@ fn respond_later<W: Abort + Wait>(
 fn both_go_on<R: Threads + Wait + Abort + Sync>(rt: &R, alloc: Global) -> bool {
     let draws = draws_of(rt, alloc, &[7, 8]);
     let (one, other) = Caller::first(rt, alloc, 32, 32, draws).beside(rt);
-    let told = AtomicU64::new(0);
+    let told = Told::new(rt, alloc);
     let (first, second) = thread::join(
         rt,
         || ask_first(rt, alloc, one, &told),
