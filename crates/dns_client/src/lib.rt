@@ -5,8 +5,8 @@
 //! A call's clause says that it is one send of exactly the message that `dns_update` builds, with all that the handle promises of a
 //! send; or no send, where memory runs out before it. The words of the clauses stand in `specs/Sends.antt`.
 //!
-//! What comes for a request that was sent by a multiplexer is read as a `ClientResponse` or a `ClientStreamingResponse`; a list of it
-//! that is whole, by an `RcStream` for each reader.
+//! What comes for a request that was sent by a multiplexer is read as a `ClientResponse` or a `ClientStreamingResponse`; over an exchange
+//! that threads share, as an `ExchangeStream`; a list of it that is whole, by an `RcStream` for each reader.
 //!
 //! ```
 //! fn add_address<S: DnsHandle + Drop>(
@@ -33,6 +33,7 @@ mod sending;
 
 pub use client::Client;
 pub use client_handle::ClientHandle;
+pub use dns_polled_exchange::ExchangeStream;
 pub use memoize_client_handle::MemoizeClientHandle;
 pub use rc_stream::RcStream;
 pub use responses::{ClientResponse, ClientStreamingResponse};

@@ -14,6 +14,8 @@ pub use dns_multiplexer::{
     calls_are_events, encoded_request, replies_are_what_histories_say,
     states_are_what_histories_say,
 };
+pub use dns_polled_exchange::{DnsExchangeBackground, DnsExchangeSend, ExchangeStream};
+pub use dns_shared_exchange::{CallerToken, DnsExchange, ExchangeError};
 pub use first_answer::{FirstAnswer, FirstAnswerFuture};
 pub use request_queue::{BufDnsRequestStreamHandle, OneshotDnsRequest};
 pub use response_receiver::DnsResponseReceiver;
