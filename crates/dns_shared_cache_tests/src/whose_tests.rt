@@ -1,12 +1,17 @@
 //! Whose acceptance a shelf says that an entry's chain has, and how often it asks its verifier.
-use crate::given::{Lists, Offer, entry_of, key_of_servers, verifier_of};
+use crate::given::{
+    Lists, Lookup, Offer, anchors_of, entry_of, is_looked_up, key_of_servers, validator_over,
+    verifier_of,
+};
 use crate::rows::check_held;
-use dns_cache::{Acceptance, Entry};
+use dns_cache::{Acceptance, DefaultHasher, Entry};
 use dns_evidence::Verifier;
-use dns_shared_cache::Shelf;
+use dns_model::{MarkOrigin, Proof};
+use dns_shared_cache::{SharedCache, Shelf};
 use std::alloc::Global;
 use std::cell::Cell;
 use std::process::Abort;
+use std::sync::Wait;
 
 /// What is shown, what the shelf's verifier lists, what it keeps, what the asker's verifier lists, and whose acceptance it is.
 struct Row(&'static str, Lists, Offer, Lists, Acceptance);
@@ -130,4 +135,44 @@ fn a_verifier_is_asked_once_by_an_insert(rt: HostRuntime) {
     for row in asks() {
         check_held(&rt, row.0, is_asked(&rt, rt.alloc(), row));
     }
+}
+
+/// A lookup that is judged, and one that is served what the other found.
+const JUDGED: Lookup = Lookup(1000, 2, Proof::Secure, 1000, MarkOrigin::Table);
+
+const SERVED: Lookup = Lookup(1000, 1, Proof::Secure, 1000, MarkOrigin::Cache);
+
+// Whether a validator whose verifier counts answers as a lookup says.
+fn is_answered<'a, R: Wait + Abort + Copy>(
+    rt: R,
+    alloc: Global,
+    holder: SharedCache<Counting<'a>, DefaultHasher, R>,
+    questions: &'a Cell<u32>,
+    lookup: &Lookup,
+) -> bool {
+    let anchors = anchors_of(&rt, alloc, true);
+    let verifier = Counting { questions };
+    let mut validator = validator_over(&rt, alloc, anchors, verifier, holder);
+    is_looked_up(&rt, alloc, &mut validator, lookup)
+}
+
+// The first validator and the cache ask for the one signature once each, and the second asks nothing.
+fn is_served_unasked<R: Wait + Abort + Copy>(rt: R, alloc: Global) -> bool {
+    let questions = Cell::new(0);
+    let verifier = Counting {
+        questions: &questions,
+    };
+    let first = SharedCache::new(rt, alloc, 8, verifier).expect(&rt, "memory");
+    let other = first.share().expect(&rt, "memory");
+    let is_judged = is_answered(rt, alloc, first, &questions, &JUDGED) && questions.get() == 2;
+    is_judged && is_answered(rt, alloc, other, &questions, &SERVED) && questions.get() == 2
+}
+
+#[test]
+fn what_is_kept_by_the_same_verifier_is_served_unasked(rt: HostRuntime) {
+    check_held(
+        &rt,
+        "one lookup after another",
+        is_served_unasked(rt, rt.alloc()),
+    );
 }
