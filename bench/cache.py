@@ -1,7 +1,7 @@
 #!/usr/bin/env python3
 """What a get and an insert of the default cache take at 1,000 and at 65,536 entries, and how many bytes an entry takes.
 
-    python3 bench/cache.py [--turns NUMBER] [PROGRAM]
+    python3 bench/cache.py [--turns NUMBER] [--shared] [PROGRAM]
 
 PROGRAM is the built dns_trial. Each key is a set of one address with a signature of 96 bytes. Each entry has a chain of six
 signed links, or none. A get finds its entry and copies it. An insert makes an entry whose key isn't there, and the least recently
@@ -124,24 +124,22 @@ def shared(path, turns):
         print(f"get for a list of {count} signatures: {one.nanoseconds():.0f} ns")
     for threads, one in lookups.items():
         print(f"warm lookups by {threads} over a shared cache: {one.nanoseconds():.0f} ns each")
-    single = gets[1].nanoseconds()
-    return (single > MOST_SHARED * gets[0].nanoseconds()
-            or any(single < LEAST_TOGETHER * gets[threads].nanoseconds() for threads in (2, 4))
-            or lookups[1].nanoseconds() < LEAST_LOOKUPS * lookups[4].nanoseconds())
+    single, alone = gets[1].nanoseconds(), lookups[1].nanoseconds()
+    ratios = [(f"a get over a shared cache, in times of one over an owned one (at most {MOST_SHARED})", single / gets[0].nanoseconds(), MOST_SHARED, False)]
+    ratios += [(f"gets by {threads} threads, in times of those by one (at least {LEAST_TOGETHER})", single / gets[threads].nanoseconds(), LEAST_TOGETHER, True)
+               for threads in (2, 4)]
+    ratios.append((f"warm lookups by 4 threads, in times of those by one (at least {LEAST_LOOKUPS})", alone / lookups[4].nanoseconds(), LEAST_LOOKUPS, True))
+    for what, ratio, _, _ in ratios:
+        print(f"{what}: {ratio:.2f}")
+    return any(ratio < wanted if is_least else ratio > wanted for _, ratio, wanted, is_least in ratios)
 
 
-def main():
-    words = argparse.ArgumentParser()
-    words.add_argument("--turns", type=int, default=TURNS, help="of how many runs the best counts")
-    words.add_argument("program", nargs="?", default=PROGRAM, help="the built program dns_trial")
-    given = words.parse_args()
-    path = os.path.abspath(given.program)
-    if not os.access(path, os.X_OK):
-        sys.exit(f"no program at {path}: `rt run` in crates/dns_trial builds it")
+def owned(path, turns):
+    """Prints what a cache of one's own takes, and says whether it grows more than is wanted."""
     rows = [(work, links) for work in WORKS for links in (LINKS if WORKS[work] else (0,))]
     measured = {(work, links, entries): Measured(words_of(path, work, entries, links), entries, passes)
                 for work, links in rows for entries, passes in SIZES.items()}
-    for _ in range(given.turns):
+    for _ in range(turns):
         for one in measured.values():
             one.turn()
     is_over = False
@@ -154,6 +152,19 @@ def main():
     for links in LINKS:
         room = run(words_of(path, "get", many, links), 0)[2] - run(words_of(path, "copy", many, links), 0)[2]
         print(f"{links} links: {room / many:.0f} bytes an entry")
+    return is_over
+
+
+def main():
+    words = argparse.ArgumentParser()
+    words.add_argument("--turns", type=int, default=TURNS, help="of how many runs the best counts")
+    words.add_argument("--shared", action="store_true", help="the shared cache alone")
+    words.add_argument("program", nargs="?", default=PROGRAM, help="the built program dns_trial")
+    given = words.parse_args()
+    path = os.path.abspath(given.program)
+    if not os.access(path, os.X_OK):
+        sys.exit(f"no program at {path}: `rt run` in crates/dns_trial builds it")
+    is_over = not given.shared and owned(path, given.turns)
     is_over |= shared(path, given.turns)
     sys.exit(1 if is_over else 0)
 
