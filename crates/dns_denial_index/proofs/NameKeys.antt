@@ -4,7 +4,7 @@ use Rattle.std.specs.Prelude.{nat_le, nat_lt, ◌==◌}
 use Rattle.std.specs.Char.{to_ascii_lowercase}
 use Rattle.std.specs.Cmp.Lexicographic.{slice_cmp}
 use Rattle.std.specs.List.{flat_map, list_all}
-use Rattle.std.specs.Ordering.{nat_cmp, is_lt, is_eq, ordering_then}
+use Rattle.std.specs.Ordering.{nat_cmp, is_lt, is_le, is_eq, ordering_then}
 use Rattle.std.specs.declared.cmp.Ordering.TheVariants.{Less, Equal, Greater}
 use Rattle.std.specs.FinMap.{slice_cmp-IsAntisymmetric, nat_cmp-IsAntisymmetric}
 use Rattle.std.proofs.lemmas.Bool.{false≢true, and_parts, and_from, lt-ltb, le-ltb, ltb-true, ltb-false, eq-eqb, ne_eqb, leb-true, cases_order}
@@ -301,6 +301,22 @@ pub spans_by_keys : (name : Labels) (nsec : OwnedNsec) → list_all is_bytes nam
 spans_by_keys name nsec fits =
     ap (λ b. b && key_before (name_key name) (end_key nsec)) (key_before_is nsec.owner name)
     ∙ ap (λ b. before nsec.owner name && b) (ends_before name nsec (leads_back nsec) fits)
+
+-- ---- the end of a record
+
+-- keys tell whether a record leads back
+pub back_by_keys : (nsec : OwnedNsec) (owner next : List ℕ) → owner ≡ name_key nsec.owner
+    → next ≡ name_key nsec.fields.next → is_le (slice_cmp nat_cmp next owner) ≡ leads_back nsec
+back_by_keys nsec owner next own its =
+    ap (λ k. is_le (slice_cmp nat_cmp next k)) own ∙ ap (λ k. is_le (slice_cmp nat_cmp k (name_key nsec.owner))) its
+    ∙ ap is_le (key_cmp nsec.fields.next nsec.owner)
+
+-- records with the same two names end alike
+pub same_end : (one two : OwnedNsec) → one.owner ≡ two.owner → one.fields.next ≡ two.fields.next
+    → end_key one ≡ end_key two
+same_end one two owner next =
+    ap (λ n. cond (is_le (name_cmp n one.owner)) (behind n) (name_key n)) next
+    ∙ ap (λ n. cond (is_le (name_cmp two.fields.next n)) (behind two.fields.next) (name_key two.fields.next)) owner
 
 -- ---- how long a key is
 

@@ -1,13 +1,12 @@
 -- What the places of owners and ends say of NSEC records.
-use Rattle.std.proofs.Common.{◌≡◌, ℕ, zero, suc, ◌+◌, ◌*◌, ◌^◌, ◌<◌, ◌≤◌, Bool, true, false, not, ◌&&◌, cond, List, [], ◌∷◌, ◌++◌, map, length, take, get_or, append_assoc, subst, Option, None, Some, refl, sym, ap, ◌∙◌, arith}
+use Rattle.std.proofs.Common.{◌≡◌, ℕ, zero, suc, ◌+◌, ◌*◌, ◌^◌, ◌<◌, ◌≤◌, Bool, true, false, not, ◌&&◌, cond, List, [], ◌∷◌, map, length, get_or, subst, Option, None, Some, refl, sym, ap, ◌∙◌, arith}
 use Rattle.std.specs.Prelude.{nat_lt, position}
 use Rattle.std.specs.List.{find, flat_map, list_all}
 use Rattle.std.specs.List.Sorted.{IsPermutation}
 use Rattle.std.specs.Ordering.{is_eq}
 use Rattle.std.proofs.lemmas.Bool.{or_left, or_right}
 use Rattle.std.proofs.lemmas.Cmp.{nat_list_cmp_total, tied_itself}
-use Rattle.std.proofs.lemmas.List.{length-map, take_more}
-use Rattle.std.proofs.lemmas.List.Concat.{flat_map-append}
+use Rattle.std.proofs.lemmas.List.{length-map}
 use Rattle.std.proofs.lemmas.List.Sorted.{list_any-IsPermutation, length_permutation}
 use Rattle.dns_model.specs.Bytes.{is_bytes}
 use Rattle.dns_model.specs.Names.{Labels, folded, labels_eq, name_eq, before}
@@ -89,20 +88,6 @@ pub spans_inside : (points : List (List ℕ)) (nsecs : List OwnedNsec)
 spans_inside points nsecs = record { starts = λ k lt. starts_inside points nsecs k lt }
 
 -- ---- keys and spans, record by record
-
-pub keyed : (nsecs : List OwnedNsec) (k : ℕ) (nsec : OwnedNsec) (all one two : List (List ℕ)) (owner end : List ℕ)
-    → k < length nsecs
-    → nsec ≡ get_or nsecs k nsec → all ≡ flat_map keys_of (take k nsecs) → owner ≡ name_key nsec.owner
-    → end ≡ end_key nsec
-    → one ≡ all ++ owner ∷ [] → two ≡ one ++ end ∷ [] → two ≡ flat_map keys_of (take (k + 1) nsecs)
-keyed nsecs k nsec all one two owner end lt item before own ending first second =
-    let front : List (List ℕ) = flat_map keys_of (take k nsecs) in
-    second ∙ ap (λ l. l ++ end ∷ []) first ∙ append_assoc all (owner ∷ []) (end ∷ [])
-    ∙ ap (λ l. l ++ owner ∷ end ∷ []) before
-    ∙ ap (λ o. front ++ o ∷ end ∷ []) own ∙ ap (λ e. front ++ name_key nsec.owner ∷ e ∷ []) ending
-    ∙ ap (λ (x : OwnedNsec). front ++ keys_of x) item
-    ∙ sym (flat_map-append keys_of (take k nsecs) (get_or nsecs k nsec ∷ []))
-    ∙ ap (flat_map keys_of) (sym (take_more nsecs k nsec lt))
 
 pub keyed_all : (nsecs seen : List OwnedNsec) (keys points : List (List ℕ)) → seen ≡ nsecs
     → keys ≡ flat_map keys_of seen → IsPermutation keys points → IsPermutation (flat_map keys_of nsecs) points

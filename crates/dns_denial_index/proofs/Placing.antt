@@ -1,20 +1,21 @@
 -- Keys in order with their numbers, and the places that they have.
 use Rattle.std.proofs.Common.{◌≡◌, ◌≢◌, ℕ, zero, suc, ◌+◌, ◌-◌, ◌*◌, ◌<◌, ◌≤◌, Bool, true, false, not, List, [], ◌∷◌, ◌++◌, map, length, get_or, set, refl, sym, ap, ◌∙◌, arith, subst, ⊎_elim, Ordering}
+use Rattle.std.specs.Cmp.{IsStrictWeakOrder}
 use Rattle.std.specs.Cmp.Lexicographic.{slice_cmp}
 use Rattle.std.specs.List.{All, Contains}
-use Rattle.std.specs.List.Sorted.{IsPermutation, IsSorted}
-use Rattle.std.specs.Ordering.{nat_cmp, is_lt, is_eq, ordering_then, ordering_reverse}
+use Rattle.std.specs.List.Sorted.{IsPermutation, IsSorted, IsSortedBy}
+use Rattle.std.specs.Ordering.{nat_cmp, is_lt, is_eq, ordering_reverse}
 use Rattle.std.specs.Prelude.{nat_eq}
 use Rattle.std.specs.Str.{bytes_eq}
 use Rattle.std.specs.declared.cmp.Ordering.TheVariants.{Less, Equal, Greater}
-use Rattle.std.proofs.lemmas.Bool.{true≢false, both_ways, cases_lt, not-false, not-true}
+use Rattle.std.proofs.lemmas.Bool.{both_ways, cases_lt, not-false, not-true}
 use Rattle.std.proofs.lemmas.Bool.Decides.{Decides-eqb, not_from_Decides}
 use Rattle.std.proofs.lemmas.Cmp.{nat_list_cmp_total, tied_itself}
 use Rattle.std.proofs.lemmas.Grind.{get_or-set_at}
 use Rattle.std.proofs.lemmas.List.{get_or_default, get_or-map, get_or-set_other, length-map, length-set}
 use Rattle.std.proofs.lemmas.List.Folds.{list_any_at}
 use Rattle.std.proofs.lemmas.Slice.Eq.{bytes_eq-Decides}
-use Rattle.std.proofs.lemmas.List.Sorted.{All-permutation, Contains-permutation, IsPermutation-map, length_permutation}
+use Rattle.std.proofs.lemmas.List.Sorted.{All-permutation, Contains-permutation, IsPermutation-map, length_permutation, ranks_by}
 use Rattle.dns_denial_index.specs.Places.{key_before, same_key, key_of, number_all, rank, is_point, place_of, IsNumbered, IsFirstOf, IsPlacedTo}
 use Rattle.dns_denial_index.proofs.PlaceOrder.{at_point, one_key, not_itself}
 use Rattle.dns_denial_index.proofs.Search.{all_before, none_before, ranked_at, points_in_order}
@@ -65,14 +66,12 @@ keys_again : (from : ℕ) (keys : List (List ℕ)) → map key_of (number_all fr
 keys_again from [] = refl
 keys_again from (key ∷ keys) = ap (λ l. key ∷ l) (keys_again (from + 1) keys)
 
-not_before : (one two : Ordering) → is_lt (ordering_then one two) ≡ false → is_lt one ≡ false
-not_before Less two h = absurd (true≢false h)
-not_before Equal two h = refl
-not_before Greater two h = refl
+-- keys with numbers are in the order of their keys
+pub numbered_order : IsStrictWeakOrder (λ (x y : List ℕ × ℕ). key_before (key_of x) (key_of y))
+numbered_order = ranks_by nat_list_cmp_total key_of
 
--- what is in order with its numbers is in order
-pub keys_in_order : (ns : List (List ℕ × ℕ))
-    → IsSorted (λ x y. ordering_then (slice_cmp nat_cmp x.0 y.0) (nat_cmp x.1 y.1)) ns
+-- what is in the order of its keys has keys in order
+pub keys_in_order : (ns : List (List ℕ × ℕ)) → IsSortedBy (λ (x y : List ℕ × ℕ). key_before (key_of x) (key_of y)) ns
     → IsSorted (slice_cmp nat_cmp) (map key_of ns)
 keys_in_order ns sorted k d low lt =
     let within : k + 1 < length ns = omega (arith, lt, length-map ns key_of) in
@@ -82,10 +81,7 @@ keys_in_order ns sorted k d low lt =
     get_or-map key_of ns k (d, 0) d (omega (arith, within)) in
     ap (λ x. key_before x (get_or (map key_of ns) k d)) later
     ∙ ap (λ y. key_before (key_of (get_or ns (k + 1) (d, 0))) y) here
-    ∙ not_before
-    (slice_cmp nat_cmp (key_of (get_or ns (k + 1) (d, 0))) (key_of (get_or ns k (d, 0))))
-    (nat_cmp ((get_or ns (k + 1) (d, 0)).1) ((get_or ns k (d, 0)).1))
-    (sorted k (d, 0) low within)
+    ∙ sorted k (d, 0) low within
 
 pub points_of : (keys : List (List ℕ)) (ns : List (List ℕ × ℕ)) → IsNumbered keys ns
     → IsPermutation keys (map key_of ns)

@@ -3,6 +3,7 @@
 //! clause names.
 #![tactic(auto)]
 
+mod keyed_nsec;
 mod name_keys;
 mod nsec3_index;
 mod nsec3_verdict;

@@ -1,15 +1,10 @@
 //! Names as strings of bytes that sort in canonical order (RFC 4034, 6.1): a search compares bytes, and no labels.
 ghost use Rattle.std.specs.Prelude.{◌≡◌, ◌+◌, ◌<◌, ◌≤◌, ◌++◌, length};
 ghost use Rattle.arrayvec.specs.ArrayVec.{array_vec_len};
-ghost use Rattle.dns_denial_index.specs.NameKeys.{symbol as symbol_of, label_key, name_key as name_key_of, end_key as end_key_of};
+ghost use Rattle.dns_denial_index.specs.NameKeys.{symbol as symbol_of, label_key, name_key as name_key_of};
 
 use arrayvec::ArrayVec;
-use dns_rdata::NsecRecord;
 use dns_record::NameRef;
-use std::cmp::Ordering;
-
-/// The last byte of the key behind all names at or below a name.
-const BEHIND: u8 = 255;
 
 /// The key of a name: its labels from the root on.
 #[tactic(auto, using(crate::proofs::NameKeys::key_fits))]
@@ -21,20 +16,6 @@ pub(crate) fn name_key(name: &NameRef<'_>) -> ArrayVec<u8, 255>
     let name = name.copy();
     let mut key = ArrayVec::new();
     push_labels(&name, &mut key);
-    key
-}
-
-/// The key at which the names between a record's owner and its next one end. Where the record leads back, it is the one right
-/// behind all names at or below the next one.
-pub(crate) fn end_key(nsec: &NsecRecord) -> ArrayVec<u8, 255>
-    ensures { result.items ≡ end_key_of nsec.now }
-{
-    let owner = nsec.owner.borrowed();
-    let next = nsec.next.borrowed();
-    let mut key = name_key(&next);
-    if next.cmp_name(&owner) != Ordering::Greater {
-        key.push(BEHIND);
-    }
     key
 }
 

@@ -6,7 +6,8 @@ ghost use Rattle.dns_rules.specs.Covering.{counts_for, covering_number};
 ghost use Rattle.dns_rules.specs.NsecVerdict.{is_owned_by as is_owned_by_in, wildcard_denies as wildcard_denies_in};
 ghost use Rattle.dns_denial_index.specs.NsecParts.{keys_of, numbered, paired};
 
-use crate::name_keys::{end_key, name_key};
+use crate::keyed_nsec::KeyedNsec;
+use crate::name_keys::name_key;
 use crate::places::{Placing, Points};
 use crate::spans::{Span, SpanTable};
 use dns_denial::{is_silent_on, wildcard_lacks};
@@ -147,10 +148,12 @@ fn keys_in(alloc: Global, nsecs: &[NsecRecord]) -> Result<Vec<Octets>, NoMemory>
     ensures { IfOk result (λ keys. keys.items ≡ flat_map keys_of nsecs.now) }
 {
     let mut keys = Vec::with_capacity(alloc, nsecs.len())?;
+    let mut last = None;
     for nsec in nsecs {
-        let owner = name_key(&nsec.owner.borrowed());
-        keys.push(Octets::from_slice(alloc, owner.as_slice())?)?;
-        keys.push(Octets::from_slice(alloc, end_key(nsec).as_slice())?)?;
+        let keyed = KeyedNsec::new(alloc, nsec, &last)?;
+        keys.push(keyed.owner().try_clone()?)?;
+        keys.push(keyed.end().try_clone()?)?;
+        last = Some(keyed);
     }
     Ok(keys)
 }

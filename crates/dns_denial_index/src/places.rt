@@ -103,7 +103,8 @@ fn in_order(keys: Vec<Octets>) -> Result<Vec<(Octets, usize)>, NoMemory>
         let number = numbered.len();
         numbered.push((key, number))?;
     }
-    numbered.sort_unstable();
+    // By keys alone: what is equal needn't be sorted further.
+    numbered.sort_unstable_by(|one, two| one.0.cmp(&two.0));
     Ok(numbered)
 }
 

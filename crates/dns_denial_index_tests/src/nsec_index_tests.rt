@@ -32,6 +32,8 @@ const TWICE: &[Told] = &[Told("a.", "z.", A), Told("a.", "z.", A)];
 
 const ONE_OWNER: &[Told] = &[Told("a.", "c.", A), Told("a.", "z.", A)];
 
+const ONE_NEXT: &[Told] = &[Told("a.", "z.", A), Told("b.", "z.", A)];
+
 const CROSSING: &[Told] = &[
     Told("a.", "y.", A),
     Told("b.", "d.", A),
@@ -68,6 +70,8 @@ const ROWS: &[Row] = &[
     Row(TWICE, "m.", Some(0)),
     Row(ONE_OWNER, "b.", Some(0)),
     Row(ONE_OWNER, "m.", Some(1)),
+    Row(ONE_NEXT, "a5.", Some(0)),
+    Row(ONE_NEXT, "m.", Some(1)),
     Row(CROSSING, "b5.", Some(1)),
     Row(CROSSING, "c5.", Some(2)),
     Row(CROSSING, "d.", Some(2)),
