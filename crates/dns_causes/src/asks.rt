@@ -19,7 +19,7 @@ use crate::context::Context;
 use crate::marked::answer_of;
 use dns_cache::ProofErrorKind;
 use dns_evidence::{Asked, Reply, Told, Verifier};
-use dns_flow::{Ask, Got, Need, Phase, cause_after};
+use dns_flow::{Ask, Got, Need, Phase};
 use dns_message::Message;
 use dns_model::AskRef;
 use dns_record::{Name, NoMemory};
@@ -66,9 +66,14 @@ fn after_ask<V: Verifier>(
         (phase_value phase) (got_for context.now.earlier.now ask.now made) (kind_value cause)) }
 {
     let got = got_of(context, ask, made)?;
-    let cause = cause_after(context.alloc, context.judge, &phase, &got, cause)?;
-    let phase = phase.after(context.alloc, context.judge, context.query, message, got)?;
-    Ok((phase, cause))
+    phase.after_with_cause(
+        context.alloc,
+        context.judge,
+        context.query,
+        message,
+        got,
+        cause,
+    )
 }
 
 // What an ask came to.

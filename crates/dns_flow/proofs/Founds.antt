@@ -8,16 +8,20 @@ use Rattle.dns_model.specs.declared.proof.Proof.TheVariants as proof
 use Rattle.dns_model.specs.Names.{Labels}
 use Rattle.dns_model.specs.Records.{Rr}
 use Rattle.dns_model.specs.Keys.{VerifierAnswers}
+use Rattle.dns_model.specs.Chains.{Judge}
 use Rattle.dns_model.specs.SoundAnswers.{ChainValue, is_secure}
+use Rattle.dns_rules.specs.ChainedSets.{bare}
 use Rattle.dns_rules.specs.CacheEntries.{Found, mark_of, sig_of, is_backed}
 use Rattle.dns_rules.specs.Delegations.{Signed, Insecure, Bogus, is_ds_set_of, is_supported_ds, is_readable_ds, verdict_by_ds, shows_no_ds, shows_no_ds_by_hash, is_insecure_above, verdict_without_ds, zone_verdict}
 use Rattle.dns_rules.specs.MarkedSets.{MarkedSet, decider}
-use Rattle.dns_rules.specs.ProofErrors.{ProofErrorKindValue, DsRecordShouldExist, DsResponseInsecure, UnknownKeyAlgorithm}
+use Rattle.dns_rules.specs.ProofErrors.{ProofErrorKindValue, RrsigsNotPresent, DsRecordShouldExist, DsResponseInsecure, UnknownKeyAlgorithm}
 use Rattle.dns_cache.specs.Kinds.{because}
 use Rattle.dns_cache.specs.Proofs.{ttl_by, proved_whole, excused}
 use Rattle.dns_trust.specs.ZoneRows.{row_of}
-use Rattle.dns_trust.specs.declared.zone_rows.ZoneRow.{ZoneRow}
-use Rattle.dns_flow.specs.Causes.{zone_cause, is_signed_row, unsigned_row_cause, row_cause, found_of}
+use Rattle.dns_flow.specs.declared.phases.Seeker.{Seeker}
+use Rattle.dns_flow.specs.declared.phases.Seeker.TheVariants.{Set, Ending}
+use Rattle.dns_flow.specs.Phases.{GotValue, AtZone, answer_in}
+use Rattle.dns_flow.specs.Causes.{zone_cause, cause_after, row_cause, sought_cause, found_of}
 
 -- ---- what is found
 
@@ -131,11 +135,11 @@ cause_of_row signed verifier class zone None = refl
 cause_of_row signed verifier class zone (Some answer) =
     set_cause signed verifier class zone answer (find (is_ds_set_of class zone) answer)
 
--- where the zone isn't signed
-pub cause_unsigned : (signed : ProofErrorKindValue) (verifier : VerifierAnswers) (class : ℕ) (zone : Labels)
-    (answer : Option (List MarkedSet)) (row : ZoneRow)
-    → row ≡ row_of (zone_verdict verifier class zone answer) → is_signed_row row ≡ false
-    → unsigned_row_cause class zone row ≡ zone_cause signed (zone_verdict verifier class zone answer)
-cause_unsigned signed verifier class zone answer row is other =
-    ap (λ b. if b then signed else unsigned_row_cause class zone row) (sym other) ∙ ap (row_cause signed class zone) is
-    ∙ cause_of_row signed verifier class zone answer
+-- and of a zone that was searched
+pub sought : (j : Judge) (seeker : Seeker) (class : ℕ) (zone : Labels) (got : GotValue) (cause : ProofErrorKindValue)
+    → sought_cause seeker class zone (row_of (zone_verdict j.answers class zone (option_map bare (answer_in got)))) cause
+    ≡ cause_after j (AtZone seeker class zone) got cause
+unfolding cause_after
+sought j (Set placed) class zone got cause =
+    cause_of_row (RrsigsNotPresent placed.set.owner placed.set.rtype) j.answers class zone (option_map bare (answer_in got))
+sought j Ending class zone got cause = refl

@@ -19,6 +19,7 @@ use Rattle.dns_cache.specs.Kinds.{because}
 use Rattle.dns_cache.specs.Proofs.{ttl_by, proved_whole, excused}
 use Rattle.dns_trust.specs.declared.zone_rows.ZoneRow.{ZoneRow}
 use Rattle.dns_trust.specs.declared.zone_rows.ZoneRow.TheVariants as row
+use Rattle.dns_flow.specs.declared.phases.Seeker.{Seeker}
 use Rattle.dns_flow.specs.declared.phases.Seeker.TheVariants.{Set, Ending}
 use Rattle.dns_flow.specs.Phases.{GotValue, PhaseValue, Marked, NeedsDs, Trying, AtName, AtZone, Concluded, answer_in, probe_in, first_signatures}
 
@@ -108,6 +109,12 @@ unsigned_row_cause class zone row.Unsupported = UnknownKeyAlgorithm
 unsigned_row_cause class zone row.ShownAbsent = DsResponseInsecure zone
 unsigned_row_cause class zone row.NotShown = DsRecordShouldExist zone
 
--- and whichever row it is
+-- and whichever row it is, by the cause where it is signed
 abbrev pub row_cause : ProofErrorKindValue → ℕ → Labels → ZoneRow → ProofErrorKindValue
 row_cause signed class zone row = if is_signed_row row then signed else unsigned_row_cause class zone row
+
+-- of a zone that was searched: an ending has no cause of its own
+abbrev pub sought_cause : Seeker → ℕ → Labels → ZoneRow → ProofErrorKindValue → ProofErrorKindValue
+sought_cause (Set placed) class zone row cause =
+    row_cause (RrsigsNotPresent placed.set.owner placed.set.rtype) class zone row
+sought_cause Ending class zone row cause = cause

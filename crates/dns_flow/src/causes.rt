@@ -13,25 +13,25 @@ ghost use Rattle.dns_rules.specs.ProofErrors as cause;
 ghost use Rattle.dns_rules.specs.Unsigned.{ns_question};
 ghost use Rattle.dns_cache.specs.Kinds.{kind_value};
 ghost use Rattle.dns_cache.specs.Proofs.{ttl_by as ttl_under};
+ghost use Rattle.dns_trust.specs.Beside.{chained_beside};
 ghost use Rattle.dns_trust.specs.Judge.{judge_of};
 ghost use Rattle.dns_trust.specs.Searching.{probe_value};
 ghost use Rattle.dns_trust.specs.Verdicts.{listed};
-ghost use Rattle.dns_flow.specs.Causes.{cause_after as cause_by, found_of as found_in, start_cause as cause_begins, is_net as is_failed_ask, after_seen as seen_cause, after_try as cause_by_try, keys_cause as cause_by_ds, unsigned_cause as cause_by_zone, is_signed_row, unsigned_row_cause as cause_of_unsigned};
+ghost use Rattle.dns_flow.specs.Causes.{found_of as found_in, start_cause as cause_begins, is_net as is_failed_ask, after_seen as seen_cause, after_try as cause_by_try, keys_cause as cause_by_ds, is_signed_row, row_cause as cause_of_row, sought_cause as cause_of_sought, unsigned_row_cause as cause_of_unsigned};
 ghost use Rattle.dns_flow.specs.CauseRows.{cause_row, caused};
 ghost use Rattle.dns_flow.specs.Leads.{bare_phase, led_to};
-ghost use Rattle.dns_flow.specs.Phases.{NeedValue, answer_in as answer_of, probe_in, first_signatures as first_of, start_set as set_begins};
-ghost use Rattle.dns_flow.specs.Values.{got_value, phase_value};
+ghost use Rattle.dns_flow.specs.Phases.{Marked, NeedValue, first_signatures as first_of, start_set as set_begins};
+ghost use Rattle.dns_flow.specs.Values.{phase_value};
 
-use crate::asks::Got;
 use crate::phases::{Phase, Seeker, set_of};
 use crate::signatures::question_at;
 use dns_cache::{ProofError, ProofErrorKind, RrsetProof};
-use dns_evidence::{ChainedSet, MarkedSet, Verifier, decider};
+use dns_evidence::{ChainedSet, MarkedSet, PlacedSet, Verifier, decider};
 use dns_model::Proof;
 use dns_rdata::Rrsig;
 use dns_record::{DNSClass, Name, NoMemory, Record, RecordSet};
 use dns_trust::{
-    Judge, NsProbe, ZoneRow, ds_query, is_key_set, needs_zone, ns_query, set_start, zone_row,
+    Judge, NsProbe, ZoneRow, ds_query, is_key_set, judged_beside, needs_zone, ns_query, set_start,
 };
 use std::alloc::Global;
 
@@ -79,71 +79,29 @@ fn unverified(set: &RecordSet) -> Result<ProofErrorKind, NoMemory>
     })
 }
 
-/// The cause after what an ask of a phase came to.
-#[tactic(auto, unfolding(crate::specs::Causes::cause_after))]
-pub fn cause_after<V: Verifier>(
+/// The phase and the cause to which the answer to the ask for the DS set of its owner leads a key set.
+#[tactic(auto, using(crate::proofs::Founds::cause_of_row))]
+pub(crate) fn keys_after<V: Verifier>(
     alloc: Global,
     judge: &Judge<'_, V>,
-    phase: &Phase,
-    got: &Got,
-    cause: ProofErrorKind,
-) -> Result<ProofErrorKind, NoMemory>
-    ensures { IfOk result (λ k. kind_value k ≡ cause_by (judge_of V.answers judge.now) (phase_value phase.now)
-        (got_value got.now) (kind_value cause)) }
-{
-    let none = None;
-    match phase {
-        Phase::Marked(_) => Ok(cause),
-        Phase::NeedsDs(placed) => {
-            keys_cause(alloc, judge.verifier, set_of(placed), answer_in(got, &none))
-        }
-        Phase::Trying(placed, verdicts) => {
-            let answer = answer_in(got, &none);
-            after_try(alloc, set_of(placed), verdicts.len(), answer, cause)
-        }
-        Phase::AtName(_, class, name) => after_seen(*class, name, seen_in(got), cause),
-        Phase::AtZone(Seeker::Set(placed), class, zone) => {
-            let answer = answer_in(got, &none);
-            unsigned_cause(alloc, judge.verifier, set_of(placed), *class, zone, answer)
-        }
-        Phase::AtZone(Seeker::Ending, _, _) => Ok(cause),
-        Phase::Concluded(_) => Ok(cause),
-    }
-}
-
-// The answer, where the reply was to be judged; `none` where it was only to be seen.
-fn answer_in<'a>(got: &'a Got, none: &'a Option<Vec<ChainedSet>>) -> &'a Option<Vec<ChainedSet>>
-    requires { none.now ≡ None }
-    ensures { listed result.now ≡ answer_of (got_value got.now) }
-{
-    match got {
-        Got::Answer(answer) => answer,
-        Got::Probe(_) => none,
-    }
-}
-
-// What was seen, where the reply was only to be seen.
-fn seen_in(got: &Got) -> NsProbe
-    ensures { probe_value result ≡ probe_in (got_value got.now) }
-{
-    match got {
-        Got::Answer(_) => NsProbe::Failed,
-        Got::Probe(probe) => *probe,
-    }
-}
-
-// By the DS verdict of a key set's owner.
-#[tactic(auto, using(crate::proofs::Founds::cause_of_row))]
-fn keys_cause<V: Verifier>(
-    alloc: Global,
-    verifier: &V,
-    set: &RecordSet,
+    placed: PlacedSet,
     answer: &Option<Vec<ChainedSet>>,
-) -> Result<ProofErrorKind, NoMemory>
-    ensures { IfOk result (λ k. kind_value k ≡ cause_by_ds set.now (zone_verdict (V.answers verifier.now)
-        set.now.class set.now.owner (option_map bare (listed answer.now)))) }
+) -> Result<(Phase, ProofErrorKind), NoMemory>
+    ensures phase { IfOk result (λ p. phase_value p.0
+        ≡ Marked (chained_beside (judge_of V.answers judge.now) placed (listed answer.now))) }
+    ensures cause { IfOk result (λ p. kind_value p.1 ≡ cause_by_ds placed.set (zone_verdict (V.answers judge.now.verifier.now)
+        placed.set.class placed.set.owner (option_map bare (listed answer.now)))) }
 {
-    let row = zone_row(alloc, verifier, set.dns_class, &set.name, answer)?;
+    let (set, row) = judged_beside(alloc, judge, placed, answer)?;
+    let cause = keys_cause(&set.judged.set, row)?;
+    Ok((Phase::Marked(set), cause))
+}
+
+// By the row of the DS verdict of a key set's owner.
+fn keys_cause(set: &RecordSet, row: ZoneRow) -> Result<ProofErrorKind, NoMemory>
+    ensures { IfOk result (λ k. kind_value k
+        ≡ cause_of_row (cause.DsRecordsButNoDnskey set.now.owner) set.now.class set.now.owner row) }
+{
     if is_signed(row) {
         no_dnskey(set)
     } else {
@@ -159,20 +117,33 @@ fn no_dnskey(set: &RecordSet) -> Result<ProofErrorKind, NoMemory>
     Ok(ProofErrorKind::DsRecordsButNoDnskey { name })
 }
 
-// By the verdict on the zone of an unsigned set.
-#[tactic(auto, using(crate::proofs::Founds::cause_of_row))]
-fn unsigned_cause<V: Verifier>(
-    alloc: Global,
-    verifier: &V,
+/// The cause by the row of the DS verdict of a zone that was searched; an ending has no cause of its own.
+pub(crate) fn sought_cause(
+    seeker: &Seeker,
+    class: DNSClass,
+    zone: &Name,
+    row: ZoneRow,
+    cause: ProofErrorKind,
+) -> Result<ProofErrorKind, NoMemory>
+    ensures { IfOk result (λ k. kind_value k
+        ≡ cause_of_sought seeker.now class.0 zone.now row (kind_value cause)) }
+{
+    match seeker {
+        Seeker::Set(placed) => unsigned_cause(set_of(placed), class, zone, row),
+        Seeker::Ending => Ok(cause),
+    }
+}
+
+// By the row of the DS verdict of an unsigned set's zone.
+fn unsigned_cause(
     set: &RecordSet,
     class: DNSClass,
     zone: &Name,
-    answer: &Option<Vec<ChainedSet>>,
+    row: ZoneRow,
 ) -> Result<ProofErrorKind, NoMemory>
-    ensures { IfOk result (λ k. kind_value k ≡ cause_by_zone set.now (zone_verdict (V.answers verifier.now)
-        class.0 zone.now (option_map bare (listed answer.now)))) }
+    ensures { IfOk result (λ k. kind_value k
+        ≡ cause_of_row (cause.RrsigsNotPresent set.now.owner set.now.rtype) class.0 zone.now row) }
 {
-    let row = zone_row(alloc, verifier, class, zone, answer)?;
     if is_signed(row) {
         not_present(set)
     } else {
@@ -214,8 +185,8 @@ fn should_exist(zone: &Name) -> Result<ProofErrorKind, NoMemory>
     Ok(ProofErrorKind::DsRecordShouldExist { name })
 }
 
-// By the ask of the signature at a place: the first ask that failed stays the cause.
-fn after_try(
+/// The cause by the ask of the signature at a place: the first ask that failed stays the cause.
+pub(crate) fn after_try(
     alloc: Global,
     set: &RecordSet,
     place: usize,
@@ -244,8 +215,8 @@ fn is_net(cause: &ProofErrorKind) -> bool
     matches!(cause, ProofErrorKind::Net { .. })
 }
 
-// By what was seen of a name's NS records.
-fn after_seen(
+/// The cause by what was seen of a name's NS records.
+pub(crate) fn after_seen(
     class: DNSClass,
     name: &Name,
     seen: NsProbe,

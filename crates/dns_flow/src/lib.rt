@@ -11,7 +11,7 @@ mod sets;
 mod signatures;
 
 pub use asks::{Ask, Got, probe_of};
-pub use causes::{cause_after, found_of, start_cause};
+pub use causes::{found_of, start_cause};
 pub use endings::start_ending;
 pub use phases::{Need, Phase, Seeker};
 pub use sets::start_set;

@@ -2,20 +2,26 @@
 
 ghost use Rattle.std.specs.Prelude.{◌≡◌, ◌<◌, IfOk};
 ghost use Rattle.dns_model.specs.SoundAnswers.{told_by};
+ghost use Rattle.dns_cache.specs.Kinds.{kind_value};
 ghost use Rattle.dns_trust.specs.Judge.{judge_of};
+ghost use Rattle.dns_flow.specs.Causes.{cause_after as cause_by};
 ghost use Rattle.dns_flow.specs.Phases.{turn as turn_of, after as after_got, found as found_by};
 ghost use Rattle.dns_flow.specs.Values.{got_value, phase_value, need_value, Keeps};
 
 use crate::asks::{Ask, Got};
+use crate::causes::{after_seen, after_try, keys_after, sought_cause};
 use crate::searching::{after_probe, outcome_of_mark};
 use crate::sets::after_ds;
 use crate::signatures::{after_signature, signature_need};
+use dns_cache::ProofErrorKind;
 use dns_evidence::{ChainedSet, PlacedSet, Verifier};
 use dns_message::Message;
 use dns_model::Proof;
 use dns_outcome::Outcome;
 use dns_record::{DNSClass, Name, NoMemory, Query, RecordSet};
-use dns_trust::{Judge, Verdict, ds_ask_of, ds_query, ns_query, unsigned_set, zone_mark};
+use dns_trust::{
+    Judge, Verdict, ds_ask_of, ds_query, mark_of_row, ns_query, unsigned_set, zone_mark, zone_row,
+};
 use std::alloc::Global;
 
 /// For what a zone is searched.
@@ -156,6 +162,48 @@ impl Phase {
                 Ok(seeker.found(alloc, query, message, mark))
             }
             Phase::Concluded(outcome) => Ok(Phase::Concluded(outcome)),
+        }
+    }
+
+    /// The phase to which what an ask came to leads, as `after` says, and the cause after it. What an answer shows of a zone
+    /// tells both, and is found once: that may take hundreds of hashes.
+    #[tactic(auto, using(crate::proofs::Founds::sought), unfolding(crate::specs::Causes::cause_after, crate::specs::Phases::after))]
+    pub fn after_with_cause<V: Verifier>(
+        self,
+        alloc: Global,
+        judge: &Judge<'_, V>,
+        query: &Query,
+        message: &Message,
+        got: Got,
+        cause: ProofErrorKind,
+    ) -> Result<(Phase, ProofErrorKind), NoMemory>
+        ensures phase { IfOk result (λ p. phase_value p.0 ≡ after_got (judge_of V.answers judge.now) query.now
+            (told_by message.now) (phase_value self) (got_value got)) }
+        ensures cause { IfOk result (λ p. kind_value p.1 ≡ cause_by (judge_of V.answers judge.now) (phase_value self)
+            (got_value got) (kind_value cause)) }
+    {
+        match self {
+            Phase::Marked(set) => Ok((Phase::Marked(set), cause)),
+            Phase::NeedsDs(placed) => keys_after(alloc, judge, placed, &got.into_answer()),
+            Phase::Trying(placed, verdicts) => {
+                let answer = got.into_answer();
+                let cause = after_try(alloc, set_of(&placed), verdicts.len(), &answer, cause)?;
+                let phase = after_signature(alloc, judge, query, placed, verdicts, &answer)?;
+                Ok((phase, cause))
+            }
+            Phase::AtName(seeker, class, name) => {
+                let seen = got.into_seen();
+                let cause = after_seen(class, &name, seen, cause)?;
+                let phase = after_probe(alloc, query, message, seeker, class, name, seen)?;
+                Ok((phase, cause))
+            }
+            Phase::AtZone(seeker, class, zone) => {
+                let row = zone_row(alloc, judge.verifier, class, &zone, &got.into_answer())?;
+                let cause = sought_cause(&seeker, class, &zone, row, cause)?;
+                let phase = seeker.found(alloc, query, message, mark_of_row(row));
+                Ok((phase, cause))
+            }
+            Phase::Concluded(outcome) => Ok((Phase::Concluded(outcome), cause)),
         }
     }
 }

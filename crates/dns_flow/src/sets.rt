@@ -69,7 +69,7 @@ pub(crate) fn after_ds<V: Verifier>(
     ensures { IfOk result (λ p. phase_value p
         ≡ Marked (chained_beside (judge_of V.answers judge.now) placed (listed answer.now))) }
 {
-    let set = judged_beside(alloc, judge, placed, answer)?;
+    let (set, _row) = judged_beside(alloc, judge, placed, answer)?;
     Ok(Phase::Marked(set))
 }
 

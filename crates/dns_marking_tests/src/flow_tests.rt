@@ -5,9 +5,7 @@ use crate::rows::check_row;
 use crate::sets_tests::{message_of, query};
 use dns_cache::{ProofError, ProofErrorKind};
 use dns_evidence::{Listed, MarkedSet, PlacedSet};
-use dns_flow::{
-    Ask, Got, Need, Phase, cause_after, found_of, start_cause, start_ending, start_set,
-};
+use dns_flow::{Ask, Got, Need, Phase, found_of, start_cause, start_ending, start_set};
 use dns_message::Message;
 use dns_model::Proof;
 use dns_outcome::Outcome;
@@ -61,22 +59,7 @@ fn asks(rt: &impl Abort, alloc: Global, asked: &Asked, phases: &mut Vec<Phase>) 
     }
 }
 
-/// Puts the cause to which this answer leads in the place of the last one, if there is one.
-fn lead_cause(
-    rt: &impl Abort,
-    alloc: Global,
-    step: &Step<'_>,
-    phase: &Phase,
-    got: &Got,
-    causes: &mut Vec<ProofErrorKind>,
-) {
-    if let Some(cause) = causes.pop() {
-        let led = cause_after(alloc, step.judge, phase, got, cause).expect(rt, "memory");
-        causes.push(led).expect(rt, "memory");
-    }
-}
-
-/// Puts what an answer leads to in the place of what asked.
+/// Puts what an answer leads to in the place of what asked, and of its cause, if it has one.
 fn lead(
     rt: &impl Abort,
     alloc: Global,
@@ -86,11 +69,18 @@ fn lead(
     causes: &mut Vec<ProofErrorKind>,
 ) {
     let phase = phases.pop().expect(rt, "a phase");
-    lead_cause(rt, alloc, step, &phase, &got, causes);
-    let led = phase
-        .after(alloc, step.judge, step.query, step.message, got)
+    let Some(cause) = causes.pop() else {
+        let led = phase
+            .after(alloc, step.judge, step.query, step.message, got)
+            .expect(rt, "memory");
+        phases.push(led).expect(rt, "memory");
+        return;
+    };
+    let (phase, cause) = phase
+        .after_with_cause(alloc, step.judge, step.query, step.message, got, cause)
         .expect(rt, "memory");
-    phases.push(led).expect(rt, "memory");
+    phases.push(phase).expect(rt, "memory");
+    causes.push(cause).expect(rt, "memory");
 }
 
 /// Whether these asks are made, one after another, and nothing else before them.

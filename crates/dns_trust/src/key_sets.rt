@@ -2,24 +2,27 @@
 
 ghost use Rattle.std.specs.Prelude.{◌≡◌, true, None, Some, IfOk, [], map};
 ghost use Rattle.std.specs.List.{find};
-ghost use Rattle.std.specs.Option.{option_copied};
+ghost use Rattle.std.specs.Option.{option_copied, option_map};
 ghost use Rattle.dns_evidence.specs.Link.{link_value};
-ghost use Rattle.dns_rules.specs.Delegations.{ds_question, is_ds_set_of};
+ghost use Rattle.dns_rules.specs.Delegations.{ds_question, is_ds_set_of, zone_verdict};
 ghost use Rattle.dns_rules.specs.KeySets.{SignedByMatched, needs_ds};
-ghost use Rattle.dns_rules.specs.ChainedSets.{chained_by_ds, self_signed_chain as self_signed_chain_of};
+ghost use Rattle.dns_rules.specs.ChainedSets.{bare, chained_by_ds, self_signed_chain as self_signed_chain_of};
 ghost use Rattle.dns_trust.specs.Beside.{chained_beside, outcome_beside_ds};
 ghost use Rattle.dns_trust.specs.Judge.{judge_of};
 ghost use Rattle.dns_trust.specs.Verdicts.{listed};
 ghost use Rattle.dns_trust.specs.Signers.{signed_value};
 ghost use Rattle.dns_trust.specs.Steps.{IsKeysStep};
+ghost use Rattle.dns_trust.specs.ZoneRows.{row_of};
 ghost use Rattle.dns_trust.specs.KeysMarks.{marked_value, outcome_marked, by_ds_records, marked_by_found, marked_by_zone, chained_with, IsAnchorsMark};
 
 use crate::chains::{
     anchored_chain, anchored_link, last_number, link_by_found, self_signed_chain, trusted_chain,
 };
 use crate::keys::matched_beside;
-use crate::unsigned::{ds_set_of, mark_by_unsupported, mark_without_ds};
-use crate::{AnchoredRow, DsIndex, Judge, MatchedRow, SignedBy, anchored_row, ds_query};
+use crate::unsigned::{ds_set_of, mark_by_unsupported, mark_of_row};
+use crate::{
+    AnchoredRow, DsIndex, Judge, MatchedRow, SignedBy, ZoneRow, anchored_row, ds_query, zone_row,
+};
 use dns_evidence::{ChainedSet, Link, MarkedSet, PlacedSet, Verifier, clone_links};
 use dns_model::Proof;
 use dns_record::{NoMemory, Query, Record, RecordSet};
@@ -75,20 +78,39 @@ pub fn judged_by_ds<V: Verifier>(
     requires { needs_ds (judge_of V.answers judge.now) placed.set ≡ true }
     ensures { IfOk result (λ c. c ≡ chained_by_ds (judge_of V.answers judge.now) placed (listed answer.now)) }
 {
-    judged_beside(alloc, judge, placed, answer)
+    let (set, _row) = judged_beside(alloc, judge, placed, answer)?;
+    Ok(set)
 }
 
-/// The same without that condition: its anchors were tried before, and aren't tried again.
+/// The same without that condition: its anchors were tried before, and aren't tried again. Beside it stands the row of the DS
+/// verdict of its owner, which tells why the set isn't Secure.
 pub fn judged_beside<V: Verifier>(
     alloc: Global,
     judge: &Judge<'_, V>,
     placed: PlacedSet,
     answer: &Option<Vec<ChainedSet>>,
-) -> Result<ChainedSet, NoMemory>
-    ensures { IfOk result (λ c. c ≡ chained_beside (judge_of V.answers judge.now) placed (listed answer.now)) }
+) -> Result<(ChainedSet, ZoneRow), NoMemory>
+    ensures judged { IfOk result (λ p. p.0 ≡ chained_beside (judge_of V.answers judge.now) placed (listed answer.now)) }
+    ensures set { IfOk result (λ p. p.0.judged.set ≡ placed.set) }
+    ensures row { IfOk result (λ p. p.1 ≡ row_of (zone_verdict (V.answers judge.now.verifier.now) placed.set.class
+        placed.set.owner (option_map bare (listed answer.now)))) }
 {
-    let marked = marked_by_answer(alloc, judge, &placed.set, answer)?;
-    Ok(with_mark(placed, marked))
+    let row = owner_row(alloc, judge.verifier, &placed.set, answer)?;
+    let marked = marked_by_answer(alloc, judge, &placed.set, answer, row)?;
+    Ok((with_mark(placed, marked), row))
+}
+
+// The row of the DS verdict of a key set's owner.
+fn owner_row<V: Verifier>(
+    alloc: Global,
+    verifier: &V,
+    set: &RecordSet,
+    answer: &Option<Vec<ChainedSet>>,
+) -> Result<ZoneRow, NoMemory>
+    ensures { IfOk result (λ row. row ≡ row_of (zone_verdict (V.answers verifier.now) set.now.class set.now.owner
+        (option_map bare (listed answer.now)))) }
+{
+    zone_row(alloc, verifier, set.dns_class, &set.name, answer)
 }
 
 /// The question for the DS set of a key set's owner.
@@ -177,13 +199,16 @@ fn signed(
     })
 }
 
-// The mark of a key set by the answer to the ask for its owner's DS set.
+// The mark of a key set by the answer to the ask for its owner's DS set, by which this row of the DS verdict holds.
 fn marked_by_answer<V: Verifier>(
     alloc: Global,
     judge: &Judge<'_, V>,
     set: &RecordSet,
     answer: &Option<Vec<ChainedSet>>,
+    row: ZoneRow,
 ) -> Result<KeysMarked, NoMemory>
+    requires { row ≡ row_of (zone_verdict (V.answers judge.now.verifier.now) set.now.class set.now.owner
+        (option_map bare (listed answer.now))) }
     ensures { IfOk result (λ m. marked_value m
         ≡ marked_by_zone (judge_of V.answers judge.now) set.now (listed answer.now)) }
 {
@@ -192,10 +217,7 @@ fn marked_by_answer<V: Verifier>(
     };
     match ds_set_of(set.dns_class, &set.name, sets) {
         Some(found) => marked_by_set(alloc, judge, set, found),
-        None => {
-            let mark = mark_without_ds(alloc, &set.name, sets)?;
-            Ok(refused(alloc, mark))
-        }
+        None => Ok(refused(alloc, mark_of_row(row))),
     }
 }
 

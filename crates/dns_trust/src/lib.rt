@@ -36,7 +36,7 @@ pub use searching::{
 };
 pub use set_signature::SetSignature;
 pub use signers::{SignedBy, each_once, first_signatures};
-pub use unsigned::{shows_unsigned_cut, unsigned_set, zone_mark};
+pub use unsigned::{mark_of_row, shows_unsigned_cut, unsigned_set, zone_mark};
 pub use usable::{KeyFault, is_usable, is_usable_but_for_revoke, key_fault};
 pub use validity::RrsigValidity;
 pub use verdict::{Verdict, chained_verdict, is_skipped_read, key_query, may_be_signed};

@@ -55,8 +55,8 @@ pub fn zone_mark<V: Verifier>(
     Ok(mark_of_row(row))
 }
 
-// By the row of the zone's DS verdict that holds.
-fn mark_of_row(row: ZoneRow) -> Proof
+/// The same by the row of the zone's DS verdict that holds.
+pub fn mark_of_row(row: ZoneRow) -> Proof
     ensures { (verdict : ZoneVerdict) → row ≡ row_of verdict → result ≡ (unsigned_mark verdict).mark }
 {
     match row {

@@ -18,7 +18,7 @@ use crate::state::{State, put};
 use crate::steps::entry_for;
 use dns_cache::ProofErrorKind;
 use dns_evidence::{ChainedSet, JudgedSet, PlacedSet, Verifier};
-use dns_flow::{Got, Phase, cause_after, start_cause, start_ending, start_set};
+use dns_flow::{Got, Phase, start_cause, start_ending, start_set};
 use dns_model::{AskRef, MarkOrigin};
 use dns_outcome::judged_part;
 use dns_record::{NoMemory, Query};
@@ -285,26 +285,19 @@ fn after_ask<V: Verifier>(
     ensures phase { IfOk result (λ p. phase_value p.0 ≡ after_of (judge_of V.answers context.now.judge)
         so_far.now.query (told_by so_far.now.message) (phase_value phase) (got_value got)) }
 {
-    let cause = next_cause(context, &phase, &got, cause)?;
-    let phase = after_answer(context, so_far, phase, got)?;
-    Ok((phase, cause))
-}
-
-// The cause of a set at work, after what its ask came to.
-fn next_cause<V: Verifier>(
-    context: &Context<'_, V>,
-    phase: &Phase,
-    got: &Got,
-    cause: Option<ProofErrorKind>,
-) -> Result<Option<ProofErrorKind>, NoMemory>
-    ensures { IfOk result (λ o. option_map kind_value o ≡ option_map (cause_by (judge_of V.answers context.now.judge)
-        (phase_value phase.now) (got_value got.now)) (option_map kind_value cause)) }
-{
     let Some(cause) = cause else {
-        return Ok(None);
+        let phase = after_answer(context, so_far, phase, got)?;
+        return Ok((phase, None));
     };
-    let next = cause_after(context.alloc, &context.judge, phase, got, cause)?;
-    Ok(Some(next))
+    let (phase, cause) = phase.after_with_cause(
+        context.alloc,
+        &context.judge,
+        &so_far.query,
+        &so_far.received.message,
+        got,
+        cause,
+    )?;
+    Ok((phase, Some(cause)))
 }
 
 // The phase to which an answer leads.
