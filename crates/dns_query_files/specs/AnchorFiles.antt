@@ -1,8 +1,10 @@
--- The records by which keys are trusted, from a text: DNSKEY and DS records (RFC 4034, 2 and 5) in the form of master files (RFC 1035, 5).
-use Rattle.std.specs.Prelude.{ℕ, ◌+◌, ◌==◌, Bool, false, List, [], ◌∷◌, ◌++◌, if◌then◌else◌, Option, None, Some, is_some, Result, Ok, Err}
+-- The records by which keys are trusted, from a text: DNSKEY and DS records (RFC 4034, 2 and 5; RFC 5011, 2.1) in the form of master files
+-- (RFC 1035, 5).
+use Rattle.std.specs.Prelude.{ℕ, ◌+◌, ◌==◌, ◌&&◌, Bool, false, not, List, [], ◌∷◌, ◌++◌, if◌then◌else◌, Option, None, Some, is_some, Result, Ok, Err}
+use Rattle.std.specs.Option.{option_map_or}
 use Rattle.dns_model.specs.ResultSteps.{◌>>=◌}
 use Rattle.dns_model.specs.Types.{class_in, type_dnskey, type_ds}
-use Rattle.dns_model.specs.Views.{dnskey_in, ds_in}
+use Rattle.dns_model.specs.Views.{DnskeyValue, dnskey_in, ds_in, is_revoked, is_zone_key}
 use Rattle.dns_master_file.specs.Reading.{LineValue, line_in}
 use Rattle.dns_master_file.specs.declared.stop.LineError.{LineError}
 use Rattle.dns_master_file.specs.declared.stop.LineError.TheVariants as line
@@ -10,11 +12,15 @@ use Rattle.dns_query_files.specs.TextLines.{lines_of}
 use Rattle.dns_query_files.specs.declared.anchors_error.AnchorsError.{AnchorsError}
 use Rattle.dns_query_files.specs.declared.anchors_error.AnchorsError.TheVariants.{BadLine, NoAnchor, Empty, NoMemory}
 
--- a key of a zone, or a digest of one, in the class IN
+-- a key may be trusted that is a zone's, of the protocol 3, and isn't revoked
+abbrev pub may_be_trusted : DnskeyValue → Bool
+may_be_trusted key = is_zone_key key && (not (is_revoked key) && (key.protocol == 3))
+
+-- such a key, or a digest of a key, in the class IN
 abbrev pub is_anchor : LineValue → Bool
 is_anchor entry =
     if entry.class == class_in
-    then (if entry.rtype == type_dnskey then is_some (dnskey_in entry.rdata)
+    then (if entry.rtype == type_dnskey then option_map_or may_be_trusted (dnskey_in entry.rdata) false
     else if entry.rtype == type_ds then is_some (ds_in entry.rdata)
     else false)
     else false

@@ -1,7 +1,7 @@
 //! The records by which keys are trusted, from a text.
 ghost use Rattle.std.specs.Prelude.{◌≡◌, ◌++◌, ◌<◌, ◌^◌, length, OnOk};
 ghost use Rattle.dns_model.specs.Gives.{Gives};
-ghost use Rattle.dns_query_files.specs.AnchorFiles.{anchor_at, anchors_from, anchors_in, is_anchor as is_an_anchor, listed};
+ghost use Rattle.dns_query_files.specs.AnchorFiles.{anchor_at, anchors_from, anchors_in, is_anchor as is_an_anchor, listed, may_be_trusted as may_trust};
 ghost use Rattle.dns_query_files.specs.TextLines.{lines_of};
 ghost use Rattle.dns_query_files.specs.declared.anchors_error.AnchorsError.TheVariants.{NoMemory as no_memory};
 
@@ -12,7 +12,14 @@ use dns_rdata::{Dnskey, Ds};
 use dns_record::{DNSClass, NoMemory, RecordType};
 use std::alloc::Global;
 
-// Whether a line is a key of a zone, or a digest of one.
+// Whether a key may be trusted: a zone's that isn't revoked.
+fn may_be_trusted(key: &Dnskey<'_>) -> bool
+    ensures { result ≡ may_trust key.now }
+{
+    key.is_zone_key() && !key.is_revoked() && key.protocol == 3
+}
+
+// Whether a line is a key that may be trusted, or a digest of a key.
 fn is_anchor(line: &RecordLine) -> bool
     ensures { result ≡ is_an_anchor line.now }
 {
@@ -21,7 +28,10 @@ fn is_anchor(line: &RecordLine) -> bool
     }
     let rdata = line.rdata.as_slice();
     match line.record_type {
-        RecordType::DNSKEY => Dnskey::read(rdata).is_some(),
+        RecordType::DNSKEY => match Dnskey::read(rdata) {
+            Some(key) => may_be_trusted(&key),
+            None => false,
+        },
         RecordType::DS => Ds::read(rdata).is_some(),
         _ => false,
     }
@@ -79,7 +89,8 @@ fn all_anchors(alloc: Global, text: &[u8]) -> Result<Vec<RecordLine>, AnchorsErr
 /// (RFC 1035, 5), and as `root.key` and `root.ds` of Debian's package `dns-root-data` do. The ttl may be left out, a comment stands behind
 /// `;`, and blank lines say nothing. The last line may lack its LF.
 ///
-/// The first line that is no such record is refused by its number, and so is a text without one.
+/// The first line that is no such record is refused by its number, and so is a text without one. A key that is revoked (RFC 5011, 2.1), that
+/// isn't a zone's or whose protocol isn't 3 (RFC 4034, 2.1) can't be trusted, and its line is refused too.
 pub fn read_anchors(alloc: Global, text: &[u8]) -> Result<Vec<RecordLine>, AnchorsError>
     requires { length text.now < 2 ^ 32 }
     ensures { Gives (λ v. v.items) no_memory result (anchors_in text.now) }

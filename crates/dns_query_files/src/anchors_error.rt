@@ -11,7 +11,8 @@ use std::alloc::{AllocError, AllocFailed};
 pub enum AnchorsError {
     /// A line isn't a record: the number of the line from 1, what is wrong with it, and in which column, from 1.
     BadLine(u64, Refusal, usize),
-    /// The line of this number is a record of another class than IN, or neither a DNSKEY nor a DS, or too short to be one.
+    /// The line of this number is a record of another class than IN, or neither a DNSKEY nor a DS, or too short to be one; or a key
+    /// that is revoked, isn't a zone's or has another protocol than 3.
     NoAnchor(u64),
     /// No line says a key.
     Empty,
