@@ -47,6 +47,8 @@ ROWS = {
     "explained-repeated-set": (same("second-signature-is-insecure"), 0, ["unknown-key-algorithm"]),
     "explained-foreign-class": (same("record-of-another-class"), 1, ["fault class . CH TXT"]),
     "explained-empty": (same("no-records-in-place-of-the-first-reply"), 1, ["fault nsec bogus"]),
+    "explained-refused": (changed("no-records-in-place-of-the-first-reply", "empty . NS 000084000000000000000000", "reply . NS 0000840500010000000000000000020001"),
+                          1, ["fault nsec bogus", "got 5"]),
     "explained-timeout": (same("no-reply"), 1, ["fault timeout"]),
     "explained-bad-line": (same("empty-label"), 3, []),
 }

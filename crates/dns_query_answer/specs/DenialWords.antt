@@ -12,8 +12,8 @@ use Rattle.dns_model.specs.NameText.{printed}
 use Rattle.dns_model.specs.Records.{Rr, Question}
 use Rattle.dns_model.specs.RecordViews.{read_as}
 use Rattle.dns_model.specs.SoundAnswers.{is_secure, section_eq}
-use Rattle.dns_model.specs.Trails.{AskedValue, JudgedSetValue}
-use Rattle.dns_model.specs.Types.{code_nx_domain, type_ds, type_nsec, type_nsec3}
+use Rattle.dns_model.specs.Trails.{AskedValue, JudgedSetValue, HeardValue, Records, Fault}
+use Rattle.dns_model.specs.Types.{can_deny, code_nx_domain, type_ds, type_nsec, type_nsec3}
 use Rattle.dns_model.specs.Views.{nsec3_in}
 use Rattle.dns_record.specs.Words.{type_word}
 use Rattle.dns_rules.specs.Delegations.{is_insecure}
@@ -22,6 +22,7 @@ use Rattle.dns_query_answer.specs.CauseWords.{unsigned_words}
 use Rattle.dns_query_answer.specs.Following.{ask_fault_words, blamed_ask, is_denial_type}
 use Rattle.dns_query_answer.specs.Places.{Explained, Place, causes_of, heard_section, place_by}
 use Rattle.dns_query_answer.specs.Reasons.{next_words, reason_words}
+use Rattle.dns_query_answer.specs.SentenceWords.{code_words}
 
 -- ---- what is denied
 
@@ -80,15 +81,30 @@ zone_words steps (Some TooDeep) = []
 zone_words steps (Some TooMany) = []
 zone_words steps None = []
 
--- no record denies anything, and a query failed, if it did
-abbrev pub missing_words : List AskedValue → Option AskRef → List ℕ
-missing_words steps made = codes ": no NSEC or NSEC3 record is in the reply" ++ ask_fault_words steps made
+-- the server failed or refused to answer, which denies nothing (RFC 2308, 2)
+unfoldable pub refused_words : ℕ → List ℕ
+refused_words code = codes ": the server answered with " ++ code_words code
+
+-- or no record of the reply denies anything
+abbrev pub no_denial_words : List ℕ
+no_denial_words = codes ": no NSEC or NSEC3 record is in the reply"
+
+abbrev pub code_fault_words : ℕ → List ℕ
+code_fault_words code = if can_deny code then no_denial_words else refused_words code
+
+abbrev pub reply_fault_words : HeardValue → List ℕ
+reply_fault_words Fault = no_denial_words
+reply_fault_words (Records told empty) = code_fault_words told.code
+
+-- one of these, and that a query failed, if it did
+unfoldable pub missing_words : AskedValue → List AskedValue → Option AskRef → List ℕ
+missing_words top steps made = reply_fault_words top.reply ++ ask_fault_words steps made
 
 -- by the zone, or since nothing is there that denies it
 unfoldable pub excuse_words : Explained → Proof → AskedValue → List ℕ
 excuse_words g proof top =
     if is_insecure proof then zone_words g.steps (blamed_ask g.steps top.excuse)
-    else missing_words g.steps (blamed_ask g.steps top.excuse)
+    else missing_words top g.steps (blamed_ask g.steps top.excuse)
 
 -- by NSEC records, if there are some
 unfoldable pub plain_words : Explained → Proof → AskedValue → List ℕ

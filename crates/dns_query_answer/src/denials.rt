@@ -2,11 +2,12 @@
 ghost use Rattle.std.specs.Prelude.{◌≡◌, ◌==◌, ◌++◌, position, OnOk};
 ghost use Rattle.std.specs.List.{find, list_any};
 ghost use Rattle.std.specs.Option.{option_copied, option_map};
+ghost use Rattle.dns_evidence.specs.Trail.{heard_value};
 ghost use Rattle.dns_model.specs.declared.section.Section.TheVariants.{Authority};
 ghost use Rattle.dns_model.specs.Types.{type_nsec3};
 ghost use Rattle.dns_rules.specs.Delegations.{is_insecure as is_insecure_mark};
 ghost use Rattle.dns_rules.specs.Outcome.{answers_query as answers_asked};
-ghost use Rattle.dns_query_answer.specs.DenialWords.{absent_words, at_name_words, claim_words, ds_record_words, denial_blames as is_blamed_for, denial_reason, excuse_words, hashed_words, iterations_in as iterations_of, missing_words, no_name_words, no_record_words, no_type_words, plain_words, record_words, unfollowed_words, unsigned_zone_words, unsupported_words, zone_words};
+ghost use Rattle.dns_query_answer.specs.DenialWords.{absent_words, at_name_words, claim_words, code_fault_words, ds_record_words, denial_blames as is_blamed_for, denial_reason, excuse_words, hashed_words, iterations_in as iterations_of, missing_words, no_denial_words, no_name_words, no_record_words, no_type_words, plain_words, record_words, refused_words, reply_fault_words, unfollowed_words, unsigned_zone_words, unsupported_words, zone_words};
 ghost use Rattle.dns_query_answer.specs.PlaceValues.{explained_by, place_of};
 ghost use Rattle.dns_query_answer.specs.Places.{causes_of, heard_section, place_by};
 
@@ -14,8 +15,8 @@ use crate::cause_words::push_unsigned;
 use crate::following::{blamed_ask, is_denial_type, push_ask_fault};
 use crate::places::{Context, Place, place_at, section_of};
 use crate::reasons::{push_next, push_reason};
-use crate::words::{push_name, push_text};
-use dns_evidence::{Asked, JudgedSet};
+use crate::words::{push_code, push_name, push_text};
+use dns_evidence::{Asked, JudgedSet, Reply};
 use dns_model::{AskRef, Proof, Section};
 use dns_rdata::Nsec3;
 use dns_record::{Name, NoMemory, Query, Record, RecordType, ResponseCode};
@@ -195,11 +196,54 @@ fn push_zone(into: &mut Vec<u8>, steps: &[Asked], made: Option<AskRef>) -> Resul
     }
 }
 
-// Appends that no record denies anything, and that a query failed, if it did.
-fn push_missing(into: &mut Vec<u8>, steps: &[Asked], made: Option<AskRef>) -> Result<(), NoMemory>
-    ensures { OnOk result (into.new.items ≡ into.old.items ++ missing_words steps.now made) }
+// Appends that the server failed or refused to answer.
+#[tactic(auto, unfolding(crate::specs::DenialWords::refused_words))]
+fn push_refused(into: &mut Vec<u8>, code: ResponseCode) -> Result<(), NoMemory>
+    ensures { OnOk result (into.new.items ≡ into.old.items ++ refused_words code.0) }
 {
-    push_text(into, b": no NSEC or NSEC3 record is in the reply")?;
+    push_text(into, b": the server answered with ")?;
+    push_code(into, code)
+}
+
+// Appends that no record of a reply denies anything.
+fn push_no_denial(into: &mut Vec<u8>) -> Result<(), NoMemory>
+    ensures { OnOk result (into.new.items ≡ into.old.items ++ no_denial_words) }
+{
+    push_text(into, b": no NSEC or NSEC3 record is in the reply")
+}
+
+// Appends one of the two, by the reply's code.
+fn push_code_fault(into: &mut Vec<u8>, code: ResponseCode) -> Result<(), NoMemory>
+    ensures { OnOk result (into.new.items ≡ into.old.items ++ code_fault_words code.0) }
+{
+    if code.can_deny() {
+        push_no_denial(into)
+    } else {
+        push_refused(into, code)
+    }
+}
+
+// Appends why a reply denies nothing.
+fn push_reply_fault(into: &mut Vec<u8>, reply: &Reply) -> Result<(), NoMemory>
+    ensures { OnOk result (into.new.items ≡ into.old.items ++ reply_fault_words (heard_value reply.now)) }
+{
+    match reply {
+        Reply::Told(told) => push_code_fault(into, told.code),
+        Reply::Fault => push_no_denial(into),
+    }
+}
+
+// Appends that nothing is denied, and that a query failed, if it did.
+#[tactic(auto, unfolding(crate::specs::DenialWords::missing_words))]
+fn push_missing(
+    into: &mut Vec<u8>,
+    top: &Asked,
+    steps: &[Asked],
+    made: Option<AskRef>,
+) -> Result<(), NoMemory>
+    ensures { OnOk result (into.new.items ≡ into.old.items ++ missing_words top.now steps.now made) }
+{
+    push_reply_fault(into, &top.reply)?;
     push_ask_fault(into, steps, made)
 }
 
@@ -217,7 +261,7 @@ fn push_excuse(
     if proof == Proof::Insecure {
         push_zone(into, context.steps, made)
     } else {
-        push_missing(into, context.steps, made)
+        push_missing(into, top, context.steps, made)
     }
 }
 

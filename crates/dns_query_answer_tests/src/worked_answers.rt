@@ -76,6 +76,12 @@ const ROWS: &[Row] = &[
         text: b"Bogus: it isn't shown that there is no NS record at .: no NSEC or NSEC3 record is in the reply\n",
     },
     Row {
+        name: "explained-refused",
+        session: b"dns-session 1\nmoment 1000\nalgorithms 13\nanchor . 13 aabb\naccept 13 aabb 00020d0000000e10000007d000000384aec900000002000100000e100003016100 c0de\nquery . NS\nreply . NS 0000840500010000000000000000020001\nreply . DNSKEY 0000840000010001000000000000300001000030000100000e1000060101030daabb\nend\n",
+        status: 3,
+        text: b"Bogus: it isn't shown that there is no NS record at .: the server answered with REFUSED\n",
+    },
+    Row {
         name: "explained-second-after-the-last",
         session: b"dns-session 1\nmoment 2001\nalgorithms 13\nanchor . 13 aabb\naccept 13 aabb 00020d0000000e10000007d000000384aec900000002000100000e100003016100 c0de\nquery . NS\nreply . NS 0000840000010002000000000000020001000002000100000e10000301610000002e000100000e10001500020d0000000e10000007d000000384aec900c0de\nreply . DNSKEY 0000840000010001000000000000300001000030000100000e1000060101030daabb\nend\n",
         status: 3,

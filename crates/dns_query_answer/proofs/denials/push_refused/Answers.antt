@@ -1,0 +1,11 @@
+use Rattle.std.specs.Prelude.{codes}
+use Rattle.dns_query_answer.specs.DenialWords.{refused_words}
+use Rattle.dns_query_answer.specs.SentenceWords.{code_words}
+use Rattle.dns_query_answer.proofs.PushLemmas.{pushed}
+use Rattle.dns_query_answer.proofs.denials.push_refused.Goals as goal
+
+pub returns : goal.returns
+unfolding refused_words
+returns c =
+    pushed c.push_code.result c.args.into.now.items c.push_text.new.into.items c.push_code.new.into.items
+    (codes ": the server answered with ") (code_words c.args.code.0) c.in_ok-push_text.ensures c.push_code.ensures
