@@ -1,6 +1,6 @@
 -- What is found of a judged set has its mark and the signature that decided, and its cause is that of the row that
 -- holds.
-use Rattle.std.proofs.Common.{◌≡◌, ℕ, Bool, true, false, ◌||◌, List, Option, None, Some, Ok, Err, is_some, if◌then◌else◌, refl, sym, ap, ◌∙◌}
+use Rattle.std.proofs.Common.{◌≡◌, ℕ, Bool, true, false, ◌||◌, List, Option, None, Some, Ok, Err, is_some, if◌then◌else◌, refl}
 use Rattle.std.specs.Option.{option_map, option_map_or}
 use Rattle.std.specs.List.{filter, find, list_any}
 use Rattle.dns_model.specs.declared.proof.Proof.{Proof}
