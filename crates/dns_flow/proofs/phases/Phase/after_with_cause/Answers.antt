@@ -19,6 +19,6 @@ returns-in_ok-cause-in-AtZone-clause-cause g c =
     c.in_ok-cause-in-AtZone.ensures
     ∙ ap (λ row. sought_cause at.seeker at.class.0 at.zone row cause) c.in_ok-row-in-AtZone.ensures
     ∙ ap (λ o. sought_cause at.seeker at.class.0 at.zone (row_of (zone_verdict j.answers at.class.0 at.zone (option_map bare o))) cause)
-        c.into_answer-in-AtZone.ensures
+    c.into_answer-in-AtZone.ensures
     ∙ sought j at.seeker at.class.0 at.zone got cause
     ∙ ap (λ p. cause_after j (phase_value p) got cause) (sym at.is)
