@@ -73,7 +73,7 @@ none_from p xs none = false_from_ne_true (list_any p xs) (λ any.
     let found = Any-from_list_any p xs any in
     both_ways (p found.1) (none found.1 (found.0, found.2, found.3)) found.4)
 
-all_from : {X : Type 0} (p : X → Bool) (xs : List X) → ((x : X) → Contains xs x → p x ≡ true) → list_all p xs ≡ true
+pub all_from : {X : Type 0} (p : X → Bool) (xs : List X) → ((x : X) → Contains xs x → p x ≡ true) → list_all p xs ≡ true
 all_from p [] all = refl
 all_from p (x ∷ xs) all =
     ap (λ b. b && list_all p xs) (all x (contains_first x xs))
@@ -91,7 +91,7 @@ both_true : (a b : Bool) → a ≡ true → b ≡ true → (a && b) ≡ true
 both_true true b h k = k
 both_true false b h k = cc
 
-all_at : {X : Type 0} (p : X → Bool) (xs : List X) (x : X) → list_all p xs ≡ true → (i : ℕ) → i < length xs
+pub all_at : {X : Type 0} (p : X → Bool) (xs : List X) (x : X) → list_all p xs ≡ true → (i : ℕ) → i < length xs
     → get_or xs i x ≡ x → p x ≡ true
 all_at p [] x all i within is = absurd (omega (arith, within))
 all_at p (y ∷ xs) x all zero within is = sym (ap p is) ∙ left_true (p y) (list_all p xs) all
@@ -147,7 +147,7 @@ not_true : (a : Bool) → not a ≡ true → a ≡ false
 not_true true h = cc
 not_true false h = refl
 
-not_both : (a b : Bool) → not (a && b) ≡ true → a ≡ true → b ≡ false
+pub not_both : (a b : Bool) → not (a && b) ≡ true → a ≡ true → b ≡ false
 not_both true b h k = not_true b h
 not_both false b h k = cc
 
@@ -161,7 +161,7 @@ tied_by Equal h k = refl
 tied_by Greater h k = cc
 
 -- two names of which neither comes first
-tied : (x y : Labels) → before x y ≡ false → before y x ≡ false → name_eq x y ≡ true
+pub tied : (x y : Labels) → before x y ≡ false → before y x ≡ false → name_eq x y ≡ true
 tied x y h k =
     name_ties x y ∙ tied_by (name_cmp x y) h (sym (ap is_lt (name_total.antisymm y x)) ∙ k)
 

@@ -83,7 +83,7 @@ contains_filter test (y ∷ xs) (suc i) x within is pass =
       | false ↦ more
     ]
 
-contains_map : (f : ℕ → ℕ) (xs : List ℕ) (i x : ℕ) → i < length xs → get_or xs i x ≡ x → Contains (map f xs) (f x)
+pub contains_map : (f : ℕ → ℕ) (xs : List ℕ) (i x : ℕ) → i < length xs → get_or xs i x ≡ x → Contains (map f xs) (f x)
 contains_map f xs i x within is = (
   i,
   omega (arith, within, length-map xs f),
@@ -96,7 +96,7 @@ contains_map f xs i x within is = (
     mapped (y ∷ xs) zero within = refl
     mapped (y ∷ xs) (suc i) within = mapped xs i (omega (arith, within))
 
-nth_map : (f : ℕ → ℕ) (xs : List ℕ) (i : ℕ) → i < length xs → nth (map f xs) i ≡ f (nth xs i)
+pub nth_map : (f : ℕ → ℕ) (xs : List ℕ) (i : ℕ) → i < length xs → nth (map f xs) i ≡ f (nth xs i)
 nth_map f [] i within = absurd (omega (arith, within))
 nth_map f (y ∷ xs) zero within = refl
 nth_map f (y ∷ xs) (suc i) within = nth_map f xs i (omega (arith, within))
@@ -228,7 +228,7 @@ staying_latest kept order gone flags placed marked =
 
 -- ---- the order of what stays
 
-set_within : (flags : List Bool) (i : ℕ) → get_or flags i false ≡ true → i < length flags
+pub set_within : (flags : List Bool) (i : ℕ) → get_or flags i false ≡ true → i < length flags
 set_within [] i set_ = cc
 set_within (flag ∷ flags) zero set_ = omega arith
 set_within (flag ∷ flags) (suc i) set_ = let lt = set_within flags i set_ in omega (arith, lt)

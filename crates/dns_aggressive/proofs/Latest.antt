@@ -97,7 +97,7 @@ gap_apart kept order low high position gap k within side =
 
 -- ---- the latest of the first ones
 
-latest_last : (kept : List KeptValue) (position : ℕ) → IsLatest kept (position + 1) position
+pub latest_last : (kept : List KeptValue) (position : ℕ) → IsLatest kept (position + 1) position
 latest_last kept position = record { each = λ later lt within. absurd (omega (arith, lt, within)) }
 
 latest_more : (kept : List KeptValue) (position k : ℕ) → IsLatest kept position k
@@ -111,7 +111,7 @@ latest_more kept position k h apart = record {
       (cases_lt later position);
 }
 
-latest_less : (kept : List KeptValue) (position k : ℕ) → IsLatest kept (position + 1) k → IsLatest kept position k
+pub latest_less : (kept : List KeptValue) (position k : ℕ) → IsLatest kept (position + 1) k → IsLatest kept position k
 latest_less kept position k h = record { each = λ later lt within. h.each later lt (omega (arith, within)) }
 
 -- ---- the position takes the place of another one
@@ -206,13 +206,13 @@ module _ (kept : List KeptValue) (order : List ℕ) (number position : ℕ) wher
 
   -- ---- the position is put in
 
-  in_below : (k : ℕ) → number ≤ length order → k < number → nth (insert order number position) k ≡ nth order k
+  pub in_below : (k : ℕ) → number ≤ length order → k < number → nth (insert order number position) k ≡ nth order k
   in_below k le lt = get_or-insert_below order number position 0 k lt le
 
-  in_here : number ≤ length order → nth (insert order number position) number ≡ position
+  pub in_here : number ≤ length order → nth (insert order number position) number ≡ position
   in_here le = get_or-insert_at order number position 0 le
 
-  in_above : (k : ℕ) → number ≤ length order → number < k → nth (insert order number position) k ≡ nth order (k - 1)
+  pub in_above : (k : ℕ) → number ≤ length order → number < k → nth (insert order number position) k ≡ nth order (k - 1)
   in_above k le lt =
       let e : k ≡ k - 1 + 1 = omega (arith, lt) in
       ap (λ (n : ℕ). nth (insert order number position) n) e

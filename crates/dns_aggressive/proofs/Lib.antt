@@ -7,6 +7,10 @@ pub mod Latest
 pub mod Compaction
 pub mod Agreeing
 pub mod ZoneRuns
+pub mod Expiring
+pub mod ExpiryFinds
+pub mod Reaches
+pub mod NsecSearch
 pub mod Ascending
 pub mod Chains
 pub mod Groups

@@ -1,5 +1,5 @@
 -- The live records of a zone, group by group.
-use Rattle.std.proofs.Common.{◌≡◌, ℕ, ◌-◌, ◌^◌, min, Bool, true, false, cond, ◌&&◌, List, [], ◌∷◌, ◌++◌, map, Option, None, Some, refl, sym, ap, ◌∙◌, arith}
+use Rattle.std.proofs.Common.{◌≡◌, ℕ, Bool, true, false, cond, ◌&&◌, List, [], ◌∷◌, map, Option, None, Some, refl, sym, ap, ◌∙◌}
 use Rattle.std.specs.Borrow.{Bor}
 use Rattle.std.specs.List.{filter, filter_map}
 use Rattle.std.proofs.lemmas.List.{take-map}
@@ -9,7 +9,7 @@ use Rattle.dns_rules.specs.Nsec3Verdict.{Parameters, parameters_in}
 use Rattle.dns_aggressive.specs.declared.kept.KeptRecord.{KeptRecord}
 use Rattle.dns_aggressive.specs.declared.kept.KeptRecord.TheVariants.{Nsec, Nsec3}
 use Rattle.dns_aggressive.specs.Records.{KeptValue, way_of}
-use Rattle.dns_aggressive.specs.Denials.{at_most, group, hashed_ways, distinct, is_live_in, is_of_way, nsecs_in, nsec3s_in, same_way, seconds_left}
+use Rattle.dns_aggressive.specs.Denials.{at_most, group, hashed_ways, distinct, is_live_in, is_of_way, nsecs_in, nsec3s_in, same_way}
 use Rattle.dns_aggressive.specs.Groups.{lent, of_way}
 
 -- ---- NSEC
@@ -75,21 +75,6 @@ pub ways_of_live : (now : ℕ) (zone : Labels) (kept : List KeptValue)
     → distinct (map parameters_in (live now zone kept)) ≡ hashed_ways now zone kept
 ways_of_live now zone kept = ap distinct (ways_of (filter (is_live_in now zone) kept))
 
--- ---- seconds
-
-abbrev most : ℕ
-most = 2 ^ 32 - 1
-
-pub left-append : (now : ℕ) (xs ys : List KeptValue)
-    → seconds_left now (xs ++ ys) ≡ min (seconds_left now xs) (seconds_left now ys)
-unfolding seconds_left
-left-append now [] ys = sym (least ys)
-  where
-    least : (ys : List KeptValue) → min most (seconds_left now ys) ≡ seconds_left now ys
-    least [] = refl
-    least (y ∷ ys) = let h = least ys in omega (arith, h)
-left-append now (x ∷ xs) ys = let h = left-append now xs ys in omega (arith, h)
-
 -- ---- the ways that are tried
 
 front_map : {X Y : Type 0} (f : X → Y) (most : Option ℕ) (xs : List X)
@@ -106,20 +91,3 @@ pub ways_of_firsts : (most : Option ℕ) (firsts : List (Bor OwnedNsec3)) (list 
 ways_of_firsts most firsts list now zone kept heads is =
     ap (map parameters_in) (front_map (λ n. n.now) most firsts) ∙ front_map parameters_in most (lent firsts)
     ∙ ap (at_most most) (heads ∙ ap (λ ns. distinct (map parameters_in ns)) is ∙ ways_of_live now zone kept)
-
--- ---- the seconds of one record
-
-pub seconds_none : (now : ℕ) → 2 ^ 32 - 1 ≡ seconds_left now []
-unfolding seconds_left
-seconds_none now = refl
-
-pub left_none : (now : ℕ) (b : Bool) (k : KeptValue) → b ≡ false → 2 ^ 32 - 1 ≡ seconds_left now (cond b (k ∷ []) [])
-unfolding seconds_left
-left_none now true k h = cc
-left_none now false k h = refl
-
-pub left_one : (now : ℕ) (b : Bool) (k : KeptValue) → b ≡ true
-    → min (k.expires - now) (2 ^ 32 - 1) ≡ seconds_left now (cond b (k ∷ []) [])
-unfolding seconds_left
-left_one now true k h = refl
-left_one now false k h = cc

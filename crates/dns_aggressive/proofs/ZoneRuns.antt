@@ -1,19 +1,20 @@
 -- The records of a zone: where they stand, and that nothing else of the list matters for it.
-use Rattle.std.proofs.Common.{◌≡◌, ℕ, zero, suc, ◌+◌, ◌-◌, ◌^◌, ◌<◌, ◌≤◌, min, Bool, true, false, cond, ◌&&◌, List, [], ◌∷◌, length, take, get_or, Option, None, Some, is_some, refl, sym, ap, ◌∙◌, subst, ⊎_elim, arith}
+use Rattle.std.proofs.Common.{◌≡◌, ℕ, zero, suc, ◌+◌, ◌-◌, ◌<◌, ◌≤◌, Bool, true, false, cond, ◌&&◌, List, [], ◌∷◌, length, take, get_or, Option, None, Some, is_some, refl, sym, ap, ◌∙◌, subst, ⊎_elim, arith}
 use Rattle.std.specs.Prelude.{nat_le, slice_range}
 use Rattle.std.specs.List.{Contains, cons_option, filter, filter_map, list_any}
 use Rattle.std.specs.Option.{option_and_then, option_map, option_map_or}
-use Rattle.std.specs.Ordering.{is_eq, is_le, is_lt, ordering_then}
+use Rattle.std.specs.Cmp.Lexicographic.{slice_cmp}
+use Rattle.std.specs.Ordering.{is_eq, is_le, is_lt, nat_cmp, ordering_then}
 use Rattle.std.specs.declared.cmp.Ordering.{Ordering}
 use Rattle.std.specs.declared.cmp.Ordering.TheVariants.{Less, Equal, Greater}
 use Rattle.std.proofs.lemmas.Bool.{both_ways, cases_lt, false_from_ne_true, le-leb, leb-true}
 use Rattle.std.proofs.lemmas.List.{get_or_default, get_or-drop, length-drop}
 use Rattle.std.proofs.lemmas.List.Edits.{get_or-between, length-between}
-use Rattle.std.proofs.lemmas.List.Folds.{Any-from_list_any}
+use Rattle.std.proofs.lemmas.List.Folds.{list_any_none}
 use Rattle.dns_model.specs.declared.answered.Answered.TheVariants.{No}
 use Rattle.dns_model.specs.declared.proof.Proof.{Proof}
 use Rattle.dns_model.specs.Names.{Labels, before, name_cmp, name_eq, star}
-use Rattle.dns_model.specs.Owned.{OwnedNsec}
+use Rattle.dns_model.specs.Owned.{OwnedNsec, OwnedNsec3}
 use Rattle.dns_model.specs.Records.{Question}
 use Rattle.dns_model.specs.SoundAnswers.{is_secure}
 use Rattle.dns_model.specs.Types.{code_no_error, code_nx_domain}
@@ -27,13 +28,13 @@ use Rattle.dns_aggressive.specs.declared.kept.KeptRecord.TheVariants.{Nsec, Nsec
 use Rattle.dns_aggressive.specs.declared.zone_run.ZoneRun.{ZoneRun}
 use Rattle.dns_aggressive.specs.Records.{KeptValue, is_live, nsec_of, nsec3_of, way_of}
 use Rattle.dns_aggressive.specs.Lists.{place_in, place_of, same_place}
-use Rattle.dns_aggressive.specs.Places.{record_cmp}
+use Rattle.dns_aggressive.specs.Places.{place_cmp, record_cmp}
 use Rattle.dns_aggressive.specs.Orders.{at, nowhere, nth, nth_of, AreInside, AreLatest, AreRising, IsFront, IsParted, IsPlaced}
-use Rattle.dns_aggressive.specs.Denials.{at_most, code_by, group, has_live, hashed_ways, distinct, is_in_group, is_live_in, is_of_way, nsecs_in, seconds_left, shown_code, verdict}
+use Rattle.dns_aggressive.specs.Denials.{at_most, code_by, group, hashed_ways, distinct, is_live_in, nsecs_in, seconds_left, shown_code, verdict}
 use Rattle.dns_aggressive.specs.Answers.{hashed_answer, named_answer}
-use Rattle.dns_aggressive.specs.ZoneRuns.{IsZoneRun, is_hashed, of_way_among, standing, standing_at, stands, stands_hashed}
+use Rattle.dns_aggressive.specs.ZoneRuns.{IsZoneRun, is_hashed, standing, standing_at, stands_hashed}
 use Rattle.dns_aggressive.specs.Agreeing.{AreAround, AreOwnedApart, ArePart}
-use Rattle.dns_aggressive.proofs.Orders.{front_if}
+use Rattle.dns_aggressive.proofs.Orders.{equal_from, front_if}
 use Rattle.dns_aggressive.proofs.LiveRecords.{nsecs_of_group}
 use Rattle.dns_aggressive.proofs.Agreeing.{any_from, verdict_same}
 
@@ -49,7 +50,7 @@ not_after Less a b c d h = refl
 not_after Equal a b c d h = refl
 not_after Greater a b c d h = cc
 
-zone_not_after : (one two : KeptValue) → record_cmp one two ≡ Less → is_le (name_cmp one.zone two.zone) ≡ true
+pub zone_not_after : (one two : KeptValue) → record_cmp one two ≡ Less → is_le (name_cmp one.zone two.zone) ≡ true
 zone_not_after one two h =
     ap (λ z. is_le (name_cmp z two.zone)) (sym (place_zone_in one.zone one.item))
     ∙ ap (λ z. is_le (name_cmp (place_of one).zone z)) (sym (place_zone_in two.zone two.item))
@@ -128,6 +129,26 @@ module _ (kept : List KeptValue) (order : List ℕ) (gone : ℕ) (zone : Labels)
         omega (arith, e, lt);
   }
 
+  pub run_rising : AreRising record_cmp kept run
+  run_rising = record {
+    each = λ i j lt within.
+        let long = length-between order low high to.within in
+        let end = to.within in
+        ap (λ (n : ℕ). record_cmp (at kept n) (nth_of kept run j)) (run_nth i (omega (arith, lt, within)))
+        ∙ ap (λ (n : ℕ). record_cmp (nth_of kept order (low + i)) (at kept n)) (run_nth j within)
+        ∙ placed.rising.each (low + i) (low + j) (omega (arith, lt)) (omega (arith, within, long, end));
+  }
+
+  pub run_among : (position : ℕ) → Contains run position → Contains order position
+  run_among position t =
+      let long = length-between order low high to.within in
+      let end = to.within in
+      let t_within = t.1 in (
+        low + t.0,
+        omega (arith, t_within, long, end),
+        sym (get_or-between order low high t.0 position (omega (arith, t_within, long))) ∙ t.2,
+      )
+
   pub run_only : (i : ℕ) → i < length run → name_eq (nth_of kept run i).zone zone ≡ true
   run_only i within =
       let long = length-between order low high to.within in
@@ -172,7 +193,7 @@ module _ (kept : List KeptValue) (order : List ℕ) (gone : ℕ) (zone : Labels)
 
 -- ---- what a list of some records contains
 
-fm_into : {X Y : Type 0} (f : X → Option Y) (xs : List X) (i : ℕ) (x : X) (y : Y) → i < length xs → get_or xs i x ≡ x
+pub fm_into : {X Y : Type 0} (f : X → Option Y) (xs : List X) (i : ℕ) (x : X) (y : Y) → i < length xs → get_or xs i x ≡ x
     → f x ≡ Some y → Contains (filter_map f xs) y
 fm_into f [] i x y within is gives = absurd (omega (arith, within))
 fm_into f (z ∷ xs) zero x y within is gives =
@@ -206,12 +227,12 @@ fm_step f z xs y (Some w) is zero within at_ more =
     record { source = z; there = (zero, omega arith, refl); gives = is ∙ ap Some at_ }
 fm_step f z xs y (Some w) is (suc i) within at_ more = from_more f z xs y (more i (omega (arith, within)) at_)
 
-fm_from : {X Y : Type 0} (f : X → Option Y) (xs : List X) (y : Y) (i : ℕ) → i < length (filter_map f xs)
+pub fm_from : {X Y : Type 0} (f : X → Option Y) (xs : List X) (y : Y) (i : ℕ) → i < length (filter_map f xs)
     → get_or (filter_map f xs) i y ≡ y → ComesFrom f xs y
 fm_from f [] y i within is = absurd (omega (arith, within))
 fm_from f (z ∷ xs) y i within is = fm_step f z xs y (f z) refl i within is (λ j w e. fm_from f xs y j w e)
 
-filter_into : {X : Type 0} (p : X → Bool) (xs : List X) (i : ℕ) (x : X) → i < length xs → get_or xs i x ≡ x
+pub filter_into : {X : Type 0} (p : X → Bool) (xs : List X) (i : ℕ) (x : X) → i < length xs → get_or xs i x ≡ x
     → p x ≡ true → Contains (filter p xs) x
 filter_into p [] i x within is pass = absurd (omega (arith, within))
 filter_into p (z ∷ xs) zero x within is pass =
@@ -241,7 +262,7 @@ filter_step p z xs x true is zero within at_ more =
     record { there = (zero, omega arith, at_); passes = sym (ap p at_) ∙ is }
 filter_step p z xs x true is (suc i) within at_ more = passes_more p z xs x (more i (omega (arith, within)) at_)
 
-filter_from : {X : Type 0} (p : X → Bool) (xs : List X) (x : X) (i : ℕ) → i < length (filter p xs)
+pub filter_from : {X : Type 0} (p : X → Bool) (xs : List X) (x : X) (i : ℕ) → i < length (filter p xs)
     → get_or (filter p xs) i x ≡ x → Passes p xs x
 filter_from p [] x i within is = absurd (omega (arith, within))
 filter_from p (z ∷ xs) x i within is = filter_step p z xs x (p z) refl i within is (λ j w e. filter_from p xs x j w e)
@@ -280,7 +301,7 @@ standing_step kept gone now position x true true h k is = record { after = leb-t
 standing_step kept gone now position x true false h k is = cc
 standing_step kept gone now position x false b h k is = cc
 
-standing_from : (kept : List KeptValue) (gone now position : ℕ) (x : KeptValue)
+pub standing_from : (kept : List KeptValue) (gone now position : ℕ) (x : KeptValue)
     → standing_at kept gone now position ≡ Some x → IsStanding kept gone now position x
 standing_from kept gone now position x h =
     standing_step kept gone now position x (nat_le gone position) (is_live now (at kept position)) refl refl h
@@ -354,34 +375,6 @@ module _ (list : List KeptValue) (zone : Labels) (run : ZoneRun) (now : ℕ) (h 
       let among = h.each (run.gone + there.0) (omega arith) within (ap (λ k. name_eq k.zone zone) is ∙ zone_is) in
       fm_into (standing_at run.kept.now run.gone now) run.positions.now among.0 (run.gone + there.0) x among.1 among.2
       (standing_into run.kept.now run.gone now (run.gone + there.0) x (omega arith) is live)
-
-  -- ---- whether a record is live
-
-  any_some : (o : Option KeptValue) → is_some o ≡ true → (x : KeptValue) × (o ≡ Some x)
-  any_some None some = cc
-  any_some (Some x) some = (x, refl)
-
-  same_bool : (a b : Bool) → (a ≡ true → b ≡ true) → (b ≡ true → a ≡ true) → a ≡ b
-  same_bool true b there back = sym (there refl)
-  same_bool false true there back = back refl
-  same_bool false false there back = refl
-
-  pub has_live_same : list_any (stands run now) run.positions.now ≡ has_live now list zone
-  has_live_same = same_bool (list_any (stands run now) run.positions.now) (has_live now list zone)
-      (λ any.
-      let found = Any-from_list_any (stands run now) run.positions.now any in
-      let some = any_some (standing_at run.kept.now run.gone now found.1) found.4 in
-      let t = fm_into (standing_at run.kept.now run.gone now) run.positions.now found.0 found.1 some.0 found.2
-      found.3 some.1 in
-      let z = live_from some.0 t in
-      let p = filter_from (is_live_in now zone) list some.0 z.0 z.1 z.2 in
-      any_from (is_live_in now zone) list some.0 p.there p.passes)
-      (λ any.
-      let found = Any-from_list_any (is_live_in now zone) list any in
-      let z = filter_into (is_live_in now zone) list found.0 found.1 found.2 found.3 found.4 in
-      let t = live_into found.1 z in
-      let c = fm_from (standing_at run.kept.now run.gone now) run.positions.now found.1 t.0 t.1 t.2 in
-      any_from (stands run now) run.positions.now c.source c.there (ap is_some c.gives))
 
   -- ---- NSEC records
 
@@ -481,65 +474,6 @@ module _ (list : List KeptValue) (zone : Labels) (run : ZoneRun) (now : ℕ) (h 
       (nsecs_around query.owner) (λ above ends. nsecs_around (star above)) code
       ∙ ap (nsec_verdict query zone code No) (nsecs_of_group now zone list))
 
-  -- ---- seconds
-
-  seconds_most : (xs : List KeptValue) → seconds_left now xs ≤ 2 ^ 32 - 1
-  unfolding seconds_left
-  seconds_most [] = omega arith
-  seconds_most (x ∷ xs) = let le = seconds_most xs in omega (arith, le)
-
-  seconds_upto : (xs : List KeptValue) (x : KeptValue) (i : ℕ) → i < length xs → get_or xs i x ≡ x
-      → seconds_left now xs ≤ x.expires - now
-  unfolding seconds_left
-  seconds_upto [] x i within is = absurd (omega (arith, within))
-  seconds_upto (y ∷ xs) x zero within is =
-      subst (λ k. min (y.expires - now) (seconds_left now xs) ≤ k.expires - now) is (omega arith)
-  seconds_upto (y ∷ xs) x (suc i) within is =
-      let le = seconds_upto xs x i (omega (arith, within)) is in omega (arith, le)
-
-  seconds_from : (xs : List KeptValue) (s : ℕ) → s ≤ 2 ^ 32 - 1
-      → ((x : KeptValue) → Contains xs x → s ≤ x.expires - now) → s ≤ seconds_left now xs
-  unfolding seconds_left
-  seconds_from [] s most each_ = most
-  seconds_from (y ∷ xs) s most each_ =
-      let le = seconds_from xs s most (λ x t. each_ x (suc t.0, (let lt = t.1 in omega (arith, lt)), t.2)) in
-      let here = each_ y (zero, omega arith, refl) in
-      omega (arith, le, here)
-
-  seconds_same : (xs ys : List KeptValue) → ArePart xs ys → ArePart ys xs → seconds_left now xs ≡ seconds_left now ys
-  seconds_same xs ys there back =
-      let le = seconds_from ys (seconds_left now xs) (seconds_most xs)
-      (λ y t. let b = back.each y t in seconds_upto xs y b.0 b.1 b.2) in
-      let ge = seconds_from xs (seconds_left now ys) (seconds_most ys)
-      (λ x t. let b = there.each x t in seconds_upto ys x b.0 b.1 b.2) in
-      omega (arith, le, ge)
-
-  -- those that all records of a group have left
-  pub seconds_group : (way : Option Parameters)
-      → seconds_left now (of_way_among way run_live) ≡ seconds_left now (group now zone list way)
-  seconds_group way =
-      let test : KeptValue → Bool = λ k. is_of_way way (way_of k.item) in
-      seconds_same (of_way_among way run_live) (group now zone list way)
-      (record {
-        each = λ x t.
-            let p = filter_from (λ k. is_of_way way (way_of k.item)) run_live x t.0 t.1 t.2 in
-            let z = live_from x p.there in
-            let q = filter_from (is_live_in now zone) list x z.0 z.1 z.2 in
-            let there = q.there in
-            filter_into (is_in_group now zone way) list there.0 x there.1 there.2
-            (both_true (is_live_in now zone x) (is_of_way way (way_of x.item)) q.passes p.passes);
-      })
-      (record {
-        each = λ x t.
-            let p = filter_from (is_in_group now zone way) list x t.0 t.1 t.2 in
-            let there = p.there in
-            let z = filter_into (is_live_in now zone) list there.0 x there.1 there.2
-            (left_true (is_live_in now zone x) (is_of_way way (way_of x.item)) p.passes) in
-            let r = live_into x z in
-            filter_into (λ k. is_of_way way (way_of k.item)) run_live r.0 x r.1 r.2
-            (right_true (is_live_in now zone x) (is_of_way way (way_of x.item)) p.passes);
-      })
-
   -- ---- NSEC3 records
 
   hashed_by : (k : KeptValue) (item : KeptRecord) → is_some (cond (is_some (nsec3_of item)) (Some true) None) ≡ false
@@ -570,6 +504,56 @@ module _ (list : List KeptValue) (zone : Labels) (run : ZoneRun) (now : ℕ) (h 
       at_most_none : (most : Option ℕ) → at_most {X = Parameters} most [] ≡ []
       at_most_none None = refl
       at_most_none (Some n) = take_none n
+
+-- ---- no NSEC3 record stands in front of an NSEC record of its zone
+
+pub hashed_behind : (z w : Labels) (n : OwnedNsec3) (m : OwnedNsec) → name_cmp z w ≡ Equal
+    → place_cmp (place_in z (Nsec3 n)) (place_in w (Nsec m)) ≡ Greater
+hashed_behind z w n m same =
+    ap (λ (o : Ordering). ordering_then (ordering_then (ordering_then (ordering_then o (nat_cmp 50 47))
+    (nat_cmp n.fields.iterations 0)) (slice_cmp nat_cmp n.fields.salt [])) (name_cmp n.owner m.owner)) same
+
+not_hashed_by : (zone z w : Labels) (item last : KeptRecord) → name_eq z zone ≡ true → name_eq w zone ≡ true
+    → place_cmp (place_in z item) (place_in w last) ≡ Less → false ≡ is_some (nsec3_of last) → is_some (nsec3_of item) ≡ false
+not_hashed_by zone z w (Nsec n) last zone_is last_zone less plain = refl
+not_hashed_by zone z w (Nsec3 n) (Nsec m) zone_is last_zone less plain =
+    let zones : name_eq z w ≡ true = name_equiv.congr z zone w zone_is ∙ name_equiv.symm zone w ∙ last_zone in
+    let greater = hashed_behind z w n m (equal_from (name_cmp z w) (sym (name_ties z w) ∙ zones)) in
+    cc
+not_hashed_by zone z w (Nsec3 n) (Nsec3 m) zone_is last_zone less plain = cc
+
+stands_none : (o : Option KeptValue) (x : KeptValue) → ((y : KeptValue) → o ≡ Some y → y ≡ x)
+    → is_some (nsec3_of x.item) ≡ false → is_some (option_and_then is_hashed o) ≡ false
+stands_none None x is h = refl
+stands_none (Some y) x is h =
+    ap (λ (k : KeptValue). is_some (is_hashed k)) (is y refl)
+    ∙ ap (λ (b : Bool). is_some (cond b (Some true) None)) h
+
+-- where the last record of a zone is an NSEC record, all are
+pub no_hashed : (list : List KeptValue) (zone : Labels) (run : ZoneRun) (now : ℕ) → IsZoneRun list zone run → (n : ℕ)
+    → length run.positions.now ≡ n + 1
+    → false ≡ is_some (nsec3_of (nth_of run.kept.now run.positions.now n).item)
+    → list_any (stands_hashed run now) run.positions.now ≡ false
+no_hashed list zone run now h n long plain =
+    list_any_none (stands_hashed run now) run.positions.now
+    (λ k d within.
+    ap (stands_hashed run now) (get_or_default run.positions.now k d 0 within)
+    ∙ stands_none (standing_at run.kept.now run.gone now (nth run.positions.now k)) (nth_of run.kept.now run.positions.now k)
+    (λ y is. sym (standing_from run.kept.now run.gone now (nth run.positions.now k) y is).is)
+    (⊎_elim (λ (lt : k < n).
+    not_hashed_by zone (nth_of run.kept.now run.positions.now k).zone (nth_of run.kept.now run.positions.now n).zone
+    (nth_of run.kept.now run.positions.now k).item (nth_of run.kept.now run.positions.now n).item
+    (h.only k within) (h.only n (omega (arith, long)))
+    (h.rising.each k n lt (omega (arith, long))) plain)
+    (λ (ge : n ≤ k).
+    let same : k ≡ n = omega (arith, ge, within, long) in
+    ap (λ (i : ℕ). is_some (nsec3_of (nth_of run.kept.now run.positions.now i).item)) same ∙ sym plain)
+    (cases_lt k n)))
+
+pub none_hashed : (run : ZoneRun) (now : ℕ) → length run.positions.now ≡ 0
+    → list_any (stands_hashed run now) run.positions.now ≡ false
+none_hashed run now long =
+    list_any_none (stands_hashed run now) run.positions.now (λ k d within. absurd (omega (arith, long, within)))
 
 -- ---- the group of NSEC records decides, or not
 

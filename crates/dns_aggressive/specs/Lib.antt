@@ -12,3 +12,6 @@ pub mod Orders
 pub mod Compaction
 pub mod Agreeing
 pub mod ZoneRuns
+pub mod Expiring
+pub mod Reaching
+pub mod KeptLists

@@ -66,9 +66,3 @@ pub record IsPlaced (kept : List KeptValue) (count : ℕ) (order : List ℕ) : T
 -- from this position on each record is the latest of the first ones
 pub record AreLatest (kept : List KeptValue) (from count : ℕ) : Type 0 where
   pub each : (position : ℕ) → from ≤ position → position < count → IsLatest kept count position
-
--- records, of which the first ones are gone, and all in order of their places
-pub record IsKeptList (kept : List KeptValue) (gone : ℕ) (order : List ℕ) : Type 0 where
-  pub within : gone ≤ length kept
-  pub latest : AreLatest kept gone (length kept)
-  pub placed : IsPlaced kept (length kept) order

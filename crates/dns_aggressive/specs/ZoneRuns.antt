@@ -1,14 +1,13 @@
 -- For private functions alone: the records of one zone, as a run of positions in order of places.
 use Rattle.std.specs.Prelude.{◌≡◌, ℕ, ◌<◌, ◌≤◌, Bool, true, ◌&&◌, nat_le, List, length, drop, Option, None, Some, is_some, if◌then◌else◌}
 use Rattle.std.specs.Option.{option_and_then}
-use Rattle.std.specs.List.{Contains, filter, filter_map}
+use Rattle.std.specs.List.{Contains, filter_map}
 use Rattle.std.specs.List.Sorted.{IsStrictlyIncreasing}
 use Rattle.dns_model.specs.Names.{Labels, name_eq}
-use Rattle.dns_rules.specs.Nsec3Verdict.{Parameters}
 use Rattle.dns_aggressive.specs.declared.zone_run.ZoneRun.{ZoneRun}
-use Rattle.dns_aggressive.specs.Records.{KeptValue, is_live, nsec3_of, way_of}
-use Rattle.dns_aggressive.specs.Denials.{is_of_way}
-use Rattle.dns_aggressive.specs.Orders.{at, nth_of, AreInside, AreLatest}
+use Rattle.dns_aggressive.specs.Records.{KeptValue, is_live, nsec3_of}
+use Rattle.dns_aggressive.specs.Places.{record_cmp}
+use Rattle.dns_aggressive.specs.Orders.{at, nth_of, AreInside, AreLatest, AreRising}
 
 -- the record at a position, where it isn't gone and still used
 abbrev pub standing_at : List KeptValue → ℕ → ℕ → ℕ → Option KeptValue
@@ -22,14 +21,8 @@ standing run now positions = filter_map (standing_at run.kept.now run.gone now) 
 abbrev pub is_hashed : KeptValue → Option Bool
 is_hashed kept = if is_some (nsec3_of kept.item) then Some true else None
 
-abbrev pub stands : ZoneRun → ℕ → ℕ → Bool
-stands run now position = is_some (standing_at run.kept.now run.gone now position)
-
 abbrev pub stands_hashed : ZoneRun → ℕ → ℕ → Bool
 stands_hashed run now position = is_some (option_and_then is_hashed (standing_at run.kept.now run.gone now position))
-
-abbrev pub of_way_among : Option Parameters → List KeptValue → List KeptValue
-of_way_among way kept = filter (λ k. is_of_way way (way_of k.item)) kept
 
 -- the same positions in ascending order, each once
 pub record IsAscending (positions ascending : List ℕ) : Type 0 where
@@ -37,11 +30,12 @@ pub record IsAscending (positions ascending : List ℕ) : Type 0 where
   pub there : (position : ℕ) → Contains positions position → Contains ascending position
   pub only : (position : ℕ) → Contains ascending position → Contains positions position
 
--- the run has the positions of the zone's records that aren't gone, and those of no other zone
+-- the run has the positions of the zone's records that aren't gone, in order of places, and those of no other zone
 pub record IsZoneRun (list : List KeptValue) (zone : Labels) (run : ZoneRun) : Type 0 where
   pub is : drop run.gone run.kept.now ≡ list
   pub latest : AreLatest run.kept.now run.gone (length run.kept.now)
   pub inside : AreInside (length run.kept.now) run.positions.now
+  pub rising : AreRising record_cmp run.kept.now run.positions.now
   pub only : (i : ℕ) → i < length run.positions.now
       → name_eq (nth_of run.kept.now run.positions.now i).zone zone ≡ true
   pub each : (position : ℕ) → run.gone ≤ position → position < length run.kept.now

@@ -3,9 +3,13 @@ ghost use Rattle.std.specs.Prelude.{◌≡◌, ◌+◌, ◌<◌, ◌≤◌, ◌^
 ghost use Rattle.std.specs.List.{filter};
 ghost use Rattle.std.specs.Vec.{vec_capacity};
 ghost use Rattle.dns_aggressive.specs.Lists.{latest};
-ghost use Rattle.dns_aggressive.specs.Orders.{AreInside, AreLatest, IsKeptList, IsPlaced, nth};
+ghost use Rattle.dns_aggressive.specs.Orders.{AreInside, AreLatest, IsPlaced, nth};
+ghost use Rattle.dns_aggressive.specs.Expiring.{AreExpiries, HaveAll};
+ghost use Rattle.dns_aggressive.specs.Reaching.{AreReaching};
+ghost use Rattle.dns_aggressive.specs.KeptLists.{IsKeptList};
 ghost use Rattle.dns_aggressive.specs.Compaction.{HasRoom, AreMarked, AreCounted, flag_at};
 
+use crate::expiries::Expiries;
 use crate::kept::Kept;
 use crate::staying::keep_flagged;
 use dns_record::NoMemory;
@@ -39,6 +43,8 @@ impl Room {
 pub(crate) fn settle(
     kept: &mut Vec<Kept>,
     by_place: &mut Vec<usize>,
+    expiries: &mut Expiries,
+    reaching: &mut Vec<usize>,
     gone: usize,
     replaced: bool,
     room: Room,
@@ -46,28 +52,47 @@ pub(crate) fn settle(
     requires within { gone ≤ length kept.old.items }
     requires latest { replaced ≡ false → AreLatest kept.old.items gone (length kept.old.items) }
     requires placed { IsPlaced kept.old.items (length kept.old.items) by_place.old.items }
+    requires expiring { AreExpiries kept.old.items (length kept.old.items) expiries.old }
+    requires all { HaveAll gone (length kept.old.items) expiries.old }
+    requires reach { AreReaching kept.old.items (length kept.old.items) reaching.old.items }
     requires room { HasRoom (length kept.old.items) room }
     ensures list { drop result kept.new.items ≡ latest (drop gone kept.old.items) }
-    ensures stands { IsKeptList kept.new.items result by_place.new.items }
+    ensures stands { IsKeptList kept.new.items result by_place.new.items expiries.new reaching.new.items }
 {
     if !replaced && gone <= kept.len() / 2 {
         return gone;
     }
-    compact(kept, by_place, gone, room);
+    compact(kept, by_place, expiries, reaching, gone, room);
     0
 }
 
 // Takes out the records that are gone and those with a newer one of their place.
-fn compact(kept: &mut Vec<Kept>, by_place: &mut Vec<usize>, gone: usize, room: Room)
+fn compact(
+    kept: &mut Vec<Kept>,
+    by_place: &mut Vec<usize>,
+    expiries: &mut Expiries,
+    reaching: &mut Vec<usize>,
+    gone: usize,
+    room: Room,
+)
     requires placed { IsPlaced kept.old.items (length kept.old.items) by_place.old.items }
+    requires expiring { AreExpiries kept.old.items (length kept.old.items) expiries.old }
+    requires all { HaveAll gone (length kept.old.items) expiries.old }
+    requires reach { AreReaching kept.old.items (length kept.old.items) reaching.old.items }
     requires room { HasRoom (length kept.old.items) room }
     ensures kept { kept.new.items ≡ latest (drop gone kept.old.items) }
     ensures placed { IsPlaced kept.new.items (length kept.new.items) by_place.new.items }
+    ensures expiring { AreExpiries kept.new.items (length kept.new.items) expiries.new }
+    ensures all { HaveAll 0 (length kept.new.items) expiries.new }
+    ensures reach { AreReaching kept.new.items (length kept.new.items) reaching.new.items }
 {
     let mut room = room;
     mark(&mut room.stays, by_place, gone, kept.len());
     count(&mut room.moved, &room.stays);
     renumber(by_place, &room.stays, &room.moved);
+    renumber(&mut expiries.by_zone, &room.stays, &room.moved);
+    renumber(&mut expiries.by_group, &room.stays, &room.moved);
+    renumber(reaching, &room.stays, &room.moved);
     keep_flagged(kept, &room.stays);
 }
 

@@ -1,5 +1,5 @@
 //! Records that are kept for later denials (RFC 8198, 5.1, 5.2 and 5.4).
-ghost use Rattle.std.specs.Prelude.{◌≡◌};
+ghost use Rattle.std.specs.Prelude.{◌≡◌, is_some};
 ghost use Rattle.std.specs.Option.{option_copied};
 ghost use Rattle.dns_aggressive.specs.Records.{is_live as is_live_at, nsec_of, nsec3_of};
 
@@ -82,5 +82,12 @@ impl Kept {
         ensures { result ≡ is_live_at now self.now }
     {
         now < self.expires
+    }
+
+    /// Whether it is an NSEC3 record.
+    pub(crate) fn is_nsec3(&self) -> bool
+        ensures { result ≡ is_some (nsec3_of self.now.item) }
+    {
+        self.item.nsec3().is_some()
     }
 }

@@ -4,14 +4,19 @@
 
 mod chain_index;
 mod compacting;
+mod expiries;
 mod kept;
 mod kept_list;
 mod live;
 mod negative_store;
 mod nsec3_groups;
+mod nsec_group;
+mod nsec_search;
 mod order;
 mod place;
 mod placing;
+mod reaching;
+mod sorting;
 mod staying;
 mod synthesizing;
 mod taking;

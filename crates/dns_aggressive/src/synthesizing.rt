@@ -3,17 +3,18 @@ ghost use Rattle.std.specs.Prelude.{◌≡◌, ◌∷◌, ℕ, None, Some, IfOk,
 ghost use Rattle.std.specs.List.{filter};
 ghost use Rattle.dns_model.specs.declared.answered.Answered.TheVariants.{No};
 ghost use Rattle.dns_model.specs.SoundAnswers.{is_secure};
-ghost use Rattle.dns_rules.specs.NsecVerdict.{nsec_verdict};
+ghost use Rattle.dns_rules.specs.NsecVerdict.{nsec_verdict as nsec_verdict_in};
 ghost use Rattle.dns_rules.specs.Nsec3Verdict.{nsec3_verdict, parameters_in};
 ghost use Rattle.dns_aggressive.specs.Answers.{hashed_answer, named_answer};
 ghost use Rattle.dns_aggressive.specs.Denials.{at_most, code_by, decided_among, hashed_ways, is_live_in, nsec3s_in, synthesized, ways_tried};
 ghost use Rattle.dns_aggressive.specs.Groups.{IsGrouped, lent};
 
 use crate::kept_list::KeptList;
+use crate::nsec_group::NsecGroup;
 use crate::nsec3_groups::Nsec3Groups;
-use dns_denial::{Nsec3Parameters, verify_nsec, verify_nsec3};
+use dns_denial::{Nsec3Parameters, nsec_verdict, verify_nsec3};
 use dns_model::{Answered, Proof};
-use dns_rdata::{Nsec3Record, NsecRecord};
+use dns_rdata::Nsec3Record;
 use dns_record::{Name, NoMemory, Query, ResponseCode};
 use std::alloc::Global;
 use std::marker::Model;
@@ -65,10 +66,10 @@ pub(crate) fn made_in(
     ensures { IfOk result (λ made. made ≡ option_map (synthesized kept.now now)
         (decided_among kept.now query.now now zone (ways_tried most kept.now now zone))) }
 {
-    if let Some((code, ttl)) = by_names(alloc, kept, &zone, query, now)? {
+    if let Some((code, ttl)) = by_names(kept, &zone, query, now) {
         return Ok(Some(Synthesized { code, zone, ttl }));
     }
-    if !kept.of_zone(&zone.borrowed()).has_live_nsec3(now) {
+    if !kept.of_zone(&zone.borrowed()).has_nsec3() {
         return Ok(None);
     }
     match by_hashes(alloc, kept, most, &zone, query, now)? {
@@ -78,20 +79,13 @@ pub(crate) fn made_in(
 }
 
 // The code that the NSEC records of a zone show, and their ttl.
-fn by_names(
-    alloc: Global,
-    kept: &KeptList,
-    zone: &Name,
-    query: &Query,
-    now: u64,
-) -> Result<Option<(ResponseCode, u32)>, NoMemory>
-    ensures { IfOk result (λ found. option_map (λ f. (f.0.0, f.1)) found ≡ named_answer kept.now query.now now zone.now) }
+fn by_names(kept: &KeptList, zone: &Name, query: &Query, now: u64) -> Option<(ResponseCode, u32)>
+    ensures { option_map (λ f. (f.0.0, f.1)) result ≡ named_answer kept.now query.now now zone.now }
 {
-    let run = kept.of_zone(&zone.borrowed());
-    let nsecs = run.live_nsecs(alloc, now)?;
+    let nsecs = kept.nsecs(&zone.borrowed(), now);
     match code_by_nsecs(query, zone, &nsecs) {
-        Some(code) => Ok(Some((code, run.seconds_left(None, now)))),
-        None => Ok(None),
+        Some(code) => Some((code, kept.seconds_left(zone, None, now))),
+        None => None,
     }
 }
 
@@ -132,8 +126,7 @@ fn first_answer<'a>(
         let way = Nsec3Parameters::of(*first);
         let nsec3s = groups.copies(alloc, &way)?;
         if let Some(code) = code_by_nsec3s(query, zone, &nsec3s) {
-            let run = kept.of_zone(&zone.borrowed());
-            let ttl = run.seconds_left(Some(&way), now);
+            let ttl = kept.seconds_left(zone, Some(&way), now);
             return Ok(Some((code, ttl)));
         }
     }
@@ -151,18 +144,23 @@ fn tried<'a, 'b>(firsts: &'b [&'a Nsec3Record], most: Option<u32>) -> &'b [&'a N
 }
 
 // The code of a response without an answer that NSEC records show: a name error, or else no data.
-fn code_by_nsecs(query: &Query, zone: &Name, nsecs: &[NsecRecord]) -> Option<ResponseCode>
-    ensures { option_map (λ code. code.0) result ≡ code_by (λ code. nsec_verdict query.now zone.now code No nsecs.now) }
+fn code_by_nsecs(query: &Query, zone: &Name, nsecs: &NsecGroup<'_>) -> Option<ResponseCode>
+    ensures { option_map (λ code. code.0) result ≡ code_by (λ code. nsec_verdict_in query.now zone.now code No nsecs.now) }
 {
-    let proved = verify_nsec(query, zone, ResponseCode::NX_DOMAIN, Answered::No, nsecs);
-    if proved == Proof::Secure {
+    if is_shown_by(query, zone, ResponseCode::NX_DOMAIN, nsecs) {
         return Some(ResponseCode::NX_DOMAIN);
     }
-    let proved = verify_nsec(query, zone, ResponseCode::NO_ERROR, Answered::No, nsecs);
-    if proved == Proof::Secure {
+    if is_shown_by(query, zone, ResponseCode::NO_ERROR, nsecs) {
         return Some(ResponseCode::NO_ERROR);
     }
     None
+}
+
+// Whether NSEC records show what a response with this code and no answer says.
+fn is_shown_by(query: &Query, zone: &Name, code: ResponseCode, nsecs: &NsecGroup<'_>) -> bool
+    ensures { result ≡ is_secure (nsec_verdict_in query.now zone.now code.0 No nsecs.now) }
+{
+    nsec_verdict(query, zone, code, Answered::No, nsecs, &mut ()) == Proof::Secure
 }
 
 // The same of NSEC3 records.

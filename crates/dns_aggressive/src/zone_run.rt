@@ -1,22 +1,20 @@
 //! The records of one zone among those that are kept.
-ghost use Rattle.std.specs.Prelude.{◌≡◌, ◌++◌, ◌∷◌, ◌≤◌, ◌<◌, [], length, IfOk, OnOk, option_copied, option_map};
+ghost use Rattle.std.specs.Prelude.{◌≡◌, ◌++◌, ◌∷◌, ◌≤◌, ◌<◌, ℕ, [], false, length, IfOk, OnOk, option_copied};
 ghost use Rattle.std.specs.Prelude.{List};
-ghost use Rattle.std.specs.List.{filter, list_any};
+ghost use Rattle.std.specs.List.{filter, list_any, Contains};
 ghost use Rattle.dns_model.specs.Names.{Labels};
 ghost use Rattle.dns_aggressive.specs.Records.{KeptValue};
 ghost use Rattle.dns_aggressive.specs.Groups.{lent};
 ghost use Rattle.dns_aggressive.specs.Denials.{is_live_in, nsec3s_in};
 ghost use Rattle.dns_aggressive.specs.ZoneRuns.{IsAscending};
-ghost use Rattle.dns_aggressive.specs.Denials.{nsecs_in, seconds_left as seconds_left_in};
-ghost use Rattle.dns_aggressive.specs.Orders.{at, AreInside, AreLatest, IsPlaced};
-ghost use Rattle.dns_aggressive.specs.ZoneRuns.{of_way_among, standing, standing_at, stands as stands_in, stands_hashed as stands_hashed_in, IsZoneRun};
+ghost use Rattle.dns_aggressive.specs.Places.{record_cmp};
+ghost use Rattle.dns_aggressive.specs.Orders.{at, AreInside, AreLatest, AreRising, IsPlaced};
+ghost use Rattle.dns_aggressive.specs.ZoneRuns.{standing, standing_at, stands_hashed, IsZoneRun};
 ghost use Rattle.std.specs.Prelude.{drop};
 
 use crate::kept::Kept;
-use crate::live::left_of_one;
 use crate::order::{Probe, passed, record_at};
-use dns_denial::Nsec3Parameters;
-use dns_rdata::{Nsec3Record, NsecRecord};
+use dns_rdata::Nsec3Record;
 use dns_record::{NameRef, NoMemory};
 use std::alloc::Global;
 use std::cmp::Ordering;
@@ -24,14 +22,14 @@ use std::cmp::Ordering;
 /// The records of one zone, by their positions in order of places. Some of them may be gone.
 #[derive(Drop)]
 pub(crate) struct ZoneRun<'a> {
-    kept: &'a [Kept],
-    gone: usize,
-    positions: &'a [usize],
+    pub(crate) kept: &'a [Kept],
+    pub(crate) gone: usize,
+    pub(crate) positions: &'a [usize],
 }
 
-// Records of zones that come before this one.
+/// Records of zones that come before this one.
 #[derive(Drop)]
-struct BeforeZone<'a, 'b>(&'a NameRef<'b>);
+pub(crate) struct BeforeZone<'a, 'b>(pub(crate) &'a NameRef<'b>);
 
 impl<'a, 'b> Probe for BeforeZone<'a, 'b> {
     ghost use Rattle.dns_model.specs.Names.{before};
@@ -43,9 +41,9 @@ impl<'a, 'b> Probe for BeforeZone<'a, 'b> {
     }
 }
 
-// Records of this zone and of those that come before it.
+/// Records of this zone and of those that come before it.
 #[derive(Drop)]
-struct UpToZone<'a, 'b>(&'a NameRef<'b>);
+pub(crate) struct UpToZone<'a, 'b>(pub(crate) &'a NameRef<'b>);
 
 impl<'a, 'b> Probe for UpToZone<'a, 'b> {
     ghost use Rattle.std.specs.Ordering.{is_le};
@@ -68,7 +66,9 @@ impl<'a> ZoneRun<'a> {
     ) -> ZoneRun<'a>
         requires placed { IsPlaced kept.now (length kept.now) by_place.now }
         requires latest { AreLatest kept.now gone (length kept.now) }
-        ensures { IsZoneRun (drop gone kept.now) zone.now result }
+        ensures run { IsZoneRun (drop gone kept.now) zone.now result }
+        ensures kept { result.kept.now ≡ kept.now }
+        ensures among { (position : ℕ) → Contains result.positions.now position → Contains by_place.now position }
     {
         let low = passed(kept, by_place, &BeforeZone(zone));
         let high = passed(kept, by_place, &UpToZone(zone));
@@ -80,8 +80,8 @@ impl<'a> ZoneRun<'a> {
         }
     }
 
-    // The record at a position, where it isn't gone and is still used.
-    fn standing(&self, position: usize, now: u64) -> Option<&'a Kept>
+    /// The record at a position, where it isn't gone and is still used.
+    pub(crate) fn standing(&self, position: usize, now: u64) -> Option<&'a Kept>
         requires { position < length self.now.kept.now }
         ensures { option_copied result ≡ standing_at self.now.kept.now self.now.gone now position }
     {
@@ -93,71 +93,19 @@ impl<'a> ZoneRun<'a> {
         }
     }
 
-    /// Whether some record is still used at a moment.
-    pub(crate) fn has_live(&self, now: u64) -> bool
-        requires { AreInside (length self.now.kept.now) self.now.positions.now }
-        ensures { result ≡ list_any (stands_in self.now now) self.now.positions.now }
+    /// Whether the zone may have NSEC3 records: these stand behind all others.
+    pub(crate) fn has_nsec3(&self) -> bool
+        requires inside { AreInside (length self.now.kept.now) self.now.positions.now }
+        requires rising { AreRising record_cmp self.now.kept.now self.now.positions.now }
+        ensures { (list : List KeptValue) (zone : Labels) (now : ℕ) → IsZoneRun list zone self.now → result ≡ false
+            → list_any (stands_hashed self.now now) self.now.positions.now ≡ false }
     {
-        for position in self.positions {
-            if self.standing(*position, now).is_some() {
-                return true;
-            }
+        let number = self.positions.len();
+        if number == 0 {
+            return false;
         }
-        false
-    }
-
-    /// Whether some NSEC3 record is.
-    pub(crate) fn has_live_nsec3(&self, now: u64) -> bool
-        requires { AreInside (length self.now.kept.now) self.now.positions.now }
-        ensures { result ≡ list_any (stands_hashed_in self.now now) self.now.positions.now }
-    {
-        for position in self.positions {
-            if self.is_hashed(*position, now) {
-                return true;
-            }
-        }
-        false
-    }
-
-    fn is_hashed(&self, position: usize, now: u64) -> bool
-        requires { position < length self.now.kept.now }
-        ensures { result ≡ stands_hashed_in self.now now position }
-    {
-        match self.standing(position, now) {
-            Some(one) => one.item.nsec3().is_some(),
-            None => false,
-        }
-    }
-
-    /// Copies of the NSEC records that are still used at a moment.
-    pub(crate) fn live_nsecs(&self, alloc: Global, now: u64) -> Result<Vec<NsecRecord>, NoMemory>
-        requires { AreInside (length self.now.kept.now) self.now.positions.now }
-        ensures { IfOk result (λ nsecs. nsecs.items ≡ nsecs_in (standing self.now now self.now.positions.now)) }
-    {
-        let mut nsecs = Vec::new(alloc);
-        for position in self.positions {
-            self.push_nsec(&mut nsecs, *position, now)?;
-        }
-        Ok(nsecs)
-    }
-
-    // Adds a copy of the record at a position, if it is an NSEC record that is still used.
-    fn push_nsec(
-        &self,
-        nsecs: &mut Vec<NsecRecord>,
-        position: usize,
-        now: u64,
-    ) -> Result<(), NoMemory>
-        requires { position < length self.now.kept.now }
-        ensures { OnOk result (nsecs.new.items ≡ nsecs.old.items ++ nsecs_in (standing self.now now (position ∷ []))) }
-    {
-        let Some(one) = self.standing(position, now) else {
-            return Ok(());
-        };
-        if let Some(nsec) = one.item.nsec() {
-            nsecs.push(nsec.try_clone()?)?;
-        }
-        Ok(())
+        let position = self.positions[number - 1];
+        record_at(self.kept, position).is_nsec3()
     }
 
     /// The NSEC3 records that are still used at a moment, in the order in which they were kept.
@@ -209,29 +157,6 @@ impl<'a> ZoneRun<'a> {
             nsec3s.push(nsec3)?;
         }
         Ok(())
-    }
-
-    /// Seconds for which all records of a group are still used, and no more than a ttl can say.
-    pub(crate) fn seconds_left(&self, way: Option<&Nsec3Parameters<'_>>, now: u64) -> u32
-        requires { AreInside (length self.now.kept.now) self.now.positions.now }
-        ensures { result ≡ seconds_left_in now (of_way_among (option_copied way.entry) (standing self.now now self.now.positions.now)) }
-    {
-        let mut least = u32::MAX;
-        for position in self.positions {
-            least = least.min(self.left_of(*position, way, now));
-        }
-        least
-    }
-
-    // The seconds that the record at a position has left; of one that isn't of the group the greatest number.
-    fn left_of(&self, position: usize, way: Option<&Nsec3Parameters<'_>>, now: u64) -> u32
-        requires { position < length self.now.kept.now }
-        ensures { result ≡ seconds_left_in now (of_way_among (option_copied way.entry) (standing self.now now (position ∷ []))) }
-    {
-        match self.standing(position, now) {
-            Some(one) => left_of_one(one, way, now),
-            None => u32::MAX,
-        }
     }
 }
 

@@ -43,16 +43,9 @@ pub(crate) fn zone_of<'a>(kept: &KeptList, query: &'a Query, now: u64) -> Option
 fn longest<'a>(kept: &KeptList, name: &NameRef<'a>, now: u64) -> Option<NameRef<'a>>
     ensures { result ≡ find (has_live_in now kept.now) (names_up name.now) }
 {
-    if has_live(kept, name, now) {
+    if kept.has_live(name, now) {
         return Some(name.copy());
     }
     let (_, above) = name.split_first()?;
     longest(kept, &above, now)
-}
-
-// Whether a zone has a live record.
-fn has_live(kept: &KeptList, zone: &NameRef<'_>, now: u64) -> bool
-    ensures { result ≡ has_live_in now kept.now zone.now }
-{
-    kept.of_zone(zone).has_live(now)
 }

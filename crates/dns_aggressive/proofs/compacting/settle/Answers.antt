@@ -12,4 +12,7 @@ returns-clause-stands c = record {
   within = omega arith;
   latest = latest_kept c.compact.new.kept.items (drop c.args.gone c.args.kept.now.items) c.compact.ensures.kept;
   placed = c.compact.ensures.placed;
+  expiring = c.compact.ensures.expiring;
+  all = c.compact.ensures.all;
+  reach = c.compact.ensures.reach;
 }

@@ -1,10 +1,8 @@
-use Rattle.std.proofs.Common.{None, Some, ap, subst, ◌∙◌}
+use Rattle.std.proofs.Common.{None, Some, ap, ◌∙◌}
 use Rattle.dns_model.specs.declared.answered.Answered.TheVariants.{No}
 use Rattle.dns_rules.specs.Nsec3Verdict.{nsec3_verdict, parameters_in}
 use Rattle.dns_aggressive.specs.Denials.{code_by, group, seconds_left}
 use Rattle.dns_aggressive.specs.Groups.{of_way}
-use Rattle.dns_aggressive.specs.ZoneRuns.{IsZoneRun}
-use Rattle.dns_aggressive.proofs.ZoneRuns.{seconds_group}
 use Rattle.dns_aggressive.proofs.Deciding.{answer_first, answer_later, shown_by_copies}
 use Rattle.dns_aggressive.proofs.LiveRecords.{live}
 use Rattle.dns_aggressive.proofs.synthesizing.first_answer.Goals as goal
@@ -21,10 +19,7 @@ returns-in-Some c =
     let shown = shown_by_copies kept query now zone way c.in_ok-nsec3s.nsec3s.items (Some code)
     (c.in_ok-nsec3s.ensures (live now zone kept) c.requires ∙ ap (λ w. of_way w (live now zone kept)) c.of-way.ensures)
     (c.in-Some.ensures ∙ ap (λ ns. code_by (λ k. nsec3_verdict query zone k No ns 100 500)) c.deref.ensures.value) in
-    let is : IsZoneRun c.args.kept.now c.args.zone.now c.of_zone-run.result =
-    subst (λ z. IsZoneRun c.args.kept.now z c.of_zone-run.result) c.borrowed.ensures c.of_zone-run.ensures in
     ap (λ t. Some (code, t)) (c.seconds_left-ttl.ensures
-    ∙ seconds_group kept zone c.of_zone-run.result now is (Some c.of-way.result)
     ∙ ap (λ w. seconds_left now (group now zone kept (Some w))) c.of-way.ensures)
     ∙ answer_first kept query now zone c.args.firsts.now c.loop-first.first-index x code c.loop-first-test.true
     c.first-item.is shown

@@ -20,8 +20,8 @@ returns-in-Some c =
     ∙ made_first kept query now zone (map Some (at_most c.args.most (hashed_ways now zone kept))) c.in-Some.code.0
     (named_shown kept query now zone c.in-Some.code.0 c.in-Some.ttl told)
 
-pub returns-then-not-has_live_nsec3 : goal.returns-then-not-has_live_nsec3
-returns-then-not-has_live_nsec3 c =
+pub returns-then-not-has_nsec3 : goal.returns-then-not-has_nsec3
+returns-then-not-has_nsec3 c =
     let kept = c.args.kept.now in
     let query = c.args.query.now in
     let now = c.args.now in
@@ -30,8 +30,9 @@ returns-then-not-has_live_nsec3 c =
     let is : IsZoneRun c.args.kept.now c.args.zone c.of_zone.result =
     subst (λ z. IsZoneRun c.args.kept.now z c.of_zone.result) c.borrowed.ensures c.of_zone.ensures in
     let named : None ≡ named_answer c.args.kept.now c.args.query.now c.args.now c.args.zone = search rules in
+    let no : c.has_nsec3.result ≡ false = search rules in
     let none : list_any (stands_hashed c.of_zone.result c.args.now) c.of_zone.result.positions.now
-    ≡ false = search rules in
+    ≡ false = c.has_nsec3.ensures c.args.kept.now c.args.zone c.args.now is no in
     made_later kept query now zone (at_most c.args.most (hashed_ways now zone kept)) None
     (named_none kept query now zone named) (no_hashed_answer kept zone run now is query c.args.most none)
 
