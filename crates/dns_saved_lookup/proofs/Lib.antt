@@ -1,0 +1,2 @@
+pub mod RememberedLemmas
+pub mod InTurnLemmas

@@ -1,0 +1,2 @@
+pub mod LineReads
+pub mod SavedLaw
