@@ -1,12 +1,15 @@
 //! `dns_query`: the records of a name from a server, each behind its mark, with what proves it checked from trusted keys on.
 #![tactic(auto)]
 
+mod session_file;
+
+use crate::session_file::SessionFile;
 use dns_io::{InputSource, OutputSink, read_all, status, words_of};
 use dns_link::{SocketDialer, SystemClock};
 use dns_query_handle::SystemStopwatch;
 use dns_query_lookup::Outside;
 use dns_query_run::{FileTexts, run_query};
-use dns_query_words::{Form, read_words};
+use dns_query_words::{Arguments, Form, read_words};
 use std::fs::File;
 use std::process::ExitCode;
 use std::random::RandomSource;
@@ -38,12 +41,22 @@ fn text_of(rt: &HostRuntime, path: &str) -> Option<Vec<u8>> {
     read_all(rt.alloc(), &mut source).ok()
 }
 
-// The path of the file of trust anchors that the words name.
-fn anchors_path<'a>(rt: &HostRuntime, words: &'a [Vec<u8>]) -> Option<&'a [u8]> {
+// The words of a question, if they ask one.
+fn asked<'a>(rt: &HostRuntime, words: &'a [Vec<u8>]) -> Option<Arguments<'a>> {
     match read_words(rt.alloc(), words) {
-        Ok(Form::Ask(arguments)) => arguments.anchors,
+        Ok(Form::Ask(arguments)) => Some(arguments),
         _ => None,
     }
+}
+
+// The path of the file of trust anchors that the words name.
+fn anchors_path<'a>(rt: &HostRuntime, words: &'a [Vec<u8>]) -> Option<&'a [u8]> {
+    asked(rt, words)?.anchors
+}
+
+// The path of the file that the session is to be written to; None where the words name none, or bytes that are no path.
+fn save_path<'a>(rt: &HostRuntime, words: &'a [Vec<u8>]) -> Option<&'a str> {
+    str::from_utf8(asked(rt, words)?.save?).ok()
 }
 
 // The text of the file of trust anchors that the words name, or of the system's; Err where the words name one that can't be read.
@@ -62,7 +75,7 @@ fn anchors_of(rt: &HostRuntime, words: &[Vec<u8>]) -> Result<Option<Vec<u8>>, ()
 
 // Says which keys are trusted where a question is asked and there is no file of them.
 fn say_built_in(rt: &HostRuntime, words: &[Vec<u8>], anchors: &Option<Vec<u8>>) {
-    if anchors.is_none() && matches!(read_words(rt.alloc(), words), Ok(Form::Ask(_))) {
+    if anchors.is_none() && asked(rt, words).is_some() {
         let _ = eprintln!(rt;
             "dns_query: the root's keys 20326 and 38696 are trusted, since {ROOT_KEYS} can't be read"
         );
@@ -85,6 +98,7 @@ fn run_with(
     };
     let mut clock = SystemClock::new(rt);
     let mut output = OutputSink::new(rt.stdout());
+    let mut saved = SessionFile::new(rt, save_path(rt, words));
     let mut errors = OutputSink::new(rt.stderr());
     run_query(
         rt.alloc(),
@@ -94,6 +108,7 @@ fn run_with(
         seed_of(rt),
         &mut clock,
         &mut output,
+        &mut saved,
         &mut errors,
     )
 }

@@ -1,1 +1,5 @@
 pub mod TextLemmas
+pub mod SavingLemmas
+pub mod ShownLemmas
+pub mod SessionLemmas
+pub mod ProgramLemmas

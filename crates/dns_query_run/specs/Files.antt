@@ -39,10 +39,10 @@ HasNoAnchors TooLong text = input_limit < length text
 HasNoAnchors (Bad error) text = (error ≡ NoMemory) ⊎ (anchors_in text ≡ Err error)
 
 -- nothing is told then, unless memory ran out
-abbrev pub IsUnread : AnchorsStop → ℕ → List ℕ → Type 0
-IsUnread TooLong status text = IsSilent 4 status text
-IsUnread (Bad NoMemory) status text = ⊥
-IsUnread (Bad error) status text = IsSilent 4 status text
+abbrev pub IsUnread : AnchorsStop → ℕ → List ℕ → List ℕ → Type 0
+IsUnread TooLong status text saved = IsSilent 4 status text saved
+IsUnread (Bad NoMemory) status text saved = ⊥
+IsUnread (Bad error) status text saved = IsSilent 4 status text saved
 
 -- trust anchors from a text, or the root's that stand in the program
 abbrev pub anchors_text : Option (List ℕ) → List ℕ

@@ -1,4 +1,5 @@
 -- What contracts of this crate name, from what is told of a lookup to a call of the program.
+pub mod Saving
 pub mod Answers
 pub mod Files
 pub mod FixedTexts

@@ -12,6 +12,7 @@ use dns_query_lookup::Looked;
 use dns_query_words::Refusal;
 use dns_rdata::{Dnskey, key_tag};
 use dns_record::{Name, NoMemory, Record};
+use dns_saved_lookup::SaveError;
 use dns_trust::TrustAnchors;
 use std::alloc::Global;
 
@@ -23,18 +24,19 @@ pub(crate) const NO_ANSWER: u8 = 4;
 
 // Nothing but a complaint, and a status.
 fn complained(alloc: Global, status: u8, complaint: Vec<u8>) -> Told
-    ensures { IsSilent status result.status result.text.items }
+    ensures { IsSilent status result.status result.text.items result.saved.items }
 {
     Told {
         status,
         text: Vec::new(alloc),
+        saved: Vec::new(alloc),
         complaint,
     }
 }
 
 /// A fixed complaint, and a status.
 pub(crate) fn complaint_of(alloc: Global, status: u8, text: &str) -> Result<Told, NoMemory>
-    ensures { IfOk result (λ told. IsSilent status told.status told.text.items) }
+    ensures { IfOk result (λ told. IsSilent status told.status told.text.items told.saved.items) }
 {
     let line = format!(in alloc; "dns_query: {text}\n")?;
     Ok(complained(alloc, status, line.into_bytes()))
@@ -42,7 +44,7 @@ pub(crate) fn complaint_of(alloc: Global, status: u8, text: &str) -> Result<Told
 
 // Says which zone wasn't answered for, and why.
 fn unanswered_told(alloc: Global, zone: &Name, error: &NetError) -> Result<Told, NoMemory>
-    ensures { IfOk result (λ told. IsSilent 4 told.status told.text.items) }
+    ensures { IfOk result (λ told. IsSilent 4 told.status told.text.items told.saved.items) }
 {
     let line = format!(in alloc; "dns_query: the keys of {zone} weren't answered: {error}\n")?;
     Ok(complained(alloc, NO_ANSWER, line.into_bytes()))
@@ -50,7 +52,7 @@ fn unanswered_told(alloc: Global, zone: &Name, error: &NetError) -> Result<Told,
 
 /// No key is trusted.
 pub(crate) fn fault_told(alloc: Global, fault: AnchorsFault) -> Result<Told, NoMemory>
-    ensures { IfOk result (λ told. IsUntrusted fault told.status told.text.items) }
+    ensures { IfOk result (λ told. IsUntrusted fault told.status told.text.items told.saved.items) }
 {
     match &fault {
         AnchorsFault::Unanswered(zone, error) => unanswered_told(alloc, zone, error),
@@ -93,6 +95,23 @@ pub(crate) fn trusted_lines(alloc: Global, looked: &Looked) -> Result<Vec<u8>, N
     Ok(lines)
 }
 
+// Why a lookup isn't saved.
+fn unsaved_text(why: SaveError) -> &'static str {
+    match why {
+        SaveError::Differs => "a lookup over what came for its queries has another answer",
+        SaveError::LongMessage => "a reply has more than 65535 bytes",
+        SaveError::LongText => "its session has more than 16777216 bytes",
+        SaveError::NoMemory => "out of memory",
+    }
+}
+
+/// Says why a lookup isn't saved.
+pub(crate) fn unsaved_line(alloc: Global, why: SaveError) -> Result<Vec<u8>, NoMemory> {
+    let why = unsaved_text(why);
+    let line = format!(in alloc; "dns_query: the lookup isn't saved: {why}\n")?;
+    Ok(line.into_bytes())
+}
+
 // What is wrong with a word.
 fn refusal_text(refusal: Refusal) -> &'static str {
     match refusal {
@@ -109,7 +128,7 @@ fn refusal_text(refusal: Refusal) -> &'static str {
 
 /// The words aren't a call: a word, counted from 0, and what is wrong with it.
 pub(crate) fn words_told(alloc: Global, refusal: Refusal, place: usize) -> Result<Told, NoMemory>
-    ensures { IfOk result (λ told. IsSilent 2 told.status told.text.items) }
+    ensures { IfOk result (λ told. IsSilent 2 told.status told.text.items told.saved.items) }
 {
     let number = place.saturating_add(1);
     let why = refusal_text(refusal);
@@ -124,7 +143,7 @@ fn bad_line_told(
     refusal: dns_master_file::Refusal,
     column: usize,
 ) -> Result<Told, NoMemory>
-    ensures { IfOk result (λ told. IsSilent 4 told.status told.text.items) }
+    ensures { IfOk result (λ told. IsSilent 4 told.status told.text.items told.saved.items) }
 {
     let text = format!(in alloc;
         "dns_query: trust anchors, line {line}, column {column}: {refusal:?}\n"
@@ -134,7 +153,7 @@ fn bad_line_told(
 
 // Names the first line that is no trust anchor.
 fn no_anchor_told(alloc: Global, line: u64) -> Result<Told, NoMemory>
-    ensures { IfOk result (λ told. IsSilent 4 told.status told.text.items) }
+    ensures { IfOk result (λ told. IsSilent 4 told.status told.text.items told.saved.items) }
 {
     let text = format!(in alloc;
         "dns_query: trust anchors, line {line}: neither a DNSKEY nor a DS record\n"
@@ -144,7 +163,7 @@ fn no_anchor_told(alloc: Global, line: u64) -> Result<Told, NoMemory>
 
 /// A file of trust anchors can't be used.
 pub(crate) fn anchors_told(alloc: Global, error: AnchorsError) -> Result<Told, NoMemory>
-    ensures { IfOk result (λ told. IsUnread (Bad error) told.status told.text.items) }
+    ensures { IfOk result (λ told. IsUnread (Bad error) told.status told.text.items told.saved.items) }
 {
     match error {
         AnchorsError::BadLine(line, refusal, column) => bad_line_told(alloc, line, refusal, column),

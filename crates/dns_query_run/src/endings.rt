@@ -1,9 +1,9 @@
 //! What words come to.
-ghost use Rattle.std.specs.Prelude.{◌≡◌, map, IfOk};
+ghost use Rattle.std.specs.Prelude.{◌≡◌, is_some, map, IfOk};
 ghost use Rattle.std.specs.Option.{option_copied};
 ghost use Rattle.dns_query_lookup.specs.Servers.{meanings_over};
 ghost use Rattle.dns_query_words.specs.Reading.{form_in};
-ghost use Rattle.dns_query_run.specs.Calls.{TellsCall, TellsQuestion, TellsWords, asks_too_much, call_of, depth_of};
+ghost use Rattle.dns_query_run.specs.Calls.{IsFixed, TellsCall, TellsQuestion, TellsWords, asks_too_much, call_of, depth_of};
 ghost use Rattle.dns_query_run.specs.Files.{IsUnread, status_without};
 ghost use Rattle.dns_query_run.specs.Answers.{IsSilent};
 
@@ -21,7 +21,7 @@ use dns_query_handle::{
     CheckingHandle, ConnectingHandle, DeadlineHandle, FallbackHandle, NotingHandle, Stopwatch,
 };
 use dns_query_lookup::{Call, Outside, ask_server};
-use dns_query_words::{Arguments, Form, WordsError, read_words};
+use dns_query_words::{Arguments, Form, Switches, WordsError, read_words};
 use dns_record::NoMemory;
 use dns_udp::UdpExchange;
 use std::alloc::Global;
@@ -29,13 +29,14 @@ use std::net::SocketAddr;
 
 // A fixed text, with status 0.
 fn fixed_told(alloc: Global, text: &[u8]) -> Result<Told, NoMemory>
-    ensures { IfOk result (λ told. (told.status ≡ 0) × (told.text.items ≡ text.now)) }
+    ensures { IfOk result (λ told. IsFixed text.now told.status told.text.items told.saved.items) }
 {
     let mut copy = Vec::new(alloc);
     copy.extend_from_slice(text)?;
     Ok(Told {
         status: status::DONE,
         text: copy,
+        saved: Vec::new(alloc),
         complaint: Vec::new(alloc),
     })
 }
@@ -44,13 +45,19 @@ fn fixed_told(alloc: Global, text: &[u8]) -> Result<Told, NoMemory>
 fn asks_too_much(arguments: &Arguments<'_>) -> bool
     ensures { result ≡ asks_too_much arguments.now }
 {
-    let switches = arguments.switches;
-    switches.trail || switches.chain || switches.json || arguments.save.is_some()
+    arguments.switches.json
+}
+
+// Whether words name a file for the session.
+fn names_file(arguments: &Arguments<'_>) -> bool
+    ensures { result ≡ is_some arguments.now.save }
+{
+    arguments.save.is_some()
 }
 
 // Nobody is asked: nothing says whom.
 fn server_told(alloc: Global, stop: ServerStop) -> Result<Told, NoMemory>
-    ensures { IfOk result (λ told. IsSilent (status_without stop) told.status told.text.items) }
+    ensures { IfOk result (λ told. IsSilent (status_without stop) told.status told.text.items told.saved.items) }
 {
     match stop {
         ServerStop::NoAddress => complaint_of(
@@ -68,7 +75,7 @@ fn server_told(alloc: Global, stop: ServerStop) -> Result<Told, NoMemory>
 
 // Nobody is asked: the trust anchors can't be used.
 fn lines_told(alloc: Global, stop: AnchorsStop) -> Result<Told, NoMemory>
-    ensures { IfOk result (λ told. IsUnread stop told.status told.text.items) }
+    ensures { IfOk result (λ told. IsUnread stop told.status told.text.items told.saved.items) }
 {
     match stop {
         AnchorsStop::TooLong => complaint_of(
@@ -104,23 +111,24 @@ fn call_of<'a>(arguments: &'a Arguments<'_>, lines: &'a [RecordLine], moment: u6
     }
 }
 
-// Asks a server what a call asks, and tells what that comes to.
+// Asks a server what a call asks, tells what that comes to, and keeps it where a file is named.
 fn call_told<D: Dialer + Drop, E: Dialer + Drop, T: Stopwatch + Drop>(
     alloc: Global,
     call: &Call<'_>,
     outside: Outside<D, E, T>,
     server: SocketAddr,
-    connections_alone: bool,
+    switches: Switches,
+    keeps: bool,
     seed: u64,
 ) -> Result<Told, NoMemory>
     ensures { IfOk result (λ told. TellsCall
         (meanings_over
         ⟦<NotingHandle<DeadlineHandle<CheckingHandle<FallbackHandle<UdpExchange<D, RandDraws>, ConnectingHandle<E, RandDraws>>>, T>, T> as DnsHandle>⟧
         ⟦<NotingHandle<DeadlineHandle<CheckingHandle<ConnectingHandle<E, RandDraws>>, T>, T> as DnsHandle>⟧)
-        call.now outside server connections_alone seed told.status told.text.items) }
+        switches keeps call.now outside server seed told.status told.text.items told.saved.items) }
 {
-    let ended = ask_server(alloc, outside, server, connections_alone, seed, call);
-    ended_told(alloc, call, ended)
+    let ended = ask_server(alloc, outside, server, switches.tcp, seed, call);
+    ended_told(alloc, switches, keeps, call, ended)
 }
 
 // What a question comes to. The clock is read once, when all that is needed is known.
@@ -136,14 +144,10 @@ fn question_told<D: Dialer + Drop, E: Dialer + Drop, T: Stopwatch + Drop, K: Clo
         (meanings_over
         ⟦<NotingHandle<DeadlineHandle<CheckingHandle<FallbackHandle<UdpExchange<D, RandDraws>, ConnectingHandle<E, RandDraws>>>, T>, T> as DnsHandle>⟧
         ⟦<NotingHandle<DeadlineHandle<CheckingHandle<ConnectingHandle<E, RandDraws>>, T>, T> as DnsHandle>⟧)
-        arguments.now (option_copied files.entry.anchors) (option_copied files.entry.resolver) outside seed told.status told.text.items) }
+        arguments.now (option_copied files.entry.anchors) (option_copied files.entry.resolver) outside seed told.status told.text.items told.saved.items) }
 {
     if asks_too_much(arguments) {
-        return complaint_of(
-            alloc,
-            BAD_WORDS,
-            "this version knows neither --trail, --chain, --json nor --save",
-        );
+        return complaint_of(alloc, BAD_WORDS, "this version doesn't know --json");
     }
     let server = match server_for(arguments.server, files.resolver) {
         Ok(server) => server,
@@ -156,7 +160,15 @@ fn question_told<D: Dialer + Drop, E: Dialer + Drop, T: Stopwatch + Drop, K: Clo
     let moment = clock.now();
     let call = call_of(arguments, &lines, moment);
     let seed = seed.unwrap_or(moment);
-    call_told(alloc, &call, outside, server, arguments.switches.tcp, seed)
+    call_told(
+        alloc,
+        &call,
+        outside,
+        server,
+        arguments.switches,
+        names_file(arguments),
+        seed,
+    )
 }
 
 /// What words come to, before anything is written.
@@ -173,7 +185,7 @@ pub(crate) fn words_ending<D: Dialer + Drop, E: Dialer + Drop, T: Stopwatch + Dr
         ⟦<NotingHandle<DeadlineHandle<CheckingHandle<FallbackHandle<UdpExchange<D, RandDraws>, ConnectingHandle<E, RandDraws>>>, T>, T> as DnsHandle>⟧
         ⟦<NotingHandle<DeadlineHandle<CheckingHandle<ConnectingHandle<E, RandDraws>>, T>, T> as DnsHandle>⟧)
         (form_in (map (λ w. w.items) words.now)) (option_copied files.entry.anchors) (option_copied files.entry.resolver) outside seed
-        told.status told.text.items) }
+        told.status told.text.items told.saved.items) }
 {
     match read_words(alloc, words) {
         Ok(Form::Ask(arguments)) => question_told(alloc, &arguments, files, outside, seed, clock),

@@ -1,4 +1,5 @@
-//! The program for questions as a call: [`run_query`] asks a server what words ask for, and writes the answer with its marks.
+//! The program for questions as a call: [`run_query`] asks a server what words ask for, writes the answer with its marks, and saves the
+//! lookup as a session where a file is named.
 //!
 //! Files come in as texts, the network, the clock and the stopwatches as traits, and what is written goes to any sink; so the program's `main`
 //! is all that stands over the system.
@@ -9,6 +10,7 @@ mod endings;
 mod files;
 mod fixed_texts;
 mod program;
+mod saving;
 mod telling;
 mod told;
 

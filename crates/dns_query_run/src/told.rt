@@ -7,6 +7,8 @@ pub(crate) struct Told {
     pub(crate) status: u8,
     /// What is written to the standard output.
     pub(crate) text: Vec<u8>,
+    /// What is written to the file that words name: nothing, or a session.
+    pub(crate) saved: Vec<u8>,
     /// What is written to the standard error.
     pub(crate) complaint: Vec<u8>,
 }

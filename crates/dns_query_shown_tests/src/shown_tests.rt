@@ -157,11 +157,7 @@ const ASKS: &[u8] =
     b"a\\.b. NS, 0 ms: code 3, answer 0, authority 1, additional 0\n. DNSKEY, 18446744073709551615 ms: fault timeout\n. DNSKEY, 7 ms: fault io ConnectionRefused\n. DNSKEY, 8 ms: fault memory\n";
 
 // A note of what a query for the root's keys was answered.
-fn of_keys(
-    alloc: Global,
-    reply: Result<DnsResponse, NetError>,
-    elapsed_ms: u64,
-) -> Option<Note> {
+fn of_keys(alloc: Global, reply: Result<DnsResponse, NetError>, elapsed_ms: u64) -> Option<Note> {
     Some(Note {
         query: query(alloc, ".", RecordType::DNSKEY)?,
         reply,
