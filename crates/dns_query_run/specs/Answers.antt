@@ -13,6 +13,7 @@ use Rattle.dns_query_answer.specs.Status.{IsProved, answer_status}
 use Rattle.dns_query_lookup.specs.CallValues.{CallValue}
 use Rattle.dns_query_lookup.specs.LookedValues.{LookedValue}
 use Rattle.dns_query_handle.specs.Notes.{NoteValue}
+use Rattle.dns_query_json.specs.AnswerJson.{AnswerValue, answer_json}
 use Rattle.dns_query_shown.specs.Asks.{asks_text}
 use Rattle.dns_query_shown.specs.ChainTrees.{chains_text}
 use Rattle.dns_query_words.specs.declared.options.Switches.{Switches}
@@ -41,13 +42,28 @@ unfoldable pub shown_text : Switches → CallValue → LookedValue → List ℕ
 shown_text switches call looked =
     told_text call looked ++ (chain_part switches.chain looked.reply ++ trail_part switches.trail looked.notes)
 
+-- what a question came to, with all that was found out for it
+abbrev pub answer_value : CallValue → LookedValue → AnswerValue
+answer_value call looked = record {
+  question = call.query;
+  status = answer_status call.query looked.reply;
+  text = told_text call looked;
+  reply = looked.reply;
+  notes = looked.notes;
+}
+
+-- that as JSON (RFC 8259), where words ask for it
+abbrev pub written_text : Switches → CallValue → LookedValue → List ℕ
+written_text switches call looked =
+    if switches.json then answer_json (answer_value call looked) else shown_text switches call looked
+
 -- the status and the text of what a lookup came to, and what is saved of it; status 0 says that each record that was asked for is Secure,
 -- or its denial is
 pub record TellsLookup (switches : Switches) (keeps : Bool) (call : CallValue) (looked : LookedValue) (status : ℕ) (text saved : List ℕ)
     : Type 0 where
   pub kept : Keeps keeps call looked (answer_status call.query looked.reply) status saved
   pub proved : status ≡ 0 → IsProved call.query looked.reply
-  pub tells : text ≡ shown_text switches call looked
+  pub tells : text ≡ written_text switches call looked
 
 -- no text and nothing that is saved, with a status
 pub record IsSilent (expected status : ℕ) (text saved : List ℕ) : Type 0 where

@@ -1,5 +1,5 @@
 -- What a call of the program comes to: by its words, then by its files, then by what the network answers (RFC 4035, 4.3 and 5).
-use Rattle.std.specs.Prelude.{ℕ, ◌≡◌, ◌*◌, [], not, is_some, unwrap_or, Bool, true, List, Option, Result, Ok, Err}
+use Rattle.std.specs.Prelude.{ℕ, ◌≡◌, ◌*◌, [], not, is_some, unwrap_or, Bool, List, Option, Result, Ok, Err}
 use Rattle.std.specs.Io.KnownBytes.{Appends}
 use Rattle.std.specs.declared.net.socket_addr.SocketAddr.{SocketAddr}
 use Rattle.dns_handle.specs.Requests.{plain_options}
@@ -57,15 +57,9 @@ pub record TellsServer {D E T : Type 0} (meanings : Meanings D E T) (arguments :
   pub tells : TellsCall meanings arguments.switches (is_some arguments.save) (call_of arguments lines moment) outside server
       (unwrap_or seed moment) status text saved
 
--- words ask for what this version doesn't do
-abbrev pub asks_too_much : ArgumentsValue → Bool
-asks_too_much a = a.switches.json
-
 -- what a question comes to: nothing is asked, for one of these causes; or a server is asked
 pub data TellsQuestion {D E T : Type 0} (meanings : Meanings D E T) (arguments : ArgumentsValue) (anchors resolver : Option (List ℕ))
     (outside : Outside D E T) (seed : Option ℕ) (status : ℕ) (text saved : List ℕ) : Type 0 where
-  TooMuch : asks_too_much arguments ≡ true → IsSilent 2 status text saved
-      → TellsQuestion meanings arguments anchors resolver outside seed status text saved
   Unnamed : (stop : ServerStop) → HasNoServer stop arguments.server resolver → IsSilent (status_without stop) status text saved
       → TellsQuestion meanings arguments anchors resolver outside seed status text saved
   Untrusting : (stop : AnchorsStop) → HasNoAnchors stop (anchors_text anchors) → IsUnread stop status text saved

@@ -3,7 +3,7 @@ ghost use Rattle.std.specs.Prelude.{◌≡◌, is_some, map, IfOk};
 ghost use Rattle.std.specs.Option.{option_copied};
 ghost use Rattle.dns_query_lookup.specs.Servers.{meanings_over};
 ghost use Rattle.dns_query_words.specs.Reading.{form_in};
-ghost use Rattle.dns_query_run.specs.Calls.{IsFixed, TellsCall, TellsQuestion, TellsWords, asks_too_much, call_of, depth_of};
+ghost use Rattle.dns_query_run.specs.Calls.{IsFixed, TellsCall, TellsQuestion, TellsWords, call_of, depth_of};
 ghost use Rattle.dns_query_run.specs.Files.{IsUnread, status_without};
 ghost use Rattle.dns_query_run.specs.Answers.{IsSilent};
 
@@ -39,13 +39,6 @@ fn fixed_told(alloc: Global, text: &[u8]) -> Result<Told, NoMemory>
         saved: Vec::new(alloc),
         complaint: Vec::new(alloc),
     })
-}
-
-// Whether words ask for what this version doesn't do.
-fn asks_too_much(arguments: &Arguments<'_>) -> bool
-    ensures { result ≡ asks_too_much arguments.now }
-{
-    arguments.switches.json
 }
 
 // Whether words name a file for the session.
@@ -146,9 +139,6 @@ fn question_told<D: Dialer + Drop, E: Dialer + Drop, T: Stopwatch + Drop, K: Clo
         ⟦<NotingHandle<DeadlineHandle<CheckingHandle<ConnectingHandle<E, RandDraws>>, T>, T> as DnsHandle>⟧)
         arguments.now (option_copied files.entry.anchors) (option_copied files.entry.resolver) outside seed told.status told.text.items told.saved.items) }
 {
-    if asks_too_much(arguments) {
-        return complaint_of(alloc, BAD_WORDS, "this version doesn't know --json");
-    }
     let server = match server_for(arguments.server, files.resolver) {
         Ok(server) => server,
         Err(stop) => return server_told(alloc, stop),

@@ -1,7 +1,8 @@
 //! What is told of a lookup.
 ghost use Rattle.std.specs.Prelude.{◌≡◌, ◌++◌, IfOk, OnOk};
 ghost use Rattle.dns_handle.specs.Replies.{reply_of};
-ghost use Rattle.dns_query_run.specs.Answers.{IsTold, TellsLookup, call_limits, chain_part, shown_text, told_text, trail_part};
+ghost use Rattle.dns_query_run.specs.Answers.{IsTold, TellsLookup, answer_value, call_limits, chain_part, shown_text, told_text, trail_part, written_text};
+ghost use Rattle.dns_query_json.specs.AnswerJson.{answer_json};
 ghost use Rattle.dns_query_run.specs.Saving.{Keeps};
 
 use crate::complaints::{NO_ANSWER, fault_told, trusted_lines, unsaved_line};
@@ -13,6 +14,7 @@ use dns_handle::{DnsResponse, NetError};
 use dns_io::status::WRITE_FAILED;
 use dns_query_answer::{answer_causes, answer_status, told_answer, write_answer};
 use dns_query_handle::Note;
+use dns_query_json::{Answer, push_json};
 use dns_query_lookup::{Call, Looked};
 use dns_query_shown::{push_asks, push_chains};
 use dns_query_words::Switches;
@@ -93,6 +95,48 @@ fn shown_text(
     Ok(text)
 }
 
+// An answer as JSON.
+fn json_of(alloc: Global, answer: &Answer<'_>) -> Result<Vec<u8>, NoMemory>
+    ensures { IfOk result (λ v. v.items ≡ answer_json answer.now) }
+{
+    let mut json = Vec::new(alloc);
+    push_json(&mut json, answer)?;
+    Ok(json)
+}
+
+// What a question came to as JSON.
+fn json_text(alloc: Global, call: &Call<'_>, looked: &Looked) -> Result<Vec<u8>, NoMemory>
+    ensures { IfOk result (λ v. v.items ≡ answer_json (answer_value call.now looked.now)) }
+{
+    let text = told_text(alloc, call, looked)?;
+    json_of(
+        alloc,
+        &Answer {
+            query: call.query,
+            status: answer_status(call.query, &looked.reply),
+            text: &text,
+            reply: &looked.reply,
+            notes: &looked.notes,
+        },
+    )
+}
+
+// What is written of what a lookup came to.
+fn written_text(
+    alloc: Global,
+    switches: Switches,
+    call: &Call<'_>,
+    looked: &Looked,
+) -> Result<Vec<u8>, NoMemory>
+    ensures { IfOk result (λ v. v.items ≡ written_text switches call.now looked.now) }
+{
+    if switches.json {
+        json_text(alloc, call, looked)
+    } else {
+        shown_text(alloc, switches, call, looked)
+    }
+}
+
 // What is kept of a lookup, and the status that it then has.
 #[derive(Drop)]
 struct Kept {
@@ -147,7 +191,7 @@ fn looked_told(
     if status > NO_ANSWER {
         return Err(NoMemory);
     }
-    let text = shown_text(alloc, switches, call, looked)?;
+    let text = written_text(alloc, switches, call, looked)?;
     let mut complaint = trusted_lines(alloc, looked)?;
     let Kept {
         status,

@@ -1,0 +1,2 @@
+-- A lemma on lists of values.
+pub mod ListLemmas
