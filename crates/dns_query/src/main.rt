@@ -9,8 +9,10 @@ use dns_link::{SocketDialer, SystemClock};
 use dns_query_handle::SystemStopwatch;
 use dns_query_lookup::Outside;
 use dns_query_run::{FileTexts, run_query};
+use dns_query_waits::WaitingDialer;
 use dns_query_words::{Arguments, Form, read_words};
 use std::fs::File;
+use std::io::{IsTerminal, Stderr};
 use std::process::ExitCode;
 use std::random::RandomSource;
 
@@ -82,6 +84,15 @@ fn say_built_in(rt: &HostRuntime, words: &[Vec<u8>], anchors: &Option<Vec<u8>>) 
     }
 }
 
+// A dialer that says whom it waits for where somebody reads it.
+fn waiting<'a>(
+    rt: &'a HostRuntime,
+    dial: SocketDialer<&'a HostRuntime>,
+) -> WaitingDialer<SocketDialer<&'a HostRuntime>, &'a HostRuntime, Stderr> {
+    let errors = rt.stderr();
+    WaitingDialer::new(rt.alloc(), dial, errors.is_terminal(), rt, errors)
+}
+
 // Runs the program with these texts.
 fn run_with(
     rt: &HostRuntime,
@@ -91,8 +102,8 @@ fn run_with(
 ) -> u8 {
     let files = FileTexts { anchors, resolver };
     let outside = Outside {
-        datagrams: SocketDialer::new(rt),
-        connections: SocketDialer::new(rt).with_deadline(DEADLINE_MS),
+        datagrams: waiting(rt, SocketDialer::new(rt)),
+        connections: waiting(rt, SocketDialer::new(rt).with_deadline(DEADLINE_MS)),
         deadline: SystemStopwatch::new(rt),
         notes: SystemStopwatch::new(rt),
     };

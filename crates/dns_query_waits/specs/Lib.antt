@@ -1,0 +1,2 @@
+-- What the adapters of this crate count.
+pub mod WaitCounts
