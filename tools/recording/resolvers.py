@@ -79,8 +79,8 @@ class Servers:
 
     def __init__(self, folder, preload=None):
         self.processes = []
-        files, self.key = zones.made(folder)
-        server, self.zones = zones.serve(folder, files)
+        self.files, self.key = zones.made(folder)
+        server, self.zones = zones.serve(folder, self.files)
         self.processes.append(server)
         for name, anchor in (("upstream", None), ("validating", self.key)):
             process, port = unbound(folder, self.zones if anchor is None else self.upstream, anchor, preload)
