@@ -4,15 +4,16 @@
 mod session_file;
 
 use crate::session_file::SessionFile;
-use dns_io::{InputSource, OutputSink, read_all, status, words_of};
+use dns_io::{InputSource, OutputSink, ReadStop, read_all, status, words_of};
 use dns_link::{SocketDialer, SystemClock};
 use dns_query_handle::SystemStopwatch;
 use dns_query_lookup::Outside;
 use dns_query_run::{FileTexts, run_query};
 use dns_query_waits::WaitingDialer;
-use dns_query_words::{Arguments, Form, read_words};
+use dns_query_words::{Arguments, Form, WordsError, read_words};
+use dns_record::NoMemory;
 use std::fs::File;
-use std::io::{IsTerminal, Stderr};
+use std::io::{ErrorKind, IsTerminal, Stderr};
 use std::process::ExitCode;
 use std::random::RandomSource;
 
@@ -36,48 +37,78 @@ fn seed_of<R: RandomSource>(source: &R) -> Option<u64> {
     }
 }
 
-// The bytes of a file; None where it can't be read.
-fn text_of(rt: &HostRuntime, path: &str) -> Option<Vec<u8>> {
-    let file = File::open(rt, path).ok()?;
-    let mut source = InputSource::new(file);
-    read_all(rt.alloc(), &mut source).ok()
+// Why nobody is asked.
+#[derive(Drop)]
+enum Stop {
+    // The file of trust anchors that the words name can't be read.
+    Unreadable,
+    NoMemory,
 }
 
-// The words of a question, if they ask one.
-fn asked<'a>(rt: &HostRuntime, words: &'a [Vec<u8>]) -> Option<Arguments<'a>> {
-    match read_words(rt.alloc(), words) {
-        Ok(Form::Ask(arguments)) => Some(arguments),
-        _ => None,
+impl From<NoMemory> for Stop {
+    fn from(_: NoMemory) -> Stop {
+        Stop::NoMemory
     }
 }
 
-// The path of the file of trust anchors that the words name.
-fn anchors_path<'a>(rt: &HostRuntime, words: &'a [Vec<u8>]) -> Option<&'a [u8]> {
-    asked(rt, words)?.anchors
+// The bytes of a file; None where it can't be read.
+fn text_of(rt: &HostRuntime, path: &str) -> Result<Option<Vec<u8>>, NoMemory> {
+    let file = match File::open(rt, path) {
+        Ok(file) => file,
+        Err(error) if error.kind() == ErrorKind::OutOfMemory => return Err(NoMemory),
+        Err(_) => return Ok(None),
+    };
+    let mut source = InputSource::new(file);
+    match read_all(rt.alloc(), &mut source) {
+        Ok(text) => Ok(Some(text)),
+        Err(ReadStop::Failed | ReadStop::TooLong) => Ok(None),
+        Err(ReadStop::NoMemory) => Err(NoMemory),
+    }
 }
 
-// The path of the file that the session is to be written to; None where the words name none, or bytes that are no path.
-fn save_path<'a>(rt: &HostRuntime, words: &'a [Vec<u8>]) -> Option<&'a str> {
-    str::from_utf8(asked(rt, words)?.save?).ok()
+// The words of a question, if they ask one.
+fn asked<'a>(rt: &HostRuntime, words: &'a [Vec<u8>]) -> Result<Option<Arguments<'a>>, NoMemory> {
+    match read_words(rt.alloc(), words) {
+        Ok(Form::Ask(arguments)) => Ok(Some(arguments)),
+        Ok(Form::Help | Form::Version) | Err(WordsError::Refused(_, _)) => Ok(None),
+        Err(WordsError::NoMemory) => Err(NoMemory),
+    }
 }
 
-// The text of the file of trust anchors that the words name, or of the system's; Err where the words name one that can't be read.
-fn anchors_of(rt: &HostRuntime, words: &[Vec<u8>]) -> Result<Option<Vec<u8>>, ()> {
-    let Some(path) = anchors_path(rt, words) else {
-        return Ok(text_of(rt, ROOT_KEYS));
+// The path of the file of trust anchors that a question names.
+fn anchors_path<'a>(asked: &Option<Arguments<'a>>) -> Option<&'a [u8]> {
+    match asked {
+        Some(arguments) => arguments.anchors,
+        None => None,
+    }
+}
+
+// The path of the file that the session is to be written to; None where a question names none, or bytes that are no path.
+fn save_path<'a>(asked: &Option<Arguments<'a>>) -> Option<&'a str> {
+    match asked {
+        Some(arguments) => str::from_utf8(arguments.save?).ok(),
+        None => None,
+    }
+}
+
+// The text of the file of trust anchors that a question names, or of the system's. Running out of memory isn't taken for a file that
+// can't be read, since other keys would then be trusted than those that are named.
+fn anchors_of(rt: &HostRuntime, asked: &Option<Arguments<'_>>) -> Result<Option<Vec<u8>>, Stop> {
+    let Some(path) = anchors_path(asked) else {
+        return Ok(text_of(rt, ROOT_KEYS)?);
     };
     let Ok(path) = str::from_utf8(path) else {
-        return Err(());
+        return Err(Stop::Unreadable);
     };
-    match text_of(rt, path) {
+    match text_of(rt, path)? {
         Some(text) => Ok(Some(text)),
-        None => Err(()),
+        None => Err(Stop::Unreadable),
     }
 }
 
 // Says which keys are trusted where a question is asked and there is no file of them.
-fn say_built_in(rt: &HostRuntime, words: &[Vec<u8>], anchors: &Option<Vec<u8>>) {
-    if anchors.is_none() && asked(rt, words).is_some() {
+fn say_built_in(rt: &HostRuntime, is_asked: bool, anchors: &Option<Vec<u8>>) {
+    if is_asked && anchors.is_none() {
         let _ = eprintln!(rt;
             "dns_query: the root's keys 20326 and 38696 are trusted, since {ROOT_KEYS} can't be read"
         );
@@ -99,6 +130,7 @@ fn run_with(
     words: &[Vec<u8>],
     anchors: Option<&[u8]>,
     resolver: Option<&[u8]>,
+    save: Option<&str>,
 ) -> u8 {
     let files = FileTexts { anchors, resolver };
     let outside = Outside {
@@ -109,7 +141,7 @@ fn run_with(
     };
     let mut clock = SystemClock::new(rt);
     let mut output = OutputSink::new(rt.stdout());
-    let mut saved = SessionFile::new(rt, save_path(rt, words));
+    let mut saved = SessionFile::new(rt, save);
     let mut errors = OutputSink::new(rt.stderr());
     run_query(
         rt.alloc(),
@@ -124,6 +156,16 @@ fn run_with(
     )
 }
 
+// The status of what the words come to, by the files that they need.
+fn status_of(rt: &HostRuntime, words: &[Vec<u8>]) -> Result<u8, Stop> {
+    let asked = asked(rt, words)?;
+    let anchors = anchors_of(rt, &asked)?;
+    say_built_in(rt, asked.is_some(), &anchors);
+    let resolver = text_of(rt, RESOLVER)?;
+    let save = save_path(&asked);
+    Ok(run_with(rt, words, anchors.as_deref(), resolver.as_deref(), save))
+}
+
 // Words that can't be read are no call.
 fn main(rt: HostRuntime) -> ExitCode {
     let words = match words_of(&rt) {
@@ -131,12 +173,12 @@ fn main(rt: HostRuntime) -> ExitCode {
         Ok(None) => Vec::new(rt.alloc()),
         Err(_) => return ExitCode::from(status::NO_MEMORY),
     };
-    let Ok(anchors) = anchors_of(&rt, &words) else {
-        let _ = eprintln!(rt; "dns_query: the file of trust anchors can't be read");
-        return ExitCode::from(NO_ANSWER);
-    };
-    say_built_in(&rt, &words, &anchors);
-    let resolver = text_of(&rt, RESOLVER);
-    let status = run_with(&rt, &words, anchors.as_deref(), resolver.as_deref());
-    ExitCode::from(status)
+    match status_of(&rt, &words) {
+        Ok(status) => ExitCode::from(status),
+        Err(Stop::NoMemory) => ExitCode::from(status::NO_MEMORY),
+        Err(Stop::Unreadable) => {
+            let _ = eprintln!(rt; "dns_query: the file of trust anchors can't be read");
+            ExitCode::from(NO_ANSWER)
+        }
+    }
 }
