@@ -134,10 +134,13 @@ unfoldable pub heard_field : Reply → List ℕ
 heard_field (Ok response) = code_field (Some response.message.response_code)
 heard_field (Err error) = string_field (codes "fault") (fault_words error)
 
--- a query, what it was answered, and how long that took
+-- how long a query took, and what it was answered
+unfoldable pub outcome_fields : Reply → ℕ → List ℕ
+outcome_fields reply elapsed = number_field (codes "milliseconds") elapsed ++ (44 ∷ heard_field reply)
+
+-- the same behind what was asked
 unfoldable pub note_fields : Question → Reply → ℕ → List ℕ
-note_fields q reply elapsed =
-    question_fields q.owner q.rtype ++ (44 ∷ (number_field (codes "milliseconds") elapsed ++ (44 ∷ heard_field reply)))
+note_fields q reply elapsed = question_fields q.owner q.rtype ++ (44 ∷ outcome_fields reply elapsed)
 
 unfoldable pub note_value : NoteValue → List ℕ
 note_value a = 123 ∷ (note_fields a.question a.reply a.elapsed ++ 125 ∷ [])

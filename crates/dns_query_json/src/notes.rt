@@ -1,7 +1,7 @@
 //! The queries that were sent for an answer.
 ghost use Rattle.std.specs.Prelude.{◌≡◌, ◌++◌, codes, OnOk};
 ghost use Rattle.dns_handle.specs.Replies.{error_of, reply_of};
-ghost use Rattle.dns_query_json.specs.AnswerJson.{code_field, fault_words, heard_field, note_fields, trail_field, words_in as words_in_line};
+ghost use Rattle.dns_query_json.specs.AnswerJson.{code_field, fault_words, heard_field, note_fields, outcome_fields, trail_field, words_in as words_in_line};
 ghost use Rattle.dns_query_json.specs.Json.{string_field};
 
 use crate::lists::{JsonValue, push_list};
@@ -57,7 +57,21 @@ fn push_heard(into: &mut Vec<u8>, reply: &Result<DnsResponse, NetError>) -> Resu
     }
 }
 
-// Appends the fields of a query, of how long it took, and of what it was answered.
+// Appends the fields of how long a query took, and of what it was answered.
+#[tactic(auto, unfolding(crate::specs::AnswerJson::outcome_fields))]
+fn push_outcome(
+    into: &mut Vec<u8>,
+    reply: &Result<DnsResponse, NetError>,
+    elapsed_ms: u64,
+) -> Result<(), NoMemory>
+    ensures { OnOk result (into.new.items ≡ into.old.items ++ outcome_fields (reply_of reply.now) elapsed_ms) }
+{
+    push_number_field(into, b"milliseconds", elapsed_ms)?;
+    push_sign(into, b',')?;
+    push_heard(into, reply)
+}
+
+// Appends the same behind what was asked.
 #[tactic(auto, unfolding(crate::specs::AnswerJson::note_fields))]
 fn push_fields(
     into: &mut Vec<u8>,
@@ -69,9 +83,7 @@ fn push_fields(
 {
     push_question(into, &query.name, query.query_type)?;
     push_sign(into, b',')?;
-    push_number_field(into, b"milliseconds", elapsed_ms)?;
-    push_sign(into, b',')?;
-    push_heard(into, reply)
+    push_outcome(into, reply, elapsed_ms)
 }
 
 impl JsonValue for Note {
