@@ -21,7 +21,7 @@ use Rattle.dns_query_handle.specs.Notes.{NoteValue}
 use Rattle.dns_record.specs.Words.{type_word}
 use Rattle.dns_report.specs.Faults.{fault_text}
 use Rattle.dns_report.specs.LineWords.{mark_word, section_word}
-use Rattle.dns_query_json.specs.Json.{quoted, number_or_null, named, number_field, string_field, listed}
+use Rattle.dns_query_json.specs.Json.{number_or_null, named, number_field, string_field, listed}
 
 -- ---- names and types
 
