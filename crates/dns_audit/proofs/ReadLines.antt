@@ -19,7 +19,7 @@ use Rattle.dns_report.specs.LineWords.{mark_word, section_word, denial_words}
 use Rattle.dns_report.specs.Fields.{is_u16}
 use Rattle.dns_report.specs.View.{Numbered, numbered, shown_link, fitting_record, fitting_key, fitting_link}
 use Rattle.dns_report.specs.Report.{key_words}
-use Rattle.dns_report.proofs.LineLaws.{Line}
+use Rattle.dns_text.proofs.LineShapes.{Line}
 use Rattle.dns_report.proofs.ReportLines.{record_of, link_of}
 use Rattle.dns_audit.specs.ReportWords.{u32_in, rdata_in, mark_in}
 use Rattle.dns_audit.specs.LineParts.{each_in, quintuple, sextuple, first_of, two_of, six_of}

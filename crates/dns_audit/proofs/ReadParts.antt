@@ -15,7 +15,7 @@ use Rattle.dns_report.specs.Fields.{is_u32}
 use Rattle.dns_report.specs.LineWords.{section_word}
 use Rattle.dns_report.specs.View.{shown_link, chain_view, fitting_link, fitting_chain}
 use Rattle.dns_report.specs.TrailView.{StepView, unmarked, heard_view, step_view, fitting_told, fitting_heard, fitting_set, fitting_step, fitting_trail}
-use Rattle.dns_report.proofs.LineLaws.{Line}
+use Rattle.dns_text.proofs.LineShapes.{Line}
 use Rattle.dns_report.proofs.LineBlocks.{Block, blocks, one_line}
 use Rattle.dns_report.proofs.ReportLines.{link_of, chain_lines}
 use Rattle.dns_report.proofs.StepLines.{step_of, got_of, told_of, told_in, told_lines, set_of, ending_of, judged_lines, step_lines, trail_lines}

@@ -14,7 +14,7 @@ use Rattle.dns_session.specs.Grammar.{if_ended}
 use Rattle.dns_report.specs.LineWords.{denial_words}
 use Rattle.dns_report.specs.View.{View, fitting_record, fitting_view}
 use Rattle.dns_report.specs.Report.{view_text}
-use Rattle.dns_report.proofs.LineLaws.{Line, is_line}
+use Rattle.dns_text.proofs.LineShapes.{Line, is_line}
 use Rattle.dns_report.proofs.LineBlocks.{one_line}
 use Rattle.dns_report.proofs.ReportLines.{record_of, section_lines, last, later_lines, lines_of, text_is_lines}
 use Rattle.dns_report.proofs.StepLines.{trail_lines}
@@ -27,7 +27,8 @@ use Rattle.dns_audit.specs.Respelled.{WordsRespell, LinesRespell, Respelled, vie
 use Rattle.dns_audit.proofs.FromSteps.{nothing_left, given, same_ok}
 use Rattle.dns_audit.proofs.ReadLines.{words_are, code_from, denial_from, record_from}
 use Rattle.dns_audit.proofs.ReadParts.{Tell, one_read, one_tells, Back, many_back, chains_back, trail_back}
-use Rattle.dns_audit.proofs.WrittenLines.{left_of, text_pieces, line_words}
+use Rattle.dns_session.proofs.WordLines.{line_words}
+use Rattle.dns_audit.proofs.WrittenLines.{left_of, text_pieces}
 use Rattle.dns_audit.proofs.WrittenParts.{map_same}
 
 -- a fixed line

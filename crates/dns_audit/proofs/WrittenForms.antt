@@ -25,7 +25,7 @@ use Rattle.dns_report.specs.View.{Numbered, Shown, Anchored, Matched, KeySet, Si
 use Rattle.dns_report.specs.Report.{key_words}
 use Rattle.dns_report.specs.TrailView.{ToldRecord, HeardView, Records, Fault, StepView, fitting_told, fitting_heard, fitting_set, fitting_ending, fitting_ask}
 use Rattle.dns_report.specs.TrailLines.{ask_word, ending_words}
-use Rattle.dns_report.proofs.LineLaws.{is_line}
+use Rattle.dns_text.proofs.LineShapes.{is_line}
 use Rattle.dns_report.proofs.MarkWords.{denial_is_words}
 use Rattle.dns_report.proofs.FieldWords.{small_good, number_good, below_u16}
 use Rattle.dns_report.proofs.TrailWords.{fits_foreign, no_number}
@@ -39,7 +39,7 @@ use Rattle.dns_audit.specs.ReportWords.{u16_in, u32_in, section_in}
 use Rattle.dns_audit.specs.LineParts.{quintuple, sextuple, first_of}
 use Rattle.dns_audit.specs.ReportLines.{code_line, whole, denial_by, denial_line, record_in, record_line, chain_line, numbered_key, numbered_in, link_by, link_line, trail_line, step_in, step_line, got_by, got_in, got_line, unmarked_in, told_line, set_in, set_line, plain_by, ending_by, ending_in, ending_line}
 use Rattle.dns_audit.specs.Written.{is_short, short_key, short_link, short_record, short_told, link_shown, told_shown}
-use Rattle.dns_audit.proofs.WrittenLines.{joined, line_words}
+use Rattle.dns_session.proofs.WordLines.{joined, line_words}
 use Rattle.dns_audit.proofs.WrittenWords.{mark_read, section_read, purpose_read, name_read, class_read, type_read, small_read, number_read, rdata_read, not_decimal, origin_read, place_read, asks_read, rdatas_read}
 
 -- ---- the forms of lines, by their words

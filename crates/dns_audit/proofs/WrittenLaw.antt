@@ -11,7 +11,7 @@ use Rattle.dns_report.specs.LineWords.{section_word, denial_words}
 use Rattle.dns_report.specs.TrailView.{StepView}
 use Rattle.dns_report.specs.View.{ChainView, View, fitting_record, fitting_chain, fitting_view}
 use Rattle.dns_report.specs.Report.{view_text}
-use Rattle.dns_report.proofs.LineLaws.{Line}
+use Rattle.dns_text.proofs.LineShapes.{Line}
 use Rattle.dns_report.proofs.LineBlocks.{blocks, starts, named}
 use Rattle.dns_report.proofs.FieldWords.{number_good}
 use Rattle.dns_report.proofs.RecordLaws.{record_good}

@@ -14,7 +14,7 @@ use Rattle.dns_report.specs.LineWords.{section_word}
 use Rattle.dns_report.specs.Fields.{is_u32}
 use Rattle.dns_report.specs.View.{Shown, ChainView, fitting_link, fitting_chain}
 use Rattle.dns_report.specs.TrailView.{HeardView, Records, Fault, StepView, fitting_told, fitting_heard, fitting_set, fitting_step, fitting_trail}
-use Rattle.dns_report.proofs.LineLaws.{Line, is_line}
+use Rattle.dns_text.proofs.LineShapes.{Line, is_line}
 use Rattle.dns_report.proofs.LineBlocks.{Block, blocks, one_line, starts, named}
 use Rattle.dns_report.proofs.ReportLines.{link_of, front_of, chain_lines, last}
 use Rattle.dns_report.proofs.LinkLaws.{fits_chain, chain_good}
@@ -23,7 +23,8 @@ use Rattle.dns_report.proofs.StepLaws.{is_told, told_good, Untold, additionals_s
 use Rattle.dns_audit.specs.ReportLines.{chain_line, link_line, trail_line, step_line, got_line, told_line, set_in, set_line, ending_line}
 use Rattle.dns_audit.specs.ReportGrammar.{times, chain_after, chains_in, told_at, step_at, trail_at}
 use Rattle.dns_audit.specs.Written.{link_shown, chain_shown, told_shown, heard_shown, step_shown, short_link, short_chain, short_told, short_heard, short_step, short_trail}
-use Rattle.dns_audit.proofs.WrittenLines.{joined, left_of, line_words, read_line, one_line_read, Stops, none_read, stop_many, more_many}
+use Rattle.dns_session.proofs.WordLines.{joined, line_words}
+use Rattle.dns_audit.proofs.WrittenLines.{left_of, read_line, one_line_read, Stops, none_read, stop_many, more_many}
 use Rattle.dns_audit.proofs.WrittenForms.{told_by, front_reads, link_reads, count_reads, step_reads, got_shown, got_reads, told_reads, set_reads, ending_reads}
 
 -- ---- what a part reads

@@ -4,7 +4,8 @@ use Rattle.std.specs.Fmt.{decimal}
 use Rattle.dns_model.specs.NameText.{printed}
 use Rattle.dns_model.specs.Trails.{AskedValue, JudgedSetValue}
 use Rattle.dns_record.specs.Words.{type_word}
-use Rattle.dns_report.specs.LineWords.{line, section_word}
+use Rattle.dns_text.specs.Lines.{line}
+use Rattle.dns_report.specs.LineWords.{section_word}
 use Rattle.dns_rules.specs.ProofErrors.{ProofErrorKindValue, RrsigsNotPresent, Net, RrsigsUnverified, DnskeyNotFound, DsRecordsButNoDnskey, DsRecordShouldExist, DsResponseInsecure, UnknownKeyAlgorithm, ErrorComputingKeyTag, UnsupportedKeyAlgorithm, DnsKeyHasNoDs, InsecureDnsKey, DnsKeyRevoked, NotZoneDnsKey, AlgorithmMismatch, Msg, DnsKeyVerifyRrsig, NoMemory}
 
 -- the word of a cause

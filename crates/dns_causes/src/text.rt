@@ -14,19 +14,9 @@ use dns_cache::ProofErrorKind;
 use dns_evidence::{Asked, JudgedSet, Trail};
 use dns_model::Section;
 use dns_record::{Name, NoMemory, RecordType};
-use dns_text::{push_decimal, push_type};
+use dns_report::section_word;
+use dns_text::{push_name_word, push_number, push_type_word, push_word};
 use std::alloc::Global;
-
-// The word of a section.
-fn section_word(section: Section) -> &'static [u8]
-    ensures { result.now ≡ section_word section }
-{
-    match section {
-        Section::Answer => b"answer",
-        Section::Authority => b"authority",
-        Section::Additional => b"additional",
-    }
-}
 
 // The word of a cause.
 fn kind_word(kind: &ProofErrorKind) -> &'static [u8]
@@ -64,21 +54,11 @@ fn cause_word(cause: &Option<ProofErrorKind>) -> &'static [u8]
     }
 }
 
-// Appends a word, with a space before it.
-fn push_word(into: &mut Vec<u8>, word: &[u8]) -> Result<(), NoMemory>
-    ensures { OnOk result (into.new.items ≡ into.old.items ++ (32 ∷ word.now)) }
-{
-    into.push(b' ')?;
-    into.extend_from_slice(word)?;
-    Ok(())
-}
-
 // Appends the number of a step and the section of a set.
 fn push_place(into: &mut Vec<u8>, step: u64, section: Section) -> Result<(), NoMemory>
     ensures { OnOk result (into.new.items ≡ into.old.items ++ (32 ∷ decimal step) ++ (32 ∷ section_word section)) }
 {
-    into.push(b' ')?;
-    push_decimal(into, step)?;
+    push_number(into, step)?;
     push_word(into, section_word(section))
 }
 
@@ -86,10 +66,8 @@ fn push_place(into: &mut Vec<u8>, step: u64, section: Section) -> Result<(), NoM
 fn push_owner(into: &mut Vec<u8>, owner: &Name, record_type: RecordType) -> Result<(), NoMemory>
     ensures { OnOk result (into.new.items ≡ into.old.items ++ (32 ∷ printed owner.now) ++ (32 ∷ type_word record_type.0)) }
 {
-    let text = owner.to_ascii()?;
-    push_word(into, text.as_bytes())?;
-    into.push(b' ')?;
-    push_type(into, record_type)
+    push_name_word(into, owner)?;
+    push_type_word(into, record_type)
 }
 
 // Appends the line of a set.

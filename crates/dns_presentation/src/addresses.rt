@@ -4,8 +4,9 @@ ghost use Rattle.dns_presentation.specs.Forms.{a_words, aaaa_words};
 ghost use Rattle.dns_presentation.specs.Presentation.{or_generic};
 ghost use Rattle.dns_presentation.specs.Spelling.{spaced};
 
-use crate::words::{push_generic, push_word};
+use crate::words::push_generic;
 use dns_record::NoMemory;
+use dns_text::push_word;
 use std::net::{Ipv4Addr, Ipv6Addr};
 
 /// Appends the rdata of an A record.

@@ -10,11 +10,10 @@ use crate::names::push_name_word;
 use crate::strings::counted_front;
 use crate::type_lists::types_of;
 use crate::type_texts::{push_type_word, push_types};
-use crate::words::{
-    push_base64, push_generic, push_number, push_numbers, push_octets_word, push_word,
-};
+use crate::words::{push_base64, push_generic, push_numbers};
 use dns_rdata::{Dnskey, Ds, Nsec, Nsec3, Rrsig, base32hex_encode, u16_at};
 use dns_record::NoMemory;
+use dns_text::{push_number, push_octets_word, push_word};
 
 /// Appends the rdata of a DS or a CDS record (RFC 4034, 5.3; RFC 7344, 3.1).
 #[tactic(auto, unfolding(crate::specs::Forms::ds_words))]

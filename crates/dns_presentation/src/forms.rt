@@ -8,9 +8,10 @@ ghost use Rattle.dns_presentation.specs.Spelling.{spaced};
 
 use crate::names::push_name_word;
 use crate::strings::quoted_strings;
-use crate::words::{push_generic, push_number, push_numbers};
+use crate::words::{push_generic, push_numbers};
 use dns_rdata::{Soa, u16_at};
 use dns_record::{NameRef, NoMemory};
+use dns_text::push_number;
 use std::marker::Model;
 
 // The name whose wire form the bytes are.

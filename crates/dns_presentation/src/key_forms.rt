@@ -9,8 +9,9 @@ ghost use Rattle.dns_presentation.specs.Spelling.{spaced};
 
 use crate::names::push_quoted;
 use crate::strings::counted_front;
-use crate::words::{push_generic, push_number, push_octets_word, push_word};
+use crate::words::push_generic;
 use dns_record::NoMemory;
+use dns_text::{push_number, push_octets_word, push_word};
 
 /// Appends the rdata of an SSHFP record (RFC 4255, 3.2).
 #[tactic(auto, unfolding(crate::specs::Forms::sshfp_words))]

@@ -13,8 +13,9 @@ use crate::forms::{push_mx, push_name_form, push_soa, push_srv, push_txt};
 use crate::key_forms::{push_caa, push_sshfp, push_tlsa};
 use crate::names::push_name;
 use crate::type_texts::{CAA, CDNSKEY, CDS, SMIMEA, SSHFP, TLSA, push_type_word};
-use crate::words::{push_class_word, push_generic, push_number};
+use crate::words::push_generic;
 use dns_record::{DNSClass, NoMemory, Record, RecordType};
+use dns_text::{push_class_word, push_number};
 use std::alloc::Global;
 
 /// A record as a line of a master file, without the line's end: owner, ttl, class, type and rdata, one space between each two.

@@ -5,9 +5,8 @@ ghost use Rattle.dns_record.specs.Words.{own_word};
 ghost use Rattle.dns_presentation.specs.Spelling.{space, spaced};
 ghost use Rattle.dns_presentation.specs.TypeTexts.{further_rows, type_text};
 
-use crate::words::push_word;
 use dns_record::{NoMemory, RecordType};
-use dns_text::push_type;
+use dns_text::{push_type, push_word};
 
 /// A fingerprint of a host's key (RFC 4255).
 pub const SSHFP: RecordType = RecordType(44);

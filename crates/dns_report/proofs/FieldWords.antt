@@ -9,7 +9,7 @@ use Rattle.dns_model.specs.Names.{Labels, is_name}
 use Rattle.dns_model.specs.NameText.{printed}
 use Rattle.dns_record.specs.Words.{type_word, class_word}
 use Rattle.dns_text.specs.Words.{octets_word}
-use Rattle.dns_report.specs.LineWords.{Words}
+use Rattle.dns_text.specs.Lines.{Words}
 use Rattle.dns_text.proofs.WordShapes.{is_word, decimal_word, type_is_word, class_is_word, type_injective, class_injective, octets_is_word, octets_injective}
 use Rattle.dns_report.specs.Fields.{fitting_name, is_u16, is_u32}
 use Rattle.dns_report.specs.View.{Numbered, fitting_key}

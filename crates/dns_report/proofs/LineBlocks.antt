@@ -5,7 +5,7 @@ use Rattle.std.specs.List.{list_all, flat_map}
 use Rattle.std.proofs.lemmas.Bool.{and_parts}
 use Rattle.std.proofs.lemmas.List.{append_assoc}
 use Rattle.dns_model.specs.Keys.{bytes_eq}
-use Rattle.dns_report.proofs.LineLaws.{Line, text_of, is_line}
+use Rattle.dns_text.proofs.LineShapes.{Line, text_of, is_line}
 
 -- the lines of a value, and those that follow
 abbrev pub Block : Type 0 → Type 0

@@ -1,11 +1,12 @@
 -- A text of lines tells its lines, and a line its words, where each byte of a word is above the space.
-use Rattle.std.proofs.Common.{◌≡◌, ℕ, ◌<◌, ◌≤◌, Bool, true, ◌&&◌, nat_lt, List, [], ◌∷◌, ◌++◌, length, slice_index, refl, sym, ap, ◌∙◌, arith, length-append}
+use Rattle.std.proofs.Common.{◌≡◌, ℕ, ◌<◌, ◌≤◌, true, nat_lt, List, [], ◌∷◌, ◌++◌, length, slice_index, refl, sym, ap, ◌∙◌, arith, length-append}
 use Rattle.std.specs.List.{list_all, flat_map}
 use Rattle.std.proofs.lemmas.Bool.{and_parts}
 use Rattle.std.proofs.lemmas.Bool.Decides.{nat_tests}
 use Rattle.std.proofs.lemmas.List.{append_assoc}
 use Rattle.dns_text.proofs.WordShapes.{is_word}
-use Rattle.dns_report.specs.LineWords.{Words, line, line_rest}
+use Rattle.dns_text.proofs.LineShapes.{Line, text_of, is_line}
+use Rattle.dns_text.specs.Lines.{Words, line, line_rest}
 
 pub head_same : {x y : ℕ} {xs ys : List ℕ} → x ∷ xs ≡ y ∷ ys → x ≡ y
 head_same h = ap (λ l. slice_index l 0) h
@@ -77,16 +78,6 @@ line_cut a b (w ∷ ws) (v ∷ vs) x y first second all_first all_second h =
     let same = cut a b 32 32 (line w ws ++ x) (line v vs ++ y) first second (omega arith) (omega arith) e in
     let more = line_cut w v ws vs x y parts.0 others.0 parts.1 others.1 same.rest in
     record { word = same.word; words = rw (more.word, more.words) refl; rest = more.rest }
-
--- a line: its first word, and those after it
-abbrev pub Line : Type 0
-Line = List ℕ × Words
-
-abbrev pub text_of : Line → List ℕ
-text_of l = line l.0 l.1
-
-abbrev pub is_line : Line → Bool
-is_line l = is_word l.0 && list_all is_word l.1
 
 rest_some : (ws : Words) → 0 < length (line_rest ws)
 rest_some [] = omega arith

@@ -13,7 +13,7 @@ use Rattle.dns_text.proofs.WordShapes.{decimal_word, octets_is_word, octets_inje
 use Rattle.dns_report.specs.Fields.{fitting_name, is_u16, is_u32}
 use Rattle.dns_report.specs.View.{Numbered, Shown, Anchored, Matched, KeySet, Signed, ChainView, fitting_key, fitting_link, fitting_chain}
 use Rattle.dns_report.specs.Report.{key_words}
-use Rattle.dns_report.proofs.LineLaws.{Line, is_line}
+use Rattle.dns_text.proofs.LineShapes.{Line, is_line}
 use Rattle.dns_report.proofs.NameShapes.{printed_word}
 use Rattle.dns_report.proofs.MarkWords.{section_injective, section_is_word}
 use Rattle.dns_report.proofs.FieldWords.{class_good, type_good, number_good, rdatas_good, keys_good, name_tells, class_tells, type_tells, number_tells, rdatas_tell, keys_tell, more_words}

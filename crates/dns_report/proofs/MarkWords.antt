@@ -8,7 +8,8 @@ use Rattle.dns_model.specs.declared.section.Section.TheVariants.{Answer, Authori
 use Rattle.dns_model.specs.declared.denial.Denial.{Denial}
 use Rattle.dns_model.specs.declared.denial.Denial.TheVariants.{None, Absent, Expanded}
 use Rattle.dns_text.proofs.WordShapes.{is_word}
-use Rattle.dns_report.specs.LineWords.{Words, mark_word, section_word, denial_words}
+use Rattle.dns_text.specs.Lines.{Words}
+use Rattle.dns_report.specs.LineWords.{mark_word, section_word, denial_words}
 
 -- the words differ in length
 abbrev pub mark_of : List ℕ → Proof

@@ -11,7 +11,7 @@ use Rattle.dns_text.specs.Words.{octets_word}
 use Rattle.dns_text.proofs.WordShapes.{octets_is_word, octets_injective}
 use Rattle.dns_report.specs.LineWords.{mark_word, section_word}
 use Rattle.dns_report.specs.View.{fitting_record}
-use Rattle.dns_report.proofs.LineLaws.{Line, is_line}
+use Rattle.dns_text.proofs.LineShapes.{Line, is_line}
 use Rattle.dns_report.proofs.NameShapes.{printed_word}
 use Rattle.dns_report.proofs.MarkWords.{mark_injective, mark_is_word, section_is_word}
 use Rattle.dns_report.proofs.FieldWords.{FitFields, fit_fields, class_good, type_good, number_good, name_tells, class_tells, type_tells, number_tells}

@@ -10,7 +10,8 @@ use Rattle.dns_report.specs.Fields.{is_u16}
 use Rattle.dns_report.specs.TrailView.{StepView, fitting_trail}
 use Rattle.dns_report.specs.View.{ChainView, View, fitting_record, fitting_chain, fitting_view}
 use Rattle.dns_report.specs.Report.{view_text}
-use Rattle.dns_report.proofs.LineLaws.{Line, is_line, lines_same}
+use Rattle.dns_text.proofs.LineShapes.{Line, is_line}
+use Rattle.dns_report.proofs.LineLaws.{lines_same}
 use Rattle.dns_report.proofs.MarkWords.{denial_injective, denial_is_words}
 use Rattle.dns_report.proofs.FieldWords.{small_good, small_tells}
 use Rattle.dns_report.proofs.LineBlocks.{one_line, starts, named, first_line, other_lines, blocks_start}

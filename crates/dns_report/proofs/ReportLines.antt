@@ -14,7 +14,7 @@ use Rattle.dns_report.specs.View.{Shown, Anchored, Matched, KeySet, Signed, Chai
 use Rattle.dns_report.specs.TrailLines.{trail_text}
 use Rattle.dns_report.specs.Report.{key_words, record_line, section_text, link_line, chain_text, records_text, head_text, view_body, view_text}
 use Rattle.dns_report.specs.WrittenLines.{report_header, code_line, denial_line, chain_line, report_end}
-use Rattle.dns_report.proofs.LineLaws.{Line, text_of}
+use Rattle.dns_text.proofs.LineShapes.{Line, text_of}
 use Rattle.dns_report.proofs.LineBlocks.{Block, blocks, one_line, blocks_are}
 use Rattle.dns_report.proofs.StepLines.{trail_lines, trail_is}
 

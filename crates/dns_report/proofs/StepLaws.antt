@@ -19,7 +19,7 @@ use Rattle.dns_report.specs.LineWords.{mark_word, section_word}
 use Rattle.dns_report.specs.Fields.{fitting_name, is_u16}
 use Rattle.dns_report.specs.TrailView.{ToldRecord, HeardView, Records, Fault, StepView, fitting_told, fitting_heard, fitting_ask, fitting_origin, fitting_set, fitting_ending, fitting_step, fitting_trail}
 use Rattle.dns_report.specs.TrailLines.{purpose_word, empty_words, ask_word, origin_word, place_word, ending_words}
-use Rattle.dns_report.proofs.LineLaws.{Line, is_line}
+use Rattle.dns_text.proofs.LineShapes.{Line, is_line}
 use Rattle.dns_report.proofs.NameShapes.{printed_word}
 use Rattle.dns_report.proofs.MarkWords.{mark_injective, mark_is_word, section_injective, section_is_word}
 use Rattle.dns_report.proofs.FieldWords.{FitFields, fit_fields, below_u16, small_good, number_good, class_good, type_good, small_tells, number_tells, name_tells, class_tells, type_tells, more_words, each_good, each_tells}

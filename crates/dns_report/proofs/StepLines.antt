@@ -14,7 +14,7 @@ use Rattle.dns_report.specs.LineWords.{mark_word, section_word}
 use Rattle.dns_report.specs.TrailView.{ToldRecord, HeardView, Records, Fault, StepView}
 use Rattle.dns_report.specs.TrailLines.{purpose_word, got_words, ask_word, origin_word, place_word, ending_words, told_line, told_text, set_line, step_text, trail_text}
 use Rattle.dns_report.specs.WrittenLines.{ending_line, count_line, step_line, got_line}
-use Rattle.dns_report.proofs.LineLaws.{Line, text_of}
+use Rattle.dns_text.proofs.LineShapes.{Line, text_of}
 use Rattle.dns_report.proofs.LineBlocks.{Block, blocks, one_line, blocks_are}
 
 abbrev pub step_of : StepView → Line

@@ -21,7 +21,7 @@ use Rattle.dns_text.specs.Codes.{type_word_in, class_word_in}
 use Rattle.dns_text.proofs.WordLaws.{own, type_back, class_back}
 use Rattle.dns_text.proofs.WordShapes.{is_word, word_append}
 use Rattle.dns_record.proofs.TextLemmas.{read_printed}
-use Rattle.dns_report.specs.LineWords.{Words}
+use Rattle.dns_text.specs.Lines.{Words}
 use Rattle.dns_report.specs.Fields.{fitting_name, is_u16, is_u32}
 use Rattle.dns_report.specs.TrailView.{fitting_ask, fitting_origin, fitting_ending}
 use Rattle.dns_report.specs.TrailLines.{purpose_word, empty_words, ask_word, origin_word, place_word, ending_words}

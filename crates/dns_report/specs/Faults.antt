@@ -11,7 +11,8 @@ use Rattle.dns_handle.specs.declared.error.ProtoError.TheVariants.{Decode, TooLo
 use Rattle.dns_handle.specs.Notices.{notice_text}
 use Rattle.dns_handle.specs.Errors.{DnsErrorValue, ResponseCode, NoRecordsFound, Nsec, DnssecBogus, ErrorValue, Busy, Dns, Message, Msg, NoConnections, Proto, Io, Timeout, QueryCaseMismatch, ForeignClassRecord, Truncated, NoMemory}
 use Rattle.dns_record.specs.Words.{type_word, class_word}
-use Rattle.dns_report.specs.LineWords.{Words, line, mark_word}
+use Rattle.dns_text.specs.Lines.{Words, line}
+use Rattle.dns_report.specs.LineWords.{mark_word}
 
 -- the word of a kind is its name
 abbrev pub io_word : IoKind → List ℕ

@@ -1,28 +1,12 @@
--- Lines of words, one space between each two and LF after the last; and the words of marks, sections and denials (RFC 4035, 4.3).
-use Rattle.std.specs.Prelude.{ℕ, List, [], ◌∷◌, ◌++◌, codes}
+-- The words of marks, sections and denials (RFC 4035, 4.3).
+use Rattle.std.specs.Prelude.{ℕ, List, [], ◌∷◌, codes}
+use Rattle.dns_text.specs.Lines.{Words}
 use Rattle.dns_model.specs.declared.proof.Proof.{Proof}
 use Rattle.dns_model.specs.declared.proof.Proof.TheVariants.{Secure, Insecure, Bogus, Indeterminate}
 use Rattle.dns_model.specs.declared.section.Section.{Section}
 use Rattle.dns_model.specs.declared.section.Section.TheVariants.{Answer, Authority, Additional}
 use Rattle.dns_model.specs.declared.denial.Denial.{Denial}
 use Rattle.dns_model.specs.declared.denial.Denial.TheVariants.{None, Absent, Expanded}
-
-abbrev pub Words : Type 0
-Words = List (List ℕ)
-
--- words after the first of a line, a space before each, and LF
-abbrev pub line_rest : Words → List ℕ
-line_rest [] = 10 ∷ []
-line_rest (word ∷ words) = 32 ∷ (word ++ line_rest words)
-
--- words, a space before each
-abbrev pub spaced : Words → List ℕ
-spaced [] = []
-spaced (word ∷ words) = 32 ∷ (word ++ spaced words)
-
--- a line
-abbrev pub line : List ℕ → Words → List ℕ
-line word words = word ++ line_rest words
 
 -- the word of a mark
 abbrev pub mark_word : Proof → List ℕ

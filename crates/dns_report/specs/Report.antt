@@ -12,7 +12,8 @@ use Rattle.dns_model.specs.SoundAnswers.{ResponseValue}
 use Rattle.dns_record.specs.Words.{type_word, class_word}
 use Rattle.dns_text.specs.Words.{octets_word}
 use Rattle.dns_report.specs.declared.parts.Parts.{Parts}
-use Rattle.dns_report.specs.LineWords.{Words, line, mark_word, section_word, denial_words}
+use Rattle.dns_text.specs.Lines.{Words, line}
+use Rattle.dns_report.specs.LineWords.{mark_word, section_word, denial_words}
 use Rattle.dns_report.specs.TrailLines.{trail_text}
 use Rattle.dns_report.specs.View.{Numbered, Shown, Anchored, Matched, KeySet, Signed, ChainView, View, view_of}
 

@@ -12,7 +12,8 @@ use Rattle.dns_model.specs.NameText.{printed}
 use Rattle.dns_model.specs.Trails.{JudgedSetValue, EndingValue, Answered, Denied, Foreign, Failed, Seen}
 use Rattle.dns_record.specs.Words.{type_word, class_word}
 use Rattle.dns_text.specs.Words.{octets_word}
-use Rattle.dns_report.specs.LineWords.{Words, line, mark_word, section_word, denial_words}
+use Rattle.dns_text.specs.Lines.{Words, line}
+use Rattle.dns_report.specs.LineWords.{mark_word, section_word, denial_words}
 use Rattle.dns_report.specs.TrailView.{ToldRecord, HeardView, Records, Fault, StepView}
 
 -- what a reply is asked for: to be judged, or only to see the name servers that it tells

@@ -4,7 +4,8 @@ use Rattle.std.specs.Fmt.{decimal}
 use Rattle.dns_model.specs.declared.denial.Denial.{Denial}
 use Rattle.dns_model.specs.declared.trail.AskRef.{AskRef}
 use Rattle.dns_model.specs.Trails.{EndingValue}
-use Rattle.dns_report.specs.LineWords.{line, section_word, denial_words}
+use Rattle.dns_text.specs.Lines.{line}
+use Rattle.dns_report.specs.LineWords.{section_word, denial_words}
 use Rattle.dns_report.specs.TrailView.{StepView, HeardView}
 use Rattle.dns_report.specs.TrailLines.{ask_word, ending_words, purpose_word, got_words}
 use Rattle.dns_report.specs.View.{ChainView}

@@ -6,10 +6,11 @@ ghost use Rattle.dns_handle.specs.Replies.{dns_error_of, error_of};
 ghost use Rattle.dns_report.specs.Faults.{io_word, decode_word, proto_words, dns_words, fault_text, line_of_fault};
 
 use crate::marks::mark_word;
-use crate::words::{end_line, push_front, push_number, push_text, push_type_word, push_word};
+use crate::words::push_front;
 use dns_handle::{DnsError, IoKind, NetError, ProtoError};
 use dns_message::DecodeKind;
 use dns_record::{DNSClass, Name, NoMemory, RecordType};
+use dns_text::{end_line, push_number, push_text, push_type_word, push_word};
 use std::alloc::Global;
 
 // The name of a kind of fault outside.

@@ -5,21 +5,20 @@ ghost use Rattle.dns_model.specs.Trails.{Foreign};
 ghost use Rattle.dns_evidence.specs.Trail.{ending_value};
 ghost use Rattle.std.specs.Option.{option_map_or};
 ghost use Rattle.dns_report.specs.Fields.{is_u32};
-ghost use Rattle.dns_report.specs.LineWords.{line_rest, spaced, mark_word};
+ghost use Rattle.dns_text.specs.Lines.{line_rest, spaced};
+ghost use Rattle.dns_report.specs.LineWords.{mark_word};
 ghost use Rattle.dns_report.specs.TrailView.{fitting_ask, fitting_origin, fitting_set, fitting_ending};
 ghost use Rattle.dns_report.specs.TrailLines.{ask_word, origin_word, place_word, set_line, ending_words};
 ghost use Rattle.dns_report.specs.WrittenLines.{ending_line};
 
 use crate::marks::section_word;
-use crate::names::push_name;
-use crate::words::{
-    end_line, push_denial_words, push_front, push_mark, push_number, push_text, push_type_word,
-    push_word,
-};
+use crate::words::{push_denial_words, push_front, push_mark};
 use dns_evidence::{Ending, JudgedSet};
 use dns_model::{AskRef, MarkOrigin};
 use dns_record::{DNSClass, Name, NoMemory, RecordType};
-use dns_text::push_decimal;
+use dns_text::{
+    end_line, push_decimal, push_name_word, push_number, push_text, push_type_word, push_word,
+};
 
 // Appends the word of an ask.
 fn push_ask(into: &mut Vec<u8>, ask: AskRef) -> Result<(), NoMemory>
@@ -93,7 +92,7 @@ fn push_set(into: &mut Vec<u8>, set: &JudgedSet) -> Result<(), NoMemory>
 {
     push_text(into, b"set")?;
     push_word(into, section_word(set.section))?;
-    push_name(into, &set.owner)?;
+    push_name_word(into, &set.owner)?;
     push_type_word(into, set.record_type)?;
     push_found(into, set)
 }

@@ -6,7 +6,6 @@ mod fault;
 mod judged;
 mod link;
 mod marks;
-mod names;
 mod parts;
 mod record;
 mod report;
@@ -14,5 +13,6 @@ mod trail;
 mod words;
 
 pub use fault::write_fault;
+pub use marks::section_word;
 pub use parts::Parts;
 pub use report::write_report;

@@ -6,18 +6,17 @@ ghost use Rattle.dns_model.specs.Bytes.{is_bytes};
 ghost use Rattle.dns_record.specs.Words.{type_word};
 ghost use Rattle.dns_text.specs.Words.{octets_word};
 ghost use Rattle.dns_evidence.specs.Link.{link_value};
-ghost use Rattle.dns_report.specs.LineWords.{line, line_rest};
+ghost use Rattle.dns_text.specs.Lines.{line, line_rest};
 ghost use Rattle.dns_report.specs.Fields.{is_u16, is_u32};
 ghost use Rattle.dns_report.specs.View.{KeySet, numbered, shown_link, chain_view, fitting_key, fitting_link, fitting_chain};
 ghost use Rattle.dns_report.specs.Report.{key_words, link_line, chain_text};
 ghost use Rattle.dns_report.specs.WrittenLines.{chain_line};
 
 use crate::marks::section_word;
-use crate::words::{
-    end_line, push_front, push_number, push_octets_word, push_text, push_type_word, push_word,
-};
+use crate::words::push_front;
 use dns_evidence::{Chain, Link, LinkSignature};
 use dns_record::{DNSClass, Name, NoMemory, Rdata, RecordType};
+use dns_text::{end_line, push_number, push_octets_word, push_text, push_type_word, push_word};
 
 // Appends the words of numbered keys, and ends the line.
 #[tactic(auto, unfolding(crate::specs::Report::key_words, crate::specs::View::numbered))]

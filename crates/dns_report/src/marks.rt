@@ -17,7 +17,7 @@ pub(crate) fn mark_word(mark: Proof) -> &'static [u8]
 }
 
 /// The word of a section.
-pub(crate) fn section_word(section: Section) -> &'static [u8]
+pub fn section_word(section: Section) -> &'static [u8]
     ensures { result.now ≡ section_word section }
 {
     match section {

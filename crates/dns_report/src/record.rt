@@ -5,18 +5,17 @@ ghost use Rattle.std.specs.List.{list_all};
 ghost use Rattle.dns_model.specs.Bytes.{is_bytes};
 ghost use Rattle.dns_record.specs.Words.{type_word};
 ghost use Rattle.dns_text.specs.Words.{octets_word};
-ghost use Rattle.dns_report.specs.LineWords.{line_rest};
+ghost use Rattle.dns_text.specs.Lines.{line_rest};
 ghost use Rattle.dns_report.specs.LineWords.{mark_word};
 ghost use Rattle.dns_report.specs.Fields.{is_u16, is_u32};
 ghost use Rattle.dns_report.specs.View.{fitting_record};
 ghost use Rattle.dns_report.specs.Report.{record_line, section_text};
 
 use crate::marks::section_word;
-use crate::words::{
-    end_line, push_front, push_mark, push_number, push_octets_word, push_type_word,
-};
+use crate::words::{push_front, push_mark};
 use dns_model::Section;
 use dns_record::{NoMemory, Record};
+use dns_text::{end_line, push_number, push_octets_word, push_type_word};
 
 // Appends the last words of a record's line.
 fn push_rest(into: &mut Vec<u8>, one: &Record) -> Result<(), NoMemory>

@@ -14,12 +14,13 @@ use crate::Parts;
 use crate::link::push_chains;
 use crate::record::push_section;
 use crate::trail::push_trail;
-use crate::words::{end_line, push_denial_words, push_number, push_text};
+use crate::words::push_denial_words;
 use dns_evidence::Trail;
 use dns_handle::DnsResponse;
 use dns_message::Message;
 use dns_model::{Denial, Section};
 use dns_record::{NoMemory, ResponseCode};
+use dns_text::{end_line, push_number, push_text};
 use std::alloc::Global;
 
 // Appends the line of a code.

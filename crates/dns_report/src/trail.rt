@@ -7,7 +7,7 @@ ghost use Rattle.dns_evidence.specs.Trail.{heard_value};
 ghost use Rattle.dns_model.specs.Bytes.{is_bytes};
 ghost use Rattle.dns_record.specs.Words.{type_word};
 ghost use Rattle.dns_text.specs.Words.{octets_word};
-ghost use Rattle.dns_report.specs.LineWords.{line, line_rest};
+ghost use Rattle.dns_text.specs.Lines.{line, line_rest};
 ghost use Rattle.dns_report.specs.Fields.{fitting_name, is_u16, is_u32};
 ghost use Rattle.dns_report.specs.TrailView.{unmarked, heard_view, step_view, fitting_told, fitting_heard, fitting_step, fitting_trail};
 ghost use Rattle.dns_report.specs.TrailLines.{purpose_word, empty_words, told_line, told_text, step_text, trail_text};
@@ -15,13 +15,13 @@ ghost use Rattle.dns_report.specs.WrittenLines.{count_line, step_line, got_line}
 
 use crate::judged::{push_ending, push_sets};
 use crate::marks::section_word;
-use crate::names::push_name;
-use crate::words::{
-    end_line, push_front, push_number, push_octets_word, push_text, push_type_word, push_word,
-};
+use crate::words::push_front;
 use dns_evidence::{Asked, Reply, Told, Trail};
 use dns_model::Section;
 use dns_record::{NoMemory, Record, ResponseCode};
+use dns_text::{
+    end_line, push_name_word, push_number, push_octets_word, push_text, push_type_word, push_word,
+};
 
 // The word of what a reply is asked for.
 fn purpose_word(judged: bool) -> &'static [u8]
@@ -40,7 +40,7 @@ fn push_step_line(into: &mut Vec<u8>, step: &Asked) -> Result<(), NoMemory>
     push_text(into, b"step")?;
     push_number(into, u64::from(step.depth))?;
     push_word(into, purpose_word(step.judged))?;
-    push_name(into, &step.query.name)?;
+    push_name_word(into, &step.query.name)?;
     push_type_word(into, step.query.query_type)?;
     end_line(into)
 }

@@ -21,9 +21,9 @@ use Rattle.dns_text.proofs.OctetLaws.{octets_back}
 use Rattle.dns_text.proofs.WordLaws.{decimal_back, type_back}
 use Rattle.dns_text.proofs.WordShapes.{is_word, bytes_below, decimal_word, octets_is_word}
 use Rattle.dns_report.specs.Fields.{fitting_name, is_u16}
-use Rattle.dns_report.specs.LineWords.{Words}
+use Rattle.dns_text.specs.Lines.{Words}
 use Rattle.dns_report.proofs.FieldWords.{below_u16, type_good, small_good}
-use Rattle.dns_report.proofs.LineLaws.{Line, text_of, is_line}
+use Rattle.dns_text.proofs.LineShapes.{Line, text_of, is_line}
 use Rattle.dns_report.proofs.NameShapes.{printed_word}
 use Rattle.dns_session.specs.declared.reply.ReplyFault.{ReplyFault}
 use Rattle.dns_session.specs.declared.reply.ReplyFault.TheVariants as lacking
@@ -36,7 +36,8 @@ use Rattle.dns_session.proofs.ReadLaws.{session_read}
 use Rattle.dns_message.specs.declared.decode_error.DecodeError.{DecodeError}
 use Rattle.dns_saved_session.specs.Saved.{CameValue, Message, Fault, SavedReplyValue, SavedValue}
 use Rattle.dns_saved_session.specs.SavedText.{depth_text, anchor_text, accept_text, came_text, reply_text, fault_word, head_text, asked_text, saved_text, in_class, came_told, reply_told, session_saved, fitting_anchor, fitting_accept, fitting_question, fitting_came, fitting_reply, fitting_saved}
-use Rattle.dns_saved_session.proofs.LineReads.{joined, line_is, lines_are, line_whole, lines_whole, whole_append, line_words, all_say}
+use Rattle.dns_session.proofs.WordLines.{joined, line_is, line_whole, line_words}
+use Rattle.dns_saved_session.proofs.LineReads.{lines_are, lines_whole, whole_append, all_say}
 
 -- ---- words
 

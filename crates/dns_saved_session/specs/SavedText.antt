@@ -11,7 +11,7 @@ use Rattle.dns_model.specs.Types.{class_in}
 use Rattle.dns_message.specs.MessageAt.{message_at}
 use Rattle.dns_record.specs.Words.{type_word}
 use Rattle.dns_text.specs.Words.{octets_word}
-use Rattle.dns_report.specs.LineWords.{line}
+use Rattle.dns_text.specs.Lines.{line}
 use Rattle.dns_report.specs.Fields.{fitting_name, is_u16}
 use Rattle.dns_session.specs.declared.reply.ReplyFault.{ReplyFault}
 use Rattle.dns_session.specs.declared.reply.ReplyFault.TheVariants as lacking

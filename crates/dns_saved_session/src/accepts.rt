@@ -1,14 +1,22 @@
 //! The lines of what a lookup judges by: its algorithms, its trusted keys, and the signatures that were accepted.
-ghost use Rattle.std.specs.Prelude.{◌≡◌, ◌++◌, map, OnOk, IsTrue};
+ghost use Rattle.std.specs.Prelude.{◌≡◌, ◌++◌, ◌∷◌, map, nat_lt, OnOk, IsTrue};
 ghost use Rattle.std.specs.Fmt.{decimal};
 ghost use Rattle.std.specs.List.{flat_map, list_all};
 ghost use Rattle.dns_model.specs.Bytes.{is_bytes};
-ghost use Rattle.dns_report.specs.LineWords.{line_rest};
+ghost use Rattle.dns_text.specs.Lines.{line_rest};
 ghost use Rattle.dns_saved_session.specs.SavedText.{accept_text, algorithms_text, anchor_text, fitting_accept, fitting_anchor};
 
-use crate::words::{end_line, push_name, push_octets_word, push_small, push_text};
 use dns_record::NoMemory;
 use dns_session::{AcceptedSignature, Anchor};
+use dns_text::{end_line, push_name_word, push_number, push_octets_word, push_text};
+
+// Appends a number of eight bits.
+fn push_small(into: &mut Vec<u8>, number: u8) -> Result<(), NoMemory>
+    ensures ok { OnOk result (into.new.items ≡ into.old.items ++ (32 ∷ decimal number)) }
+    ensures fits { IsTrue (nat_lt number 256) }
+{
+    push_number(into, u64::from(number))
+}
 
 // Appends the words of numbers, and ends the line.
 fn push_numbers(into: &mut Vec<u8>, numbers: &[u8]) -> Result<(), NoMemory>
@@ -38,7 +46,7 @@ fn push_anchor(into: &mut Vec<u8>, anchor: &Anchor) -> Result<(), NoMemory>
     ensures fits { OnOk result (IsTrue (fitting_anchor anchor.now)) }
 {
     push_text(into, b"anchor")?;
-    push_name(into, &anchor.owner)?;
+    push_name_word(into, &anchor.owner)?;
     push_small(into, anchor.algorithm)?;
     push_octets_word(into, anchor.key.as_slice())?;
     end_line(into)

@@ -8,7 +8,6 @@ mod laws;
 mod replies;
 mod saved;
 mod saved_reply;
-mod words;
 mod writing;
 
 pub use laws::what_is_saved_is_read_back;

@@ -7,9 +7,9 @@ ghost use Rattle.dns_saved_session.specs.Coming.{came_of};
 ghost use Rattle.dns_saved_session.specs.SavedText.{came_text, fault_word, fitting_came, fitting_reply, fitting_question, reply_text, query_text};
 
 use crate::saved_reply::{Came, SavedReply};
-use crate::words::{end_line, push_name, push_octets_word, push_text, push_type_word, push_word};
 use dns_record::{NoMemory, Query};
 use dns_session::ReplyFault;
+use dns_text::{end_line, push_name_word, push_octets_word, push_text, push_type_word, push_word};
 
 // Appends the words of a question.
 fn push_question(into: &mut Vec<u8>, query: &Query) -> Result<(), NoMemory>
@@ -17,7 +17,7 @@ fn push_question(into: &mut Vec<u8>, query: &Query) -> Result<(), NoMemory>
         ≡ into.old.items ++ (32 ∷ (printed query.now.owner ++ (32 ∷ type_word query.now.rtype)))) }
     ensures fits { OnOk result (IsTrue (fitting_question query.now)) }
 {
-    push_name(into, &query.name)?;
+    push_name_word(into, &query.name)?;
     push_type_word(into, query.query_type)
 }
 

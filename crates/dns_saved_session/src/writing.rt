@@ -5,7 +5,7 @@ ghost use Rattle.std.specs.List.{flat_map, list_all};
 ghost use Rattle.std.specs.Option.{option_map_or, option_to_list};
 ghost use Rattle.dns_model.specs.Bytes.{is_bytes};
 ghost use Rattle.dns_report.specs.Fields.{is_u16};
-ghost use Rattle.dns_report.specs.LineWords.{line};
+ghost use Rattle.dns_text.specs.Lines.{line};
 ghost use Rattle.dns_session.specs.Grammar.{session_of};
 ghost use Rattle.dns_saved_session.specs.SavedText.{accept_text, anchor_text, asked_text, depth_text, fitting_accept, fitting_anchor, fitting_reply, fitting_question, fitting_saved, head_text, saved_text, session_saved};
 
@@ -13,8 +13,8 @@ use crate::accepts::{push_accepts, push_algorithms, push_anchors};
 use crate::replies::{push_query, push_replies};
 use crate::saved::SavedSession;
 use crate::saved_reply::SavedReply;
-use crate::words::{end_line, push_number, push_text};
 use dns_record::{NoMemory, Query};
+use dns_text::{end_line, push_number, push_text};
 use std::alloc::Global;
 
 // Appends the line of a moment.

@@ -5,3 +5,4 @@ pub mod PlaceLemmas
 pub mod WordLengths
 pub mod SpelledLaws
 pub mod ReadLaws
+pub mod WordLines

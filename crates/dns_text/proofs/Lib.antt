@@ -3,3 +3,4 @@ pub mod WordLaws
 pub mod OctetLaws
 pub mod PairSteps
 pub mod WordShapes
+pub mod LineShapes

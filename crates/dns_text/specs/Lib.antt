@@ -3,3 +3,4 @@ pub mod Words
 pub mod Digits
 pub mod Codes
 pub mod Pairs
+pub mod Lines

@@ -1,6 +1,6 @@
 use Rattle.std.proofs.Common.{◌≡◌, ◌++◌, length, map}
 use Rattle.std.specs.List.{list_all}
-use Rattle.dns_report.specs.LineWords.{line_rest}
+use Rattle.dns_text.specs.Lines.{line_rest}
 use Rattle.dns_report.specs.TrailView.{fitting_ask}
 use Rattle.dns_report.specs.TrailLines.{ask_word}
 use Rattle.dns_report.proofs.judged.push_asks.Given as goal

@@ -1,6 +1,6 @@
 use Rattle.std.proofs.Common.{◌≡◌, ◌++◌, length}
 use Rattle.std.specs.List.{list_all}
-use Rattle.dns_report.specs.LineWords.{line_rest}
+use Rattle.dns_text.specs.Lines.{line_rest}
 use Rattle.dns_report.specs.View.{numbered, fitting_key}
 use Rattle.dns_report.specs.Report.{key_words}
 use Rattle.dns_report.proofs.link.push_keys.Given as goal

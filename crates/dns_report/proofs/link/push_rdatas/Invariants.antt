@@ -2,7 +2,7 @@ use Rattle.std.proofs.Common.{◌≡◌, ◌++◌, length, map}
 use Rattle.std.specs.List.{list_all}
 use Rattle.dns_model.specs.Bytes.{is_bytes}
 use Rattle.dns_text.specs.Words.{octets_word}
-use Rattle.dns_report.specs.LineWords.{line_rest}
+use Rattle.dns_text.specs.Lines.{line_rest}
 use Rattle.dns_report.proofs.link.push_rdatas.Given as goal
 
 abbrev pub invariant-rdatas : goal.invariant-rdatas

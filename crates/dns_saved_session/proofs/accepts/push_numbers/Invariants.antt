@@ -1,7 +1,7 @@
 use Rattle.std.proofs.Common.{◌≡◌, ◌++◌, length, map}
 use Rattle.std.specs.Fmt.{decimal}
 use Rattle.dns_model.specs.Bytes.{is_bytes}
-use Rattle.dns_report.specs.LineWords.{line_rest}
+use Rattle.dns_text.specs.Lines.{line_rest}
 use Rattle.dns_saved_session.proofs.accepts.push_numbers.Given as goal
 
 abbrev pub invariant-numbers : goal.invariant-numbers
