@@ -1,4 +1,4 @@
-//! Tests of denials that are made from kept records: calls row by row, and random calls beside a plain list.
+//! Tests of denials that are made from kept records: calls row by row, and of a store of 65,536 records.
 //!
 //! They stand apart, since a crate with tests of its own is proved twice.
 #![tactic(auto)]
@@ -9,9 +9,5 @@ mod given;
 mod large_store_tests;
 #[cfg(test)]
 mod library_tests;
-#[cfg(test)]
-mod plain;
-#[cfg(test)]
-mod random_calls_tests;
 #[cfg(test)]
 mod store_calls_tests;

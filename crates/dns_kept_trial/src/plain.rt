@@ -1,14 +1,26 @@
 //! The rules as they are said, over a plain list of records: slow, and beside no index.
+
 use dns_aggressive::{Kept, KeptRecord};
 use dns_denial::{verify_nsec, verify_nsec3};
 use dns_model::{Answered, Proof};
 use dns_rdata::{Nsec3Record, NsecRecord};
-use dns_record::{Name, Query, RecordType, ResponseCode};
+use dns_record::{Name, NoMemory, Query, RecordType, ResponseCode};
 use std::alloc::Global;
-use std::process::Abort;
 
 /// The codes of a denial, in the order in which they are tried.
 const CODES: &[u16] = &[3, 0];
+
+/// Up to so many iterations names are hashed, and with more than so many records are bogus (RFC 9276, 3.2).
+const SOFT: u16 = 100;
+
+const HARD: u16 = 500;
+
+/// A code, and the seconds for which it may be kept.
+pub(crate) type Denied = (u16, u32);
+
+fn same_way(one: &Nsec3Record, two: &Nsec3Record) -> bool {
+    one.iterations == two.iterations && one.salt == two.salt
+}
 
 fn same_place(one: &Kept, two: &Kept) -> bool {
     if one.zone != two.zone {
@@ -22,18 +34,15 @@ fn same_place(one: &Kept, two: &Kept) -> bool {
     }
 }
 
-fn same_way(one: &Nsec3Record, two: &Nsec3Record) -> bool {
-    one.iterations == two.iterations && one.salt == two.salt
-}
-
 /// A record goes last, in place of one of its place.
-pub(crate) fn put(rt: &impl Abort, list: &mut Vec<Kept>, new: Kept) {
+pub(crate) fn put(list: &mut Vec<Kept>, new: Kept) -> Result<(), NoMemory> {
     for place in (0..list.len()).rev() {
         if place < list.len() && same_place(&list[place], &new) {
             list.remove(place);
         }
     }
-    list.push(new).expect(rt, "memory");
+    list.push(new)?;
+    Ok(())
 }
 
 /// The first ones go, down to a limit.
@@ -49,7 +58,7 @@ fn may_hold(zone: &Name, query: &Query) -> bool {
     zone.zone_of(&query.name) && (query.query_type != RecordType::DS || *zone != query.name)
 }
 
-/// The place of a live record of the longest zone that may hold the query.
+// The place of a live record of the longest zone that may hold the query.
 fn place_for(list: &[Kept], query: &Query, now: u64) -> Option<usize> {
     let mut longest = None;
     let mut labels = 0;
@@ -64,7 +73,7 @@ fn place_for(list: &[Kept], query: &Query, now: u64) -> Option<usize> {
     longest
 }
 
-/// The longest zone of a live record that may hold the query.
+// The longest zone of a live record that may hold the query.
 fn zone_for<'a>(list: &'a [Kept], query: &Query, now: u64) -> Option<&'a Name> {
     let kept = list.get(place_for(list, query, now)?)?;
     Some(&kept.zone)
@@ -74,22 +83,28 @@ fn is_live(kept: &Kept, zone: &Name, now: u64) -> bool {
     now < kept.expires && kept.zone == *zone
 }
 
-/// The seconds that are left, at most as many as a ttl can say.
+// The seconds that are left, at most as many as a ttl can say.
 fn left(kept: &Kept, now: u64) -> u32 {
     u32::try_from(kept.expires.saturating_sub(now)).unwrap_or(u32::MAX)
 }
 
-/// The code that NSEC records prove of a response without answer.
-fn code_of(query: &Query, zone: &Name, nsecs: &[NsecRecord]) -> Option<u16> {
+// The code that NSEC records prove of a response without answer, with a ttl.
+fn denied_by_nsecs(query: &Query, zone: &Name, nsecs: &[NsecRecord], ttl: u32) -> Option<Denied> {
     for code in CODES {
         if verify_nsec(query, zone, ResponseCode(*code), Answered::No, nsecs) == Proof::Secure {
-            return Some(*code);
+            return Some((*code, ttl));
         }
     }
     None
 }
 
-fn hashed_code_of(query: &Query, zone: &Name, nsec3s: &[Nsec3Record]) -> Option<u16> {
+// The same of NSEC3 records.
+fn denied_by_nsec3s(
+    query: &Query,
+    zone: &Name,
+    nsec3s: &[Nsec3Record],
+    ttl: u32,
+) -> Option<Denied> {
     for code in CODES {
         let code = *code;
         if verify_nsec3(
@@ -98,86 +113,94 @@ fn hashed_code_of(query: &Query, zone: &Name, nsec3s: &[Nsec3Record]) -> Option<
             ResponseCode(code),
             Answered::No,
             nsec3s,
-            100,
-            500,
+            SOFT,
+            HARD,
         ) == Proof::Secure
         {
-            return Some(code);
+            return Some((code, ttl));
         }
     }
     None
 }
 
-/// What the live NSEC records of a zone deny.
+// What the live NSEC records of a zone deny.
 fn by_nsecs(
-    rt: &impl Abort,
     alloc: Global,
     list: &[Kept],
     query: &Query,
     zone: &Name,
     now: u64,
-) -> Option<(u16, u32)> {
+) -> Result<Option<Denied>, NoMemory> {
     let mut nsecs = Vec::new(alloc);
     let mut ttl = u32::MAX;
     for kept in list {
         if let KeptRecord::Nsec(nsec) = &kept.item {
             if is_live(kept, zone, now) {
-                nsecs
-                    .push(nsec.try_clone().expect(rt, "memory"))
-                    .expect(rt, "memory");
+                nsecs.push(nsec.try_clone()?)?;
                 ttl = ttl.min(left(kept, now));
             }
         }
     }
-    Some((code_of(query, zone, &nsecs)?, ttl))
+    Ok(denied_by_nsecs(query, zone, &nsecs, ttl))
 }
 
-/// What the live NSEC3 records of a zone deny that are hashed as this one.
+// What the live NSEC3 records of a zone deny that are hashed as this one.
 fn by_way(
-    rt: &impl Abort,
     alloc: Global,
     list: &[Kept],
     query: &Query,
     zone: &Name,
     now: u64,
     like: &Nsec3Record,
-) -> Option<(u16, u32)> {
+) -> Result<Option<Denied>, NoMemory> {
     let mut nsec3s = Vec::new(alloc);
     let mut ttl = u32::MAX;
     for kept in list {
         if let KeptRecord::Nsec3(nsec3) = &kept.item {
             if is_live(kept, zone, now) && same_way(nsec3, like) {
-                nsec3s
-                    .push(nsec3.try_clone().expect(rt, "memory"))
-                    .expect(rt, "memory");
+                nsec3s.push(nsec3.try_clone()?)?;
                 ttl = ttl.min(left(kept, now));
             }
         }
     }
-    Some((hashed_code_of(query, zone, &nsec3s)?, ttl))
+    Ok(denied_by_nsec3s(query, zone, &nsec3s, ttl))
 }
 
-/// What the list denies: the code and the ttl. The query is of class IN, and of a type that zones hold as data.
-pub(crate) fn denied(
-    rt: &impl Abort,
+// What the first of the groups of live NSEC3 records denies that denies the query.
+fn by_ways(
     alloc: Global,
     list: &[Kept],
     query: &Query,
+    zone: &Name,
     now: u64,
-) -> Option<(u16, u32)> {
-    let zone = zone_for(list, query, now)?;
-    if let Some(found) = by_nsecs(rt, alloc, list, query, zone, now) {
-        return Some(found);
-    }
+) -> Result<Option<Denied>, NoMemory> {
     for kept in list {
         if let KeptRecord::Nsec3(nsec3) = &kept.item {
             if is_live(kept, zone, now) {
                 // a group that was tried before denies nothing again
-                if let Some(found) = by_way(rt, alloc, list, query, zone, now, nsec3) {
-                    return Some(found);
+                let found = by_way(alloc, list, query, zone, now, nsec3)?;
+                if found.is_some() {
+                    return Ok(found);
                 }
             }
         }
     }
-    None
+    Ok(None)
+}
+
+/// What the list denies. The query is of class IN, and of a type that zones hold as data.
+pub(crate) fn denied(
+    alloc: Global,
+    list: &[Kept],
+    query: &Query,
+    now: u64,
+) -> Result<Option<Denied>, NoMemory> {
+    let Some(zone) = zone_for(list, query, now) else {
+        return Ok(None);
+    };
+    let found = by_nsecs(alloc, list, query, zone, now)?;
+    if found.is_some() {
+        return Ok(found);
+    }
+    by_ways(alloc, list, query, zone, now)
 }
