@@ -1,17 +1,18 @@
 -- What one call on a shared exchange leaves, and what calls one behind the other leave.
-use Rattle.std.proofs.Common.{◌≡◌, ℕ, zero, suc, ◌<◌, Bool, false, List, [], ◌∷◌, ◌++◌, length, take, drop, reverse, slice_get, Option, None, Some, refl, sym, ap, ◌∙◌, subst, append_assoc, append-nil, arith}
+use Rattle.std.proofs.Common.{◌≡◌, ℕ, zero, suc, ◌+◌, ◌<◌, Bool, false, cond, List, [], ◌∷◌, ◌++◌, length, take, drop, reverse, slice_get, Option, None, Some, refl, sym, ap, ◌∙◌, subst, append_assoc, append-nil, arith}
+use Rattle.std.proofs.lemmas.List.Sums.{sum_by-append}
 use Rattle.std.proofs.Math.Seq.{take-append_seam, drop-append_seam, drop-length}
 use Rattle.turns.specs.Turns.{Held, Known, Begins, Agrees, placed_from, given, taken}
 use Rattle.turns.proofs.Beginnings.{begins_itself, begins_on, get_begins, get_behind, get_below}
 use Rattle.turns.proofs.Steps.{agrees_on}
-use Rattle.dns_multiplexer.specs.Events.{TakenValue}
+use Rattle.dns_multiplexer.specs.Events.{Pending, TakenValue}
 use Rattle.dns_multiplexer.specs.Machine.{Settings}
 use Rattle.dns_journal.specs.declared.entry.Found.{Found}
 use Rattle.dns_journal.specs.Entries.{Entry, Take}
 use Rattle.dns_journal.specs.Calls.{with_entry}
 use Rattle.dns_journal.specs.Histories.{taken_at}
 use Rattle.dns_shared_exchange.specs.Tokens.{TokenValue, IsKnown}
-use Rattle.dns_shared_upstream.specs.Calls.{Called, IsAmong, Gave, HadNoRoom}
+use Rattle.dns_shared_upstream.specs.Calls.{Called, FoundNone, IsAmong, Gave, HadNoRoom, arrives_in, is_arrive}
 
 abbrev Seen : Type 0
 Seen = Known Settings Entry
@@ -208,6 +209,62 @@ module _ (a b : List (ℕ × Entry)) where
         stands = get_begins later journal gave.place (Take number gave.found) begun gave.stands;
         gives = gave.gives ∙ ap (λ (j : List Entry). taken_at (reverse j) gave.found)
             (sym (take_begins later journal gave.place begun below));
+      }
+
+-- ---- a take that found nothing
+
+pub arrives_both : (a b : List (ℕ × Entry)) → arrives_in (a ++ b) ≡ arrives_in a + arrives_in b
+arrives_both a b = sum_by-append (λ (call : ℕ × Entry). cond (is_arrive call.1) 1 0) a b
+
+pub none_one : (number : ℕ) (take_found : Found) (before now : Seen) (found : Value)
+    → One (Take number take_found) found before now → Pending ≡ taken_at (reverse found.journal) take_found
+    → FoundNone ((length found.journal, Take number take_found) ∷ []) now.journal number
+none_one number take_found before now found one gives = record {
+  before = [];
+  behind = [];
+  place = length found.journal;
+  found = take_found;
+  parted = refl;
+  last = refl;
+  stands = ap (λ (j : List Entry). slice_get j (length found.journal)) one.journal
+      ∙ get_behind found.journal (Take number take_found) [];
+  gives = gives ∙ ap (λ (j : List Entry). taken_at (reverse j) take_found)
+      (sym (ap (λ (j : List Entry). take (length found.journal) j) one.journal
+      ∙ take-append_seam found.journal (Take number take_found ∷ [])));
+}
+
+module _ (a b : List (ℕ × Entry)) where
+  pub none_before : (journal : List Entry) (number : ℕ) → FoundNone b journal number → FoundNone (a ++ b) journal number
+  none_before journal number none = record {
+    before = a ++ none.before;
+    behind = none.behind;
+    place = none.place;
+    found = none.found;
+    parted = ap (λ (l : List (ℕ × Entry)). a ++ l) none.parted
+        ∙ sym (append_assoc a none.before ((none.place, Take number none.found) ∷ none.behind));
+    last = none.last;
+    stands = none.stands;
+    gives = none.gives;
+  }
+
+  -- calls that come behind hand no message over
+  pub none_behind : (journal later : List Entry) (number : ℕ) → arrives_in b ≡ 0 → Begins later journal
+      → FoundNone a journal number → FoundNone (a ++ b) later number
+  none_behind journal later number quiet begun none =
+      let below = get_below journal none.place (Take number none.found) none.stands in
+      let both = arrives_both none.behind b in
+      let last = none.last in
+      record {
+        before = none.before;
+        behind = none.behind ++ b;
+        place = none.place;
+        found = none.found;
+        parted = ap (λ (l : List (ℕ × Entry)). l ++ b) none.parted
+            ∙ append_assoc none.before ((none.place, Take number none.found) ∷ none.behind) b;
+        last = omega (arith, both, last, quiet);
+        stands = get_begins later journal none.place (Take number none.found) begun none.stands;
+        gives = none.gives ∙ ap (λ (j : List Entry). taken_at (reverse j) none.found)
+            (sym (take_begins later journal none.place begun below));
       }
 
 module _ (fits : Value → Bool) (x y z : TokenValue) where

@@ -9,15 +9,12 @@ use Rattle.dns_multiplexer.specs.Machine.{Settings}
 use Rattle.dns_journal.specs.Entries.{Entry, Cancel, Close}
 use Rattle.dns_journal.specs.Histories.{is_close}
 use Rattle.dns_journal.specs.Limits.{arrival_fits, call_fits, close_fits}
-use Rattle.dns_shared_upstream.specs.Calls.{HadNoRoom, is_arrive, arrives_in, closes_in}
+use Rattle.dns_shared_upstream.specs.Calls.{HadNoRoom, arrives_in, closes_in}
 use Rattle.dns_shared_upstream.specs.Sends.{HolderValue, Made, IsClosedBy, StreamFailed, Stopped, WasGiven, HadEnded, HadFault, NoTake, NoArrival, HadNoMemory, Waited, WasStopped, WasUnanswered, IsOver}
-use Rattle.dns_shared_upstream.proofs.CallLemmas.{called_itself, called_on, among_before, among_behind, gave_before, gave_behind, no_room_before, no_room_behind}
+use Rattle.dns_shared_upstream.proofs.CallLemmas.{called_itself, called_on, among_before, among_behind, arrives_both, gave_before, gave_behind, no_room_before, no_room_behind, none_behind}
 
 abbrev Calls : Type 0
 Calls = List (ℕ × Entry)
-
-pub arrives_both : (a b : Calls) → arrives_in (a ++ b) ≡ arrives_in a + arrives_in b
-arrives_both a b = sum_by-append (λ (call : ℕ × Entry). cond (is_arrive call.1) 1 0) a b
 
 closes_both : (a b : Calls) → closes_in (a ++ b) ≡ closes_in a + closes_in b
 closes_both a b = sum_by-append (λ (call : ℕ × Entry). cond (is_close call.1) 1 0) a b
@@ -67,7 +64,7 @@ module _ (a : Calls) (x y z : HolderValue) (first : Made a x y) where
 
   pub waited_since : (number : ℕ) (b : Calls) (reply : Reply) → Waited number b y z reply → Waited number b x z reply
   waited_since number b reply (WasStopped stopped) = WasStopped (stopped_since number b reply stopped)
-  waited_since number b reply (WasUnanswered all is) = WasUnanswered all is
+  waited_since number b reply (WasUnanswered all none is) = WasUnanswered all none is
 
   pub over_since : (number : ℕ) (b : Calls) (reply : Reply) → IsOver number b y z reply → IsOver number b x z reply
   over_since number b reply (inl last) = inl last
@@ -136,6 +133,7 @@ module _ (a b : Calls) (x y z : HolderValue) (second : Made b y z) where
   pub waited_behind : (number : ℕ) (reply : Reply) → arrives_in b ≡ 0 → Waited number a x y reply
       → Waited number (a ++ b) x z reply
   waited_behind number reply none (WasStopped stopped) = WasStopped (stopped_behind number reply stopped)
-  waited_behind number reply none (WasUnanswered all is) =
+  waited_behind number reply none (WasUnanswered all pending is) =
       let both = arrives_both a b in
-      WasUnanswered (omega (arith, both, none, all)) is
+      WasUnanswered (omega (arith, both, none, all))
+      (none_behind a b y.token.known.journal z.token.known.journal number none second.called.seen pending) is

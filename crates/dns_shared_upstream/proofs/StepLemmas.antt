@@ -32,9 +32,9 @@ use Rattle.dns_tcp.specs.Exchanges.{most_messages}
 use Rattle.dns_tcp.specs.Frames.{HasFrame}
 use Rattle.dns_shared_upstream.specs.Calls.{Gave, HadNoRoom, closes_in}
 use Rattle.dns_shared_upstream.specs.Sends.{Asked, HadNoPlace, WasUnsent, WasRefused, WasSent, HolderValue, Made, Stopped, WasGiven, HadEnded, HadFault, NoTake, NoArrival, HadNoMemory, WasStopped, WasUnanswered}
-use Rattle.dns_shared_upstream.specs.Rounds.{Canceled, ClosedWith, Closes, Ends, Fails, Goes, Passed, PassesOver, SentAs, Stops, Takes, Waits}
-use Rattle.dns_shared_upstream.proofs.CallLemmas.{One, Sight, agrees_itself, called_none, called_one, gave_one, given_none, given_one, no_room}
-use Rattle.dns_shared_upstream.proofs.MadeLemmas.{arrives_both, made_itself, made_on, over_more, over_since, stopped_more, stopped_since, waited_behind, waited_since}
+use Rattle.dns_shared_upstream.specs.Rounds.{Canceled, ClosedWith, Closes, Ends, Fails, FindsNone, Goes, Passed, PassesOver, SentAs, Stops, Takes, Waits}
+use Rattle.dns_shared_upstream.proofs.CallLemmas.{One, Sight, agrees_itself, called_none, called_one, arrives_both, gave_one, given_none, given_one, no_room, none_before, none_one}
+use Rattle.dns_shared_upstream.proofs.MadeLemmas.{made_itself, made_on, over_more, over_since, stopped_more, stopped_since, waited_behind, waited_since}
 
 abbrev Value : Type 0
 Value = Held Settings Entry
@@ -93,16 +93,27 @@ fails_no_memory n x y passed = λ number. record {
 
 -- ---- the end of a wait
 
+pub took_none : (number : ℕ) (x y : HolderValue) → Takes number x y (Ok None) → Passed 0 x y
+took_none number x y none = none.passed
+
 pub waits_stopped : (n number : ℕ) (x y z : HolderValue) (reply : Reply) → Passed n x y → Stops number y z reply
     → Waits number x z reply
 waits_stopped n number x y z reply first second =
     let all = stops_on n number x y z reply first second in
     record { calls = all.calls; made = all.made; waited = WasStopped all.stopped }
 
-pub waits_unanswered : (n number : ℕ) (x y : HolderValue) → Passed n x y → n ≡ most_messages
-    → Waits number x y (Err seen.Timeout)
-waits_unanswered n number x y passed all =
-    record { calls = passed.calls; made = passed.made; waited = WasUnanswered (passed.arrives ∙ all) refl }
+pub waits_unanswered : (n number : ℕ) (x y z : HolderValue) → Passed n x y → FindsNone number y z → n ≡ most_messages
+    → Waits number x z (Err seen.Timeout)
+waits_unanswered n number x y z first second all =
+    let both = arrives_both first.calls second.passed.calls in
+    let one = first.arrives in
+    let other = second.passed.arrives in
+    record {
+      calls = first.calls ++ second.passed.calls;
+      made = made_on first.calls second.passed.calls x y z first.made second.passed.made;
+      waited = WasUnanswered (omega (arith, both, one, other, all))
+          (none_before first.calls second.passed.calls z.token.known.journal number second.none) refl;
+    }
 
 over : {A B C : Type 0} → A ⊎ B → A ⊎ (B ⊎ C)
 over (inl a) = inl a
@@ -238,18 +249,22 @@ module _ (before now : HolderValue) (line : now.token.line ≡ before.token.line
         → Stops number before now (Err (error_of (refused_as e)))
     take_refused number e t = stops_refused call_fits number e (λ none. NoTake none refl) t
 
-    module _ (number : ℕ) (given : TakenValue)
-        (t : Turn before now (λ old new. IsTaken old number given new)) where
-      pub take_passed : Passed 0 before now
-      take_passed =
-          let e = Take number t.turned.found in
-          let one = called_turn _ e t t.turned.added.added in
-          record {
+    take_none : (number : ℕ) → Turn before now (λ old new. IsTaken old number mux.Pending new)
+        → FindsNone number before now
+    take_none number t =
+        let e = Take number t.turned.found in
+        let one = called_turn _ e t t.turned.added.added in
+        record {
+          passed = record {
             calls = (length t.found.journal, e) ∷ [];
             made = one_made e t.found one (omega (arith, same));
             arrives = refl;
-          }
+          };
+          none = none_one number t.turned.found before.token.known now.token.known t.found one t.turned.gives;
+        }
 
+    module _ (number : ℕ) (given : TakenValue)
+        (t : Turn before now (λ old new. IsTaken old number given new)) where
       pub take_stops : (reply : Reply)
           → (Gave ((length t.found.journal, Take number t.turned.found) ∷ []) now.token.known.journal number given
           → Stopped number ((length t.found.journal, Take number t.turned.found) ∷ []) before now reply)
@@ -269,7 +284,7 @@ module _ (before now : HolderValue) (line : now.token.line ≡ before.token.line
         → Takes number before now (Ok (reply_in given))
     took number (taken.Item reply) t =
         take_stops number (mux.Item (reply_of reply)) t (reply_of reply) (λ gave. WasGiven gave)
-    took number taken.Pending t = take_passed number mux.Pending t
+    took number taken.Pending t = take_none number t
     took number taken.Ended t = take_stops number mux.Ended t (Err seen.Timeout) (λ gave. HadEnded gave refl)
 
     -- ---- arrivals

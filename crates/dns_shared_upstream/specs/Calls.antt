@@ -3,7 +3,7 @@
 use Rattle.std.specs.Prelude.{ℕ, ◌≡◌, Bool, true, false, List, [], ◌∷◌, ◌++◌, reverse, take, slice_get, Some}
 use Rattle.std.specs.List.{count_by}
 use Rattle.turns.specs.Turns.{Held, Known, Begins, Agrees}
-use Rattle.dns_multiplexer.specs.Events.{TakenValue}
+use Rattle.dns_multiplexer.specs.Events.{Pending, TakenValue}
 use Rattle.dns_multiplexer.specs.Machine.{Settings}
 use Rattle.dns_journal.specs.declared.entry.Found.{Found}
 use Rattle.dns_journal.specs.Entries.{Entry, Arrive, Take}
@@ -58,6 +58,17 @@ pub record Gave (calls : List (ℕ × Entry)) (journal : List Entry) (number : �
   pub among : IsAmong (place, Take number found) calls
   pub stands : slice_get journal place ≡ Some (Take number found)
   pub gives : taken ≡ taken_at (past_at journal place) found
+
+-- one of the calls was a take of the request with a number, which found that nothing waits yet; no call behind it handed a message over
+pub record FoundNone (calls : List (ℕ × Entry)) (journal : List Entry) (number : ℕ) : Type 0 where
+  pub before : List (ℕ × Entry)
+  pub behind : List (ℕ × Entry)
+  pub place : ℕ
+  pub found : Found
+  pub parted : calls ≡ before ++ (place, Take number found) ∷ behind
+  pub last : arrives_in behind ≡ 0
+  pub stands : slice_get journal place ≡ Some (Take number found)
+  pub gives : Pending ≡ taken_at (past_at journal place) found
 
 -- the journal that some call found had no room for it
 pub record HadNoRoom (fits : Held Settings Entry → Bool) (before now : Known Settings Entry) : Type 0 where

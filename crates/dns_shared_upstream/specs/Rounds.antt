@@ -11,7 +11,7 @@ use Rattle.dns_journal.specs.Entries.{Entry, Cancel, Send}
 use Rattle.dns_journal.specs.Limits.{call_fits}
 use Rattle.dns_shared_upstream.specs.declared.progress.Progress.{Progress}
 use Rattle.dns_shared_upstream.specs.declared.progress.Progress.TheVariants.{Answered, Read}
-use Rattle.dns_shared_upstream.specs.Calls.{EndsWith, HadNoRoom, arrives_in}
+use Rattle.dns_shared_upstream.specs.Calls.{EndsWith, FoundNone, HadNoRoom, arrives_in}
 use Rattle.dns_shared_upstream.specs.Sends.{HolderValue, Made, Stopped, StreamFailed, Waited}
 
 -- calls were made, by which so many messages came
@@ -76,9 +76,14 @@ abbrev pub PassesOver : {X Y E : Type 0} → Result X ExchangeError → Result Y
 PassesOver (Err NoMemory) told = IsErr told
 PassesOver _ told = IsOk told
 
+-- a take of a request found that nothing waits for it yet
+pub record FindsNone (number : ℕ) (before now : HolderValue) : Type 0 where
+  pub passed : Passed 0 before now
+  pub none : FoundNone passed.calls now.token.known.journal number
+
 -- a step that takes what waits for a request
 abbrev pub Takes : ℕ → HolderValue → HolderValue → Result (Option (Result ResponseValue NetError)) NetError → Type 0
-Takes number before now (Ok None) = Passed 0 before now
+Takes number before now (Ok None) = FindsNone number before now
 Takes number before now (Ok (Some reply)) = Stops number before now (reply_of reply)
 Takes number before now (Err error) = Stops number before now (Err (error_of error))
 

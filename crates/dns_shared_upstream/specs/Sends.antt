@@ -14,7 +14,7 @@ use Rattle.dns_journal.specs.Limits.{arrival_fits, call_fits, close_fits, send_f
 use Rattle.dns_shared_exchange.specs.Tokens.{TokenValue}
 use Rattle.dns_tcp.specs.Exchanges.{most_messages}
 use Rattle.dns_tcp.specs.Frames.{HasFrame}
-use Rattle.dns_shared_upstream.specs.Calls.{Called, IsAmong, EndsWith, Gave, HadNoRoom, arrives_in, closes_in}
+use Rattle.dns_shared_upstream.specs.Calls.{Called, IsAmong, EndsWith, FoundNone, Gave, HadNoRoom, arrives_in, closes_in}
 
 -- what a holder has: what its token knows, and how many failures of the stream its share counts
 pub record HolderValue : Type 0 where
@@ -60,8 +60,9 @@ pub data Stopped (number : ℕ) (calls : List (ℕ × Entry)) (before now : Hold
 -- how the wait for the request with a number ended
 pub data Waited (number : ℕ) (calls : List (ℕ × Entry)) (before now : HolderValue) (reply : Reply) : Type 0 where
   WasStopped : Stopped number calls before now reply → Waited number calls before now reply
-  -- as many messages came as are waited for
-  WasUnanswered : arrives_in calls ≡ most_messages → reply ≡ Err Timeout → Waited number calls before now reply
+  -- as many messages came as are waited for, and a take behind the last of them found nothing
+  WasUnanswered : arrives_in calls ≡ most_messages → FoundNone calls now.token.known.journal number → reply ≡ Err Timeout
+      → Waited number calls before now reply
 
 -- the last call ended the request, unless the journal had no room for that or memory ran out
 abbrev pub IsOver : ℕ → List (ℕ × Entry) → HolderValue → HolderValue → Reply → Type 0
