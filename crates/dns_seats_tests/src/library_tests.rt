@@ -160,3 +160,22 @@ where
     }
     Ok(seats)
 }
+
+/// Serves clients over a socket in rounds, and says how many seats are left then.
+fn serve_clients<R>(
+    rt: R,
+    alloc: Global,
+    clients: &UdpSocket,
+    server: SocketAddr,
+    rounds: u64,
+    requests: u32,
+) -> Result<usize, NetError>
+where
+    R: Net + time::Clock + RandomSource + Threads + Wait + Copy + Drop + Send + Sync,
+    R::Stream: Send,
+    R::Listener: Send,
+{
+    let seats = seats_of(rt, alloc, clients, server)?;
+    let left = serve_rounds(&rt, alloc, seats, rounds, requests)?;
+    Ok(left.len())
+}

@@ -11,8 +11,7 @@ use dns_net::{
 use dns_wire::{DNSClass, Denial, Message, Name, Octets, Proof, Query, RecordType};
 use std::alloc::Global;
 use std::sync::Wait;
-use std::thread::Threads;
-use std::{io, thread};
+use std::thread::{self, Threads};
 
 /// The root's NS set with a signature that is good from 900 to 2000, as a message.
 const SERVERS: &[u8] =
@@ -230,11 +229,14 @@ fn is_secure_in_threads<R: Threads + Wait + Copy + Send + Sync>(
     Ok(secure.iter().all(|secure| *secure))
 }
 
-fn main(rt: HostRuntime) -> io::Result<()> {
-    let alloc = rt.alloc();
-    let secure = is_secure_at(alloc, 1000).unwrap_or(false)
-        && is_secure_by_hand(alloc, 1000).unwrap_or(false);
-    println!(rt; "{}", if secure { "secure" } else { "not secure" })
+/// The same in each of these ways.
+fn is_secure_each_way<R: Threads + Wait + Copy + Send + Sync>(
+    rt: R,
+    alloc: Global,
+    now: u64,
+) -> Result<bool, NetError> {
+    let alone = is_secure_at(alloc, now)? && is_secure_by_hand(alloc, now)?;
+    Ok(alone && is_secure_in_threads(rt, alloc, now)?)
 }
 
 #[test]
@@ -245,6 +247,8 @@ fn a_record_is_secure_by_its_chain_while_its_signature_holds(rt: HostRuntime) {
     check_row(&rt, "by hand", by_hand);
     let in_threads = is_secure_in_threads(rt, rt.alloc(), 1000).unwrap_or(false);
     check_row(&rt, "in four threads", in_threads);
+    let each_way = is_secure_each_way(rt, rt.alloc(), 1000).unwrap_or(false);
+    check_row(&rt, "each way", each_way);
 }
 
 fn is_bogus(alloc: Global) -> Result<bool, NetError> {

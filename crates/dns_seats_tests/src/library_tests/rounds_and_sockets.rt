@@ -1,5 +1,5 @@
 //! The forwarder of docs/LIBRARY.md in memory, and over sockets of this machine.
-use super::{seats_of, serve_rounds};
+use super::{serve_clients, serve_rounds};
 use crate::given::{ListSeat, cache, port, seat_at};
 use crate::requests::case_of;
 use crate::rows::check_held;
@@ -126,11 +126,7 @@ fn four_seats_over_one_socket_answer_a_client(rt: HostRuntime) {
         || {
             let both = thread::join(
                 &rt,
-                || {
-                    let seats = seats_of(rt, alloc, &clients, server).expect(&rt, "seats");
-                    let left = serve_rounds(&rt, alloc, seats, 2, 2).expect(&rt, "memory");
-                    left.len()
-                },
+                || serve_clients(rt, alloc, &clients, server, 2, 2).expect(&rt, "memory"),
                 || ask(&rt, forwarder, 16),
             );
             done.store(1, Ordering::SeqCst);
