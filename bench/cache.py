@@ -22,7 +22,7 @@ import subprocess
 import sys
 import time
 
-from passes import TOP, TURNS
+from passes import TOP, TURNS, done_of
 
 PROGRAM = os.path.join(TOP, "crates", "dns_trial", "out", "dns_trial")
 # how many passes over how many entries
@@ -45,17 +45,6 @@ def words_of(path, work, entries, links):
     return [path, work, str(entries), *([str(links)] if WORKS[work] else [])]
 
 
-def run(words, passes):
-    """How often a run says that it was done, its processor seconds and its greatest resident bytes."""
-    with subprocess.Popen([*words, str(passes)], stdout=subprocess.PIPE) as child:
-        line = child.stdout.read().split()
-        _, status, usage = os.wait4(child.pid, 0)
-        child.returncode = status
-    if status != 0 or line[:1] != [b"done"]:
-        sys.exit(f"{' '.join(words[1:])} {passes}: status {status}, {line}")
-    return int(line[1]), usage.ru_utime + usage.ru_stime, usage.ru_maxrss * 1024
-
-
 class Measured:
     """The best runs so far of some passes and of twice as many."""
 
@@ -67,7 +56,7 @@ class Measured:
 
     def turn(self):
         for place, passes in enumerate((self.passes, 2 * self.passes)):
-            count, seconds, _ = run(self.words, passes)
+            count, seconds, _ = done_of([*self.words, str(passes)])
             if count != passes * self.entries:
                 sys.exit(f"{' '.join(self.words[1:])} {passes}: {count} times and not {passes * self.entries}")
             self.best[place] = min(self.best[place], seconds)
@@ -150,7 +139,8 @@ def owned(path, turns):
         is_over |= work in ("get", "insert") and large > MOST_TIMES * small
     many = max(SIZES)
     for links in LINKS:
-        room = run(words_of(path, "get", many, links), 0)[2] - run(words_of(path, "copy", many, links), 0)[2]
+        full, keys_alone = (done_of([*words_of(path, work, many, links), "0"])[2] for work in ("get", "copy"))
+        room = full - keys_alone
         print(f"{links} links: {room / many:.0f} bytes an entry")
     return is_over
 

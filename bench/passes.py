@@ -1,4 +1,4 @@
-"""What the scripts over `dns_measure` share: its runs, what its passes alone take, and frames."""
+"""What the scripts over programs of the repository share: their runs, what passes alone take, and frames."""
 import os
 import resource
 import subprocess
@@ -35,6 +35,17 @@ def counts_of(words, text, names, clock=time.perf_counter):
     if ended.returncode != 0 or [line[0] for line in lines] != list(names):
         sys.exit(f"{' '.join(words[1:])}: status {ended.returncode}, {ended.stdout[:200]!r}")
     return taken, tuple(int(line[1]) for line in lines)
+
+
+def done_of(words):
+    """How often a run of a trial program says that it was done, its processor seconds and its greatest resident bytes."""
+    with subprocess.Popen(words, stdout=subprocess.PIPE) as child:
+        line = child.stdout.read().split()
+        _, status, usage = os.wait4(child.pid, 0)
+        child.returncode = status
+    if status != 0 or line[:1] != [b"done"]:
+        sys.exit(f"{' '.join(words[1:])}: status {status}, {line}")
+    return int(line[1]), usage.ru_utime + usage.ru_stime, usage.ru_maxrss * 1024
 
 
 class Timing:
