@@ -64,6 +64,15 @@ abbrev pub is_unverified : Option ProofErrorKindValue → Bool
 is_unverified None = false
 is_unverified (Some kind) = kind_is_unverified kind
 
+-- keys that DS records match were tried, and none signs the set
+abbrev pub kind_is_unmatched : ProofErrorKindValue → Bool
+kind_is_unmatched (DsRecordsButNoDnskey name) = true
+kind_is_unmatched _ = false
+
+abbrev pub is_unmatched : Option ProofErrorKindValue → Bool
+is_unmatched None = false
+is_unmatched (Some kind) = kind_is_unmatched kind
+
 -- what an ask came to is to blame
 abbrev pub kind_follows : ProofErrorKindValue → Bool
 kind_follows (Net query) = true

@@ -6,6 +6,7 @@ pub mod PlaceValues
 pub mod SignatureWords
 pub mod CauseWords
 pub mod Following
+pub mod DigestWords
 pub mod Reasons
 pub mod DenialWords
 pub mod AnswerText

@@ -4,7 +4,8 @@ use Rattle.std.specs.Prelude.{ℕ, List, [], ◌∷◌, ◌++◌, codes, Option,
 use Rattle.std.specs.Option.{option_map_or}
 use Rattle.dns_model.specs.Trails.{AskedValue}
 use Rattle.dns_model.specs.Views.{RrsigValue}
-use Rattle.dns_query_answer.specs.CauseWords.{cause_words, tries, is_unverified}
+use Rattle.dns_query_answer.specs.CauseWords.{cause_words, tries, is_unmatched, is_unverified}
+use Rattle.dns_query_answer.specs.DigestWords.{digest_words}
 use Rattle.dns_query_answer.specs.Following.{ask_fault_words, ask_to_follow, blamed_place}
 use Rattle.dns_query_answer.specs.Places.{Explained, Place, origin_place}
 use Rattle.dns_query_answer.specs.SentenceWords.{set_words, title}
@@ -18,22 +19,23 @@ ended_signature moment p = if tries p.cause then untimely_signature moment p els
 abbrev pub next_words : Place → List ℕ
 next_words p = codes ": " ++ (set_words p.set.owner p.set.rtype ++ (codes " is " ++ (title p.set.mark ++ codes ": ")))
 
--- where neither an ask nor the time is to blame, the signature itself is
-abbrev pub last_words : ℕ → Place → List ℕ
-last_words moment p =
-    if is_unverified p.cause then option_map_or (λ sig. codes ": " ++ signature_words moment sig) (named_signature moment p) []
+-- where neither an ask nor the time is to blame, the signature itself is, or a DS record
+abbrev pub last_words : Explained → Place → List ℕ
+last_words g p =
+    if is_unverified p.cause then option_map_or (λ sig. codes ": " ++ signature_words g.moment sig) (named_signature g.moment p) []
+    else if is_unmatched p.cause then digest_words g p
     else []
 
 -- what the next set is, and why
-abbrev pub deeper_words : ℕ → Place → (Place → List ℕ) → Option Place → List ℕ
-deeper_words moment p why None = last_words moment p
-deeper_words moment p why (Some next) = next_words next ++ why next
+abbrev pub deeper_words : Explained → Place → (Place → List ℕ) → Option Place → List ℕ
+deeper_words g p why None = last_words g p
+deeper_words g p why (Some next) = next_words next ++ why next
 
 -- what a cause stands on: a signature that isn't of its time; or a query that failed; or another set
 abbrev pub ground_words : Explained → Place → (Place → List ℕ) → Option RrsigValue → List ℕ
 ground_words g p why (Some sig) = codes ": " ++ signature_words g.moment sig
 ground_words g p why None =
-    ask_fault_words g.steps (ask_to_follow g p) ++ deeper_words g.moment p why (blamed_place g (ask_to_follow g p))
+    ask_fault_words g.steps (ask_to_follow g p) ++ deeper_words g p why (blamed_place g (ask_to_follow g p))
 
 -- of a set as it was judged by the rules
 abbrev pub origin_words : Explained → Place → (Place → List ℕ) → List ℕ

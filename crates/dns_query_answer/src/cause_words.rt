@@ -2,7 +2,7 @@
 ghost use Rattle.std.specs.Prelude.{◌≡◌, ◌++◌, OnOk};
 ghost use Rattle.std.specs.Option.{option_map};
 ghost use Rattle.dns_cache.specs.Kinds.{kind_value};
-ghost use Rattle.dns_query_answer.specs.CauseWords.{cause_words, follows as is_followed, is_unverified as is_unverified_by, kind_words, neither_words, origin_words, tries as is_tried, unshown_words, unsigned_words};
+ghost use Rattle.dns_query_answer.specs.CauseWords.{cause_words, follows as is_followed, is_unmatched as is_unmatched_by, is_unverified as is_unverified_by, kind_words, neither_words, origin_words, tries as is_tried, unshown_words, unsigned_words};
 ghost use Rattle.dns_query_answer.specs.PlaceValues.{place_of};
 
 use crate::places::Place;
@@ -105,6 +105,13 @@ pub(crate) fn is_unverified(cause: Option<&ProofErrorKind>) -> bool
     ensures { result ≡ is_unverified_by (option_map (λ k. kind_value k.now) cause.entry) }
 {
     matches!(cause, Some(ProofErrorKind::RrsigsUnverified { .. }))
+}
+
+/// Whether keys that DS records match were tried, and none signs the set.
+pub(crate) fn is_unmatched(cause: Option<&ProofErrorKind>) -> bool
+    ensures { result ≡ is_unmatched_by (option_map (λ k. kind_value k.now) cause.entry) }
+{
+    matches!(cause, Some(ProofErrorKind::DsRecordsButNoDnskey { .. }))
 }
 
 /// Whether what an ask came to is to blame.

@@ -6,6 +6,7 @@
 mod answer;
 mod cause_words;
 mod denials;
+mod digests;
 mod errors;
 mod following;
 mod places;

@@ -5,7 +5,8 @@ ghost use Rattle.dns_query_answer.specs.PlaceValues.{explained_by, place_of};
 ghost use Rattle.dns_query_answer.specs.Reasons.{deeper_words, ended_signature as signature_ended, last_words, next_words, origin_words, reason_words};
 ghost use Rattle.dns_query_answer.specs.SignatureWords.{signature_words};
 
-use crate::cause_words::{is_unverified, push_cause, tries};
+use crate::cause_words::{is_unmatched, is_unverified, push_cause, tries};
+use crate::digests::push_digest;
 use crate::following::{ask_to_follow, blamed_place, push_ask_fault};
 use crate::places::{Context, Place, origin_place};
 use crate::signatures::{named_signature, push_signature, untimely_signature};
@@ -45,15 +46,23 @@ fn push_fault(into: &mut Vec<u8>, moment: u64, read: &Rrsig<'_>) -> Result<(), N
     push_signature(into, moment, read)
 }
 
-// Appends what is said of a set's signature, where nothing else is to blame.
-fn push_last(into: &mut Vec<u8>, moment: u64, place: &Place<'_>) -> Result<(), NoMemory>
-    ensures { OnOk result (into.new.items ≡ into.old.items ++ last_words moment (place_of place.now)) }
+// Appends what is said of a set's signature, or of a DS record, where nothing else is to blame.
+fn push_last<'a>(
+    into: &mut Vec<u8>,
+    context: &Context<'a>,
+    place: &Place<'a>,
+) -> Result<(), NoMemory>
+    ensures { OnOk result (into.new.items ≡ into.old.items
+        ++ last_words (explained_by context.now) (place_of place.now)) }
 {
+    if is_unmatched(place.cause) {
+        return push_digest(into, context, place);
+    }
     if !is_unverified(place.cause) {
         return Ok(());
     }
-    match named_signature(moment, place) {
-        Some(read) => push_fault(into, moment, &read),
+    match named_signature(context.moment, place) {
+        Some(read) => push_fault(into, context.moment, &read),
         None => Ok(()),
     }
 }
@@ -67,7 +76,7 @@ fn push_deeper<'a>(
     place: &Place<'a>,
     next: Option<Place<'a>>,
 ) -> Result<(), NoMemory>
-    ensures { OnOk result (into.new.items ≡ into.old.items ++ deeper_words context.now.moment (place_of place.now)
+    ensures { OnOk result (into.new.items ≡ into.old.items ++ deeper_words (explained_by context.now) (place_of place.now)
         (reason_words left.now (explained_by context.now)) (option_map place_of next.entry)) }
 {
     match next {
@@ -75,7 +84,7 @@ fn push_deeper<'a>(
             push_next(into, &next)?;
             push_reason(into, context, left, &next)
         }
-        None => push_last(into, context.moment, place),
+        None => push_last(into, context, place),
     }
 }
 

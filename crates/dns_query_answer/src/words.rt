@@ -62,6 +62,14 @@ pub(crate) fn push_set(
     push_type(into, record_type)
 }
 
+/// Appends a text and the number behind it.
+pub(crate) fn push_numbered(into: &mut Vec<u8>, text: &[u8], number: u16) -> Result<(), NoMemory>
+    ensures { OnOk result (into.new.items ≡ into.old.items ++ (text.now ++ decimal number)) }
+{
+    push_text(into, text)?;
+    push_decimal(into, u64::from(number))
+}
+
 // Appends a number of units.
 fn push_counted(into: &mut Vec<u8>, number: u32, unit: &[u8]) -> Result<(), NoMemory>
     ensures { OnOk result (into.new.items ≡ into.old.items ++ counted number unit.now) }
