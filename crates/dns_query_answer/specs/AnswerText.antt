@@ -2,7 +2,7 @@
 -- (RFC 1035, 5.1; RFC 4035, 4.3).
 use Rattle.std.specs.Prelude.{ℕ, Bool, not, ◌+◌, ◌-◌, ◌==◌, ◌&&◌, List, [], ◌∷◌, ◌++◌, codes, length, Option, Some, Ok, Err, slice_get, if◌then◌else◌}
 use Rattle.std.specs.Prelude as prelude
-use Rattle.std.specs.List.{flat_map}
+use Rattle.std.specs.List.{find, flat_map}
 use Rattle.std.specs.Option.{option_map_or}
 use Rattle.dns_model.specs.declared.denial.Denial.{Denial}
 use Rattle.dns_model.specs.declared.denial.Denial.TheVariants.{None, Absent, Expanded}
@@ -13,6 +13,7 @@ use Rattle.dns_model.specs.Chains.{Judge}
 use Rattle.dns_model.specs.Records.{Rr, Question}
 use Rattle.dns_model.specs.SoundAnswers.{ResponseValue, is_secure, section_eq}
 use Rattle.dns_model.specs.Trails.{AskedValue, JudgedSetValue}
+use Rattle.dns_model.specs.Types.{type_rrsig}
 use Rattle.dns_causes.specs.Causes.{causes}
 use Rattle.dns_handle.specs.Errors as seen
 use Rattle.dns_handle.specs.Errors.{ErrorValue, Reply, Dns, Nsec}
@@ -96,6 +97,25 @@ denial_text q code g None = []
 denial_text q code g (Absent mark) = denial_sentence g mark (absent_words q code)
 denial_text q code g (Expanded mark) = denial_sentence g mark (codes "this is made from a wildcard, and no closer name is there")
 
+-- ---- signatures
+
+-- a signature that isn't Secure
+abbrev pub is_unproved_signature : Rr → Bool
+is_unproved_signature r = (r.rtype == type_rrsig) && not (is_secure r.proof)
+
+-- `MARK: OWNER RRSIG`
+unfoldable pub signature_title : Rr → List ℕ
+signature_title r = title r.proof ++ (codes ": " ++ set_words r.owner r.rtype)
+
+-- and why: no signature is over signatures (RFC 4035, 2.2)
+unfoldable pub signature_sentence : Rr → List ℕ
+signature_sentence r =
+    signature_title r ++ codes ": a signature is judged with the records that it signs, and these weren't asked for\n"
+
+-- of the first such, where signatures themselves were asked for
+abbrev pub signatures_text : Question → List Rr → List ℕ
+signatures_text q answers = if q.rtype == type_rrsig then option_map_or signature_sentence (find is_unproved_signature answers) [] else []
+
 -- ---- the text
 
 -- the answer section, what is denied, and why sets of it aren't Secure
@@ -103,7 +123,8 @@ unfoldable pub response_text : Explained → ResponseValue → List ℕ → List
 response_text g answer denial = record_lines answer.message.answers ++ (denial ++ top_sentences g (top_of g))
 
 abbrev pub ok_text : Question → Explained → ResponseValue → List ℕ
-ok_text q g answer = response_text g answer (denial_text q answer.message.response_code g answer.denial)
+ok_text q g answer =
+    response_text g answer (denial_text q answer.message.response_code g answer.denial) ++ signatures_text q answer.message.answers
 
 -- what isn't shown
 abbrev pub refused_claim : Question → ℕ → List Rr → List ℕ

@@ -11,7 +11,7 @@ use crate::denials::push_claim;
 use crate::errors::push_error;
 use crate::places::Context;
 use crate::record_lines::push_records;
-use crate::sentences::{push_denial, push_denial_sentence, push_top_sentences};
+use crate::sentences::{push_denial, push_denial_sentence, push_signatures, push_top_sentences};
 use crate::words::push_text;
 use dns_cache::ProofErrorKind;
 use dns_causes::trail_causes;
@@ -83,7 +83,8 @@ fn push_given(
         context,
         answer.denial,
     )?;
-    push_top_sentences(into, context)
+    push_top_sentences(into, context)?;
+    push_signatures(into, query, &answer.message.answers)
 }
 
 // What isn't shown.

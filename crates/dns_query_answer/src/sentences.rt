@@ -1,7 +1,9 @@
 //! Sentences on what an answer denies, and on why its sets aren't Secure (RFC 4035, 4.3).
 ghost use Rattle.std.specs.Prelude.{◌≡◌, ◌++◌, OnOk};
+ghost use Rattle.std.specs.List.{find};
+ghost use Rattle.std.specs.Option.{option_copied};
 ghost use Rattle.dns_causes.specs.Values.{kinds_of};
-ghost use Rattle.dns_query_answer.specs.AnswerText.{denial_sentence, denial_text, sentences_from, set_sentence, set_title, top_number, top_of, top_reason, top_sentences, why_denied, why_sentence};
+ghost use Rattle.dns_query_answer.specs.AnswerText.{denial_sentence, denial_text, is_unproved_signature as is_unproved, sentences_from, set_sentence, set_title, signature_sentence, signature_title, signatures_text, top_number, top_of, top_reason, top_sentences, why_denied, why_sentence};
 ghost use Rattle.dns_query_answer.specs.DenialWords.{absent_words};
 ghost use Rattle.dns_query_answer.specs.PlaceValues.{explained_by, place_of};
 
@@ -12,7 +14,7 @@ use crate::words::{push_set, push_text, title};
 use dns_cache::ProofErrorKind;
 use dns_evidence::{Asked, JudgedSet};
 use dns_model::{Denial, Proof, Section};
-use dns_record::{NoMemory, Query, ResponseCode};
+use dns_record::{NoMemory, Query, Record, RecordType, ResponseCode};
 
 // Appends a set with its mark.
 fn push_title(into: &mut Vec<u8>, set: &JudgedSet) -> Result<(), NoMemory>
@@ -175,5 +177,58 @@ pub(crate) fn push_denial(
             mark,
             b"this is made from a wildcard, and no closer name is there",
         ),
+    }
+}
+
+// Whether a record is a signature that isn't Secure.
+fn is_unproved_signature(one: &Record) -> bool
+    ensures { result ≡ is_unproved one.now }
+{
+    one.record_type == RecordType::RRSIG && one.proof != Proof::Secure
+}
+
+// The first such record.
+fn first_unproved(answers: &[Record]) -> Option<&Record>
+    ensures { option_copied result ≡ find is_unproved answers.now }
+{
+    answers.iter().find(|one| is_unproved_signature(one))
+}
+
+// Appends a signature with its mark.
+#[tactic(auto, unfolding(crate::specs::AnswerText::signature_title))]
+fn push_signature_title(into: &mut Vec<u8>, one: &Record) -> Result<(), NoMemory>
+    ensures { OnOk result (into.new.items ≡ into.old.items ++ signature_title one.now) }
+{
+    push_text(into, title(one.proof))?;
+    push_text(into, b": ")?;
+    push_set(into, &one.name, one.record_type)
+}
+
+// Appends why a signature isn't Secure.
+#[tactic(auto, unfolding(crate::specs::AnswerText::signature_sentence))]
+fn push_signature_sentence(into: &mut Vec<u8>, one: &Record) -> Result<(), NoMemory>
+    ensures { OnOk result (into.new.items ≡ into.old.items ++ signature_sentence one.now) }
+{
+    push_signature_title(into, one)?;
+    push_text(
+        into,
+        b": a signature is judged with the records that it signs, and these weren't asked for\n",
+    )
+}
+
+/// Appends why signatures that were asked for themselves aren't Secure, where one isn't.
+pub(crate) fn push_signatures(
+    into: &mut Vec<u8>,
+    query: &Query,
+    answers: &[Record],
+) -> Result<(), NoMemory>
+    ensures { OnOk result (into.new.items ≡ into.old.items ++ signatures_text query.now answers.now) }
+{
+    if query.query_type != RecordType::RRSIG {
+        return Ok(());
+    }
+    match first_unproved(answers) {
+        Some(one) => push_signature_sentence(into, one),
+        None => Ok(()),
     }
 }

@@ -8,6 +8,8 @@ mod given;
 #[cfg(test)]
 mod large_tests;
 #[cfg(test)]
+mod signature_tests;
+#[cfg(test)]
 mod status_tests;
 #[cfg(test)]
 mod worked_answers;
