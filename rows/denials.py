@@ -91,6 +91,16 @@ def name_error_of_a_name_with_another_below():
     return name_error("a.ml.example"), IS_BOGUS
 
 
+def name_error_without_the_name():
+    """no record covers the name: that of the wildcard alone shows nothing"""
+    return asked(A, nsec("example", "a.example", SOA, NS), code=NAME_ERROR), IS_BOGUS
+
+
+def name_error_without_the_wildcard():
+    """no record covers the wildcard that would answer"""
+    return asked(A, nsec("b.example", "ns1.example", NS), code=NAME_ERROR), IS_BOGUS
+
+
 def signed_together(scene, records):
     """One set, which `example.` signed. A message of a thousand of them is packed."""
     scene.is_packed = True
@@ -247,7 +257,8 @@ def no_record_at_all_of_an_unsigned_zone():
     return no_records_of_an_unsigned_zone(), ["denial absent insecure", "last ending absent insecure 0 1 3", "asks 5"], TRAIL
 
 
-MADE = (name_error_by_two_records, name_error_beside_seven_others, name_error_of_a_name_with_another_below, type_that_a_name_lacks, denial_that_cannot_be_read,
+MADE = (name_error_by_two_records, name_error_beside_seven_others, name_error_of_a_name_with_another_below, name_error_without_the_name,
+        name_error_without_the_wildcard, type_that_a_name_lacks, denial_that_cannot_be_read,
         address_at_an_apex, expansion_with_its_denial, expansion_without_a_denial, expansion_past_a_closer_name,
         denial_in_the_answer_section, denial_in_the_additional_section,
         expanded_denial_beside_an_answer, denials_of_two_zones, denial_by_its_second_signature, ds_denied_by_its_own_zone,

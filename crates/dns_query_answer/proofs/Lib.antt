@@ -1,2 +1,5 @@
 pub mod PushLemmas
 pub mod StatusLemmas
+pub mod SaidLemmas
+pub mod AncestorLemmas
+pub mod MatchLemmas

@@ -13,6 +13,7 @@ use Rattle.dns_model.specs.Records.{Rr, Question}
 use Rattle.dns_model.specs.RecordViews.{read_as}
 use Rattle.dns_model.specs.SoundAnswers.{is_secure, section_eq}
 use Rattle.dns_model.specs.Trails.{AskedValue, JudgedSetValue, HeardValue, Records, Fault}
+use Rattle.dns_model.specs.Told.{Told}
 use Rattle.dns_model.specs.Types.{can_deny, code_nx_domain, type_ds, type_nsec, type_nsec3}
 use Rattle.dns_model.specs.Views.{nsec3_in}
 use Rattle.dns_record.specs.Words.{type_word}
@@ -20,6 +21,8 @@ use Rattle.dns_rules.specs.Delegations.{is_insecure}
 use Rattle.dns_rules.specs.Outcome.{answers_query}
 use Rattle.dns_query_answer.specs.CauseWords.{unsigned_words}
 use Rattle.dns_query_answer.specs.Following.{ask_fault_words, blamed_ask, is_denial_type}
+use Rattle.dns_query_answer.specs.NsecFaults.{nsec_fault}
+use Rattle.dns_query_answer.specs.Nsec3Faults.{nsec3_fault}
 use Rattle.dns_query_answer.specs.Places.{Explained, Place, causes_of, heard_section, place_by}
 use Rattle.dns_query_answer.specs.Reasons.{next_words, reason_words}
 use Rattle.dns_query_answer.specs.SentenceWords.{code_words}
@@ -53,12 +56,24 @@ abbrev pub denial_blames : Proof → JudgedSetValue → Bool
 denial_blames proof set =
     section_eq Authority set.section && (not (is_secure set.mark) && (is_insecure proof || is_denial_type set.rtype))
 
+-- the server failed or refused to answer, which denies nothing (RFC 2308, 2)
+unfoldable pub refused_words : ℕ → List ℕ
+refused_words code = codes ": the server answered with " ++ code_words code
+
+-- that, or what the NSEC3 records of the reply leave open
+abbrev pub hash_told_words : Question → Told → List ℕ
+hash_told_words q told = if can_deny told.code then nsec3_fault q told else refused_words told.code
+
+abbrev pub hash_heard_words : Question → HeardValue → List ℕ
+hash_heard_words q (Records told empty) = hash_told_words q told
+hash_heard_words q Fault = []
+
 -- names are hashed too often, or opt-out leaves it open, or it isn't what the records say
-unfoldable pub hashed_words : Proof → ℕ → List ℕ
-hashed_words proof iterations =
+unfoldable pub hashed_words : Proof → ℕ → AskedValue → List ℕ
+hashed_words proof iterations top =
     if nat_lt 100 iterations then codes ": names are hashed " ++ (decimal iterations ++ codes " times more, which is too often")
     else if is_insecure proof then codes ": an NSEC3 record has the flag Opt-Out"
-    else codes ": the NSEC3 records don't show it"
+    else hash_heard_words top.query top.reply
 
 -- by a zone that is asked for: no DS record is supported, or it has none
 unfoldable pub ds_record_words : Labels → List ℕ
@@ -81,14 +96,11 @@ zone_words steps (Some TooDeep) = []
 zone_words steps (Some TooMany) = []
 zone_words steps None = []
 
--- the server failed or refused to answer, which denies nothing (RFC 2308, 2)
-unfoldable pub refused_words : ℕ → List ℕ
-refused_words code = codes ": the server answered with " ++ code_words code
-
--- or no record of the reply denies anything
+-- no record of the reply denies anything
 abbrev pub no_denial_words : List ℕ
 no_denial_words = codes ": no NSEC or NSEC3 record is in the reply"
 
+-- or the server failed or refused to answer
 abbrev pub code_fault_words : ℕ → List ℕ
 code_fault_words code = if can_deny code then no_denial_words else refused_words code
 
@@ -106,15 +118,23 @@ excuse_words g proof top =
     if is_insecure proof then zone_words g.steps (blamed_ask g.steps top.excuse)
     else missing_words top g.steps (blamed_ask g.steps top.excuse)
 
+-- that the server failed or refused to answer, or what the NSEC records of its reply leave open
+abbrev pub name_told_words : Question → Told → List ℕ
+name_told_words q told = if can_deny told.code then nsec_fault q told else refused_words told.code
+
+abbrev pub name_heard_words : Question → HeardValue → List ℕ
+name_heard_words q (Records told empty) = name_told_words q told
+name_heard_words q Fault = []
+
 -- by NSEC records, if there are some
 unfoldable pub plain_words : Explained → Proof → AskedValue → List ℕ
 plain_words g proof top =
-    if list_any (λ r. r.rtype == type_nsec) (heard_section top.reply Authority) then codes ": the NSEC records don't show it"
+    if list_any (λ r. r.rtype == type_nsec) (heard_section top.reply Authority) then name_heard_words top.query top.reply
     else excuse_words g proof top
 
 -- by the first NSEC3 record, if there is one
 abbrev pub record_words : Explained → Proof → AskedValue → Option ℕ → List ℕ
-record_words g proof top (Some iterations) = hashed_words proof iterations
+record_words g proof top (Some iterations) = hashed_words proof iterations top
 record_words g proof top None = plain_words g proof top
 
 -- how often names are hashed again, by the first NSEC3 record

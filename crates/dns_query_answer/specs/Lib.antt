@@ -8,5 +8,8 @@ pub mod CauseWords
 pub mod Following
 pub mod DigestWords
 pub mod Reasons
+pub mod Wildcards
+pub mod NsecFaults
+pub mod Nsec3Faults
 pub mod DenialWords
 pub mod AnswerText

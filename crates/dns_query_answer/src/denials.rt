@@ -6,17 +6,19 @@ ghost use Rattle.dns_evidence.specs.Trail.{heard_value};
 ghost use Rattle.dns_model.specs.declared.section.Section.TheVariants.{Authority};
 ghost use Rattle.dns_model.specs.Types.{type_nsec3};
 ghost use Rattle.dns_rules.specs.Delegations.{is_insecure as is_insecure_mark};
-ghost use Rattle.dns_rules.specs.Outcome.{answers_query as answers_asked};
-ghost use Rattle.dns_query_answer.specs.DenialWords.{absent_words, at_name_words, claim_words, code_fault_words, ds_record_words, denial_blames as is_blamed_for, denial_reason, excuse_words, hashed_words, iterations_in as iterations_of, missing_words, no_denial_words, no_name_words, no_record_words, no_type_words, plain_words, record_words, refused_words, reply_fault_words, unfollowed_words, unsigned_zone_words, unsupported_words, zone_words};
+ghost use Rattle.dns_query_answer.specs.DenialWords.{absent_words, at_name_words, claim_words, code_fault_words, ds_record_words, denial_blames as is_blamed_for, denial_reason, excuse_words, hash_heard_words, hash_told_words, hashed_words, iterations_in as iterations_of, missing_words, name_heard_words, name_told_words, no_denial_words, no_name_words, no_record_words, no_type_words, plain_words, record_words, refused_words, reply_fault_words, unfollowed_words, unsigned_zone_words, unsupported_words, zone_words};
 ghost use Rattle.dns_query_answer.specs.PlaceValues.{explained_by, place_of};
 ghost use Rattle.dns_query_answer.specs.Places.{causes_of, heard_section, place_by};
 
 use crate::cause_words::push_unsigned;
 use crate::following::{blamed_ask, is_denial_type, push_ask_fault};
+use crate::nsec_faults::push_nsec_fault;
+use crate::nsec3_faults::push_nsec3_fault;
 use crate::places::{Context, Place, place_at, section_of};
 use crate::reasons::{push_next, push_reason};
+use crate::wildcards::has_answer;
 use crate::words::{push_code, push_name, push_text};
-use dns_evidence::{Asked, JudgedSet, Reply};
+use dns_evidence::{Asked, JudgedSet, Reply, Told};
 use dns_model::{AskRef, Proof, Section};
 use dns_rdata::Nsec3;
 use dns_record::{Name, NoMemory, Query, Record, RecordType, ResponseCode};
@@ -77,21 +79,6 @@ pub(crate) fn push_absent(
     }
 }
 
-// Whether a record answers a query.
-fn answers_query(query: &Query, one: &Record) -> bool
-    ensures { result ≡ answers_asked query.now one.now }
-{
-    query.name == one.name
-        && (one.record_type == query.query_type || one.record_type == RecordType::CNAME)
-}
-
-// Whether a record among some answers a query.
-fn has_answer(query: &Query, answers: &[Record]) -> bool
-    ensures { result ≡ list_any (answers_asked query.now) answers.now }
-{
-    answers.iter().any(|one| answers_query(query, one))
-}
-
 /// Appends that the records answer, or that there are none.
 #[tactic(auto, unfolding(crate::specs::DenialWords::claim_words))]
 pub(crate) fn push_claim(
@@ -118,10 +105,36 @@ fn denial_blames(proof: Proof, set: &JudgedSet) -> bool
         && (proof == Proof::Insecure || is_denial_type(set.record_type))
 }
 
+// Appends that the server failed or refused to answer, or what the NSEC3 records of its reply leave open.
+fn push_told_by_hash(into: &mut Vec<u8>, query: &Query, told: &Told) -> Result<(), NoMemory>
+    ensures { OnOk result (into.new.items ≡ into.old.items ++ hash_told_words query.now told.now.0) }
+{
+    if told.code.can_deny() {
+        push_nsec3_fault(into, query, told)
+    } else {
+        push_refused(into, told.code)
+    }
+}
+
+// Appends the same of what was heard.
+fn push_heard_by_hash(into: &mut Vec<u8>, query: &Query, reply: &Reply) -> Result<(), NoMemory>
+    ensures { OnOk result (into.new.items ≡ into.old.items ++ hash_heard_words query.now (heard_value reply.now)) }
+{
+    match reply {
+        Reply::Told(told) => push_told_by_hash(into, query, told),
+        Reply::Fault => Ok(()),
+    }
+}
+
 // Appends what NSEC3 records leave open.
 #[tactic(auto, unfolding(crate::specs::DenialWords::hashed_words))]
-fn push_hashed(into: &mut Vec<u8>, proof: Proof, iterations: u16) -> Result<(), NoMemory>
-    ensures { OnOk result (into.new.items ≡ into.old.items ++ hashed_words proof iterations) }
+fn push_hashed(
+    into: &mut Vec<u8>,
+    proof: Proof,
+    iterations: u16,
+    top: &Asked,
+) -> Result<(), NoMemory>
+    ensures { OnOk result (into.new.items ≡ into.old.items ++ hashed_words proof iterations top.now) }
 {
     if iterations > SOFT_LIMIT {
         push_text(into, b": names are hashed ")?;
@@ -131,7 +144,7 @@ fn push_hashed(into: &mut Vec<u8>, proof: Proof, iterations: u16) -> Result<(), 
     if proof == Proof::Insecure {
         return push_text(into, b": an NSEC3 record has the flag Opt-Out");
     }
-    push_text(into, b": the NSEC3 records don't show it")
+    push_heard_by_hash(into, &top.query, &top.reply)
 }
 
 // Whether a record of this type is among some.
@@ -280,6 +293,27 @@ fn iterations_in(records: &[Record]) -> Option<u16>
     Some(read.iterations)
 }
 
+// Appends that the server failed or refused to answer, or what the NSEC records of its reply leave open.
+fn push_told_by_name(into: &mut Vec<u8>, query: &Query, told: &Told) -> Result<(), NoMemory>
+    ensures { OnOk result (into.new.items ≡ into.old.items ++ name_told_words query.now told.now.0) }
+{
+    if told.code.can_deny() {
+        push_nsec_fault(into, query, told)
+    } else {
+        push_refused(into, told.code)
+    }
+}
+
+// Appends the same of what was heard.
+fn push_heard_by_name(into: &mut Vec<u8>, query: &Query, reply: &Reply) -> Result<(), NoMemory>
+    ensures { OnOk result (into.new.items ≡ into.old.items ++ name_heard_words query.now (heard_value reply.now)) }
+{
+    match reply {
+        Reply::Told(told) => push_told_by_name(into, query, told),
+        Reply::Fault => Ok(()),
+    }
+}
+
 // Appends why a denial isn't shown, where no NSEC3 record should show it.
 #[tactic(auto, unfolding(crate::specs::DenialWords::plain_words))]
 fn push_plain(
@@ -291,7 +325,7 @@ fn push_plain(
     ensures { OnOk result (into.new.items ≡ into.old.items ++ plain_words (explained_by context.now) proof top.now) }
 {
     if has_type(RecordType::NSEC, section_of(&top.reply, Section::Authority)) {
-        push_text(into, b": the NSEC records don't show it")
+        push_heard_by_name(into, &top.query, &top.reply)
     } else {
         push_excuse(into, context, proof, top)
     }
@@ -308,7 +342,7 @@ fn push_records(
         ++ record_words (explained_by context.now) proof top.now (iterations_of (heard_section top.now.reply Authority))) }
 {
     match iterations_in(section_of(&top.reply, Section::Authority)) {
-        Some(iterations) => push_hashed(into, proof, iterations),
+        Some(iterations) => push_hashed(into, proof, iterations, top),
         None => push_plain(into, context, proof, top),
     }
 }

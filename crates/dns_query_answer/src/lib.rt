@@ -9,12 +9,15 @@ mod denials;
 mod digests;
 mod errors;
 mod following;
+mod nsec3_faults;
+mod nsec_faults;
 mod places;
 mod reasons;
 mod record_lines;
 mod sentences;
 mod signatures;
 mod status;
+mod wildcards;
 mod words;
 
 pub use answer::{answer_causes, told_answer, write_answer};

@@ -62,6 +62,18 @@ pub(crate) fn push_set(
     push_type(into, record_type)
 }
 
+/// Appends a text and the name behind it.
+pub(crate) fn push_named(
+    into: &mut Vec<u8>,
+    text: &[u8],
+    name: &NameRef<'_>,
+) -> Result<(), NoMemory>
+    ensures { OnOk result (into.new.items ≡ into.old.items ++ (text.now ++ printed name.now)) }
+{
+    push_text(into, text)?;
+    push_name_ref(into, name)
+}
+
 /// Appends a text and the number behind it.
 pub(crate) fn push_numbered(into: &mut Vec<u8>, text: &[u8], number: u16) -> Result<(), NoMemory>
     ensures { OnOk result (into.new.items ≡ into.old.items ++ (text.now ++ decimal number)) }
