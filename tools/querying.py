@@ -93,6 +93,40 @@ def server_of(by_udp, by_tcp, family=socket.AF_INET):
                 thread.join()
 
 
+@contextlib.contextmanager
+def holding_server():
+    """The port of a server that sends for ever what is no answer: on each connection a byte now and then, and datagrams under another id."""
+    done = threading.Event()
+
+    def flood(sock, request, peer):
+        while not done.wait(0.05):
+            sock.sendto(bytes([request[0] ^ 1]) + request[1:2] + bytes([request[2] | 0x80]) + request[3:], peer)
+
+    def drip(connection):
+        with connection, contextlib.suppress(OSError):
+            while not done.wait(0.3):
+                connection.sendall(b"\xff")
+
+    def serve(sock, listener):
+        while not done.is_set():
+            with contextlib.suppress(OSError):
+                threading.Thread(target=flood, args=(sock, *sock.recvfrom(65_535)), daemon=True).start()
+            with contextlib.suppress(OSError):
+                threading.Thread(target=drip, args=(listener.accept()[0],), daemon=True).start()
+
+    sock, listener = serving.bound(0)
+    with sock, listener:
+        sock.settimeout(0.05)
+        listener.settimeout(0.05)
+        thread = threading.Thread(target=serve, args=(sock, listener))
+        thread.start()
+        try:
+            yield sock.getsockname()[1]
+        finally:
+            done.set()
+            thread.join()
+
+
 def asked(path, words, anchors=None, environment=None):
     """How the program ends with these words, and these trust anchors in a file: its status, and its lines."""
     with tempfile.TemporaryDirectory() as folder:

@@ -17,7 +17,7 @@ use std::io::{ErrorKind, IsTerminal, Stderr};
 use std::process::ExitCode;
 use std::random::RandomSource;
 
-// A connection answers within so many milliseconds of a request, or has failed.
+// A connection answers within so many milliseconds of a request, or has failed. What is on its way when the time is over is awaited for as long.
 const DEADLINE_MS: u64 = 5000;
 
 // Where Debian keeps the root's trust anchors, and where the system says whom it asks.
@@ -115,13 +115,23 @@ fn say_built_in(rt: &HostRuntime, is_asked: bool, anchors: &Option<Vec<u8>>) {
     }
 }
 
-// A dialer that says whom it waits for where somebody reads it.
+// A dialer that waits for nothing once the time is over, and says whom it waits for where somebody reads it.
 fn waiting<'a>(
     rt: &'a HostRuntime,
     dial: SocketDialer<&'a HostRuntime>,
+    limit_ms: u64,
 ) -> WaitingDialer<SocketDialer<&'a HostRuntime>, &'a HostRuntime, Stderr> {
     let errors = rt.stderr();
-    WaitingDialer::new(rt.alloc(), dial, errors.is_terminal(), rt, errors)
+    let speaks = errors.is_terminal();
+    WaitingDialer::new(rt.alloc(), dial, limit_ms, speaks, rt, errors)
+}
+
+// For so many milliseconds something is awaited: while a question may be asked, and for what is on its way then.
+fn limit_of(asked: &Option<Arguments<'_>>) -> u64 {
+    match asked {
+        Some(arguments) => u64::from(arguments.timeout) * 1000 + DEADLINE_MS,
+        None => 0,
+    }
 }
 
 // Runs the program with these texts.
@@ -131,11 +141,16 @@ fn run_with(
     anchors: Option<&[u8]>,
     resolver: Option<&[u8]>,
     save: Option<&str>,
+    limit_ms: u64,
 ) -> u8 {
     let files = FileTexts { anchors, resolver };
     let outside = Outside {
-        datagrams: waiting(rt, SocketDialer::new(rt)),
-        connections: waiting(rt, SocketDialer::new(rt).with_deadline(DEADLINE_MS)),
+        datagrams: waiting(rt, SocketDialer::new(rt), limit_ms),
+        connections: waiting(
+            rt,
+            SocketDialer::new(rt).with_deadline(DEADLINE_MS),
+            limit_ms,
+        ),
         deadline: SystemStopwatch::new(rt),
         notes: SystemStopwatch::new(rt),
     };
@@ -163,7 +178,28 @@ fn status_of(rt: &HostRuntime, words: &[Vec<u8>]) -> Result<u8, Stop> {
     say_built_in(rt, asked.is_some(), &anchors);
     let resolver = text_of(rt, RESOLVER)?;
     let save = save_path(&asked);
-    Ok(run_with(rt, words, anchors.as_deref(), resolver.as_deref(), save))
+    Ok(run_with(
+        rt,
+        words,
+        anchors.as_deref(),
+        resolver.as_deref(),
+        save,
+        limit_of(&asked),
+    ))
+}
+
+// Says why nobody is asked.
+fn stopped(rt: &HostRuntime, stop: Stop) -> ExitCode {
+    match stop {
+        Stop::NoMemory => {
+            let _ = eprintln!(rt; "dns_query: out of memory");
+            ExitCode::from(status::NO_MEMORY)
+        }
+        Stop::Unreadable => {
+            let _ = eprintln!(rt; "dns_query: can't read the file of trust anchors");
+            ExitCode::from(NO_ANSWER)
+        }
+    }
 }
 
 // Words that can't be read are no call.
@@ -171,14 +207,10 @@ fn main(rt: HostRuntime) -> ExitCode {
     let words = match words_of(&rt) {
         Ok(Some(words)) => words,
         Ok(None) => Vec::new(rt.alloc()),
-        Err(_) => return ExitCode::from(status::NO_MEMORY),
+        Err(_) => return stopped(&rt, Stop::NoMemory),
     };
     match status_of(&rt, &words) {
         Ok(status) => ExitCode::from(status),
-        Err(Stop::NoMemory) => ExitCode::from(status::NO_MEMORY),
-        Err(Stop::Unreadable) => {
-            let _ = eprintln!(rt; "dns_query: the file of trust anchors can't be read");
-            ExitCode::from(NO_ANSWER)
-        }
+        Err(stop) => stopped(&rt, stop),
     }
 }

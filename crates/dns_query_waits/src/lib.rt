@@ -1,8 +1,9 @@
-//! A dialer whose links and sockets say whom they wait for, and for what, once that takes more than a second. They stand over those of
-//! another dialer. What is said changes nothing of what is answered, and no contract speaks of it. The layer above may use
-//! [`WaitingDialer`] as a dialer.
+//! A dialer whose links and sockets say whom they wait for, and for what, once that takes more than a second, and which wait for nothing once
+//! the time is over. They stand over those of another dialer. No contract speaks of what is said, nor of the time. The layer above may
+//! use [`WaitingDialer`] as a dialer.
 #![tactic(auto)]
 
+mod end;
 mod notice;
 mod waiting_datagrams;
 mod waiting_dialer;

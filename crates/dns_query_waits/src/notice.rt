@@ -87,6 +87,6 @@ fn say_awaited<C: Drop, P: Print + Drop>(voice: Voice<C, P>, server: SocketAddr,
     let name = &asked.name;
     let record_type = asked.query_type;
     let _ = voice.printer.println(format_args!(
-        "dns_query: waits for {server} to answer {name} {record_type}"
+        "dns_query: waiting for {server} to answer {name} {record_type}"
     ));
 }

@@ -2,6 +2,7 @@
 ghost use Rattle.std.specs.Prelude.{◌≡◌};
 ghost use Rattle.dns_link.specs.Counts.{no_counts};
 
+use crate::end::End;
 use crate::notice::{Notice, Voice};
 use dns_handle::IoKind;
 use dns_link::{Counts, Datagrams};
@@ -9,11 +10,12 @@ use std::io::Print;
 use std::net::SocketAddr;
 use std::time;
 
-/// A socket over another, which waits for a part of a second at a time. It tells nothing of the datagrams.
+/// A socket over another, which waits for a part of a second at a time. Once the time is over no datagram comes. It tells nothing of the datagrams.
 #[derive(Drop)]
 pub struct WaitingDatagrams<G: Drop, C: Drop, P: Drop> {
     socket: G,
     notice: Notice<C, P>,
+    end: End<C>,
     counts: Counts,
 }
 
@@ -24,13 +26,14 @@ impl<G: Datagrams + Drop, C: time::Clock + Copy + Drop, P: Print + Copy + Drop> 
 > {
     ghost use Rattle.dns_query_waits.specs.WaitCounts.{datagrams_counts};
 
-    /// A socket over one that is bound.
-    pub(crate) fn new(socket: G, voice: Voice<C, P>) -> WaitingDatagrams<G, C, P>
+    /// A socket over one that is bound, for so many milliseconds.
+    pub(crate) fn new(socket: G, voice: Voice<C, P>, left_ms: u64) -> WaitingDatagrams<G, C, P>
         ensures { datagrams_counts result ≡ no_counts }
     {
         WaitingDatagrams {
             socket,
             notice: Notice::new(voice),
+            end: End::after(voice.clock, left_ms),
             counts: Counts::new(),
         }
     }
@@ -66,7 +69,11 @@ impl<G: Datagrams + Drop, C: time::Clock + Copy + Drop, P: Print + Copy + Drop> 
     }
 
     fn recv_from(&mut self, buf: &mut [u8]) -> Result<Option<(usize, SocketAddr)>, IoKind> {
-        let result = self.socket.recv_from(buf);
+        let result = if self.end.left_ms() > 0 {
+            self.socket.recv_from(buf)
+        } else {
+            Ok(None)
+        };
         if matches!(result, Ok(None)) {
             self.notice.look(0);
         }

@@ -3,9 +3,10 @@ ghost use Rattle.std.specs.Prelude.{◌≡◌, IfOk};
 ghost use Rattle.dns_link.specs.Counts.{no_counts};
 ghost use Rattle.dns_query_waits.specs.WaitCounts.{datagrams_counts, link_counts};
 
+use crate::end::End;
 use crate::notice::{SPOKEN_OF_MS, Voice};
 use crate::waiting_datagrams::WaitingDatagrams;
-use crate::waiting_link::WaitingLink;
+use crate::waiting_link::{Turns, WaitingLink};
 use dns_handle::IoKind;
 use dns_link::{Counts, Dialer};
 use std::alloc::Global;
@@ -13,12 +14,14 @@ use std::io::Print;
 use std::net::SocketAddr;
 use std::time;
 
-/// A dialer over another. Where it speaks, connecting and each read of a link are tried for a second at a time, and after the first
-/// second it is said who is awaited.
+/// A dialer over another. Connecting is tried for a second, and then for what is left of its time; each read of a link waits for a second at a
+/// time. Where the dialer speaks it is said after the first second who is awaited. Once its own time is over no link is made, and nothing is
+/// awaited any more.
 #[derive(Drop)]
 pub struct WaitingDialer<D: Drop, C: Drop, P: Drop> {
     dial: D,
     voice: Voice<C, P>,
+    end: End<C>,
     counts: Counts,
 }
 
@@ -29,8 +32,15 @@ impl<D: Dialer + Drop, C: time::Clock + Copy + Drop, P: Print + Copy + Drop> Wai
 > {
     ghost use Rattle.dns_query_waits.specs.WaitCounts.{dialer_counts};
 
-    /// A dialer over another, which speaks to a printer or is silent; time is told by a clock.
-    pub fn new(alloc: Global, dial: D, speaks: bool, clock: C, printer: P) -> WaitingDialer<D, C, P>
+    /// A dialer over another, which speaks to a printer or is silent. Time is told by a clock, and is over after so many milliseconds.
+    pub fn new(
+        alloc: Global,
+        dial: D,
+        limit_ms: u64,
+        speaks: bool,
+        clock: C,
+        printer: P,
+    ) -> WaitingDialer<D, C, P>
         ensures { dialer_counts result ≡ no_counts }
     {
         WaitingDialer {
@@ -41,71 +51,74 @@ impl<D: Dialer + Drop, C: time::Clock + Copy + Drop, P: Print + Copy + Drop> Wai
                 clock,
                 printer,
             },
+            end: End::after(clock, limit_ms),
             counts: Counts::new(),
         }
     }
 }
 
-// How many turns a wait of so many milliseconds has: at least one.
-fn turns_of(speaks: bool, timeout_ms: u64) -> u64 {
-    if speaks {
-        (timeout_ms / SPOKEN_OF_MS).max(1)
-    } else {
-        1
+// Says who doesn't take a connection, where it speaks.
+fn say_unconnected<C, P: Print>(voice: &Voice<C, P>, peer: SocketAddr) {
+    if voice.speaks {
+        let _ = voice.printer.println(format_args!(
+            "dns_query: waiting for a connection to {peer}"
+        ));
     }
 }
 
-// Says who doesn't take a connection.
-fn say_unconnected<P: Print>(printer: &P, peer: SocketAddr) {
-    let _ = printer.println(format_args!("dns_query: waits for a connection to {peer}"));
-}
-
-// Connects in so many turns, each of so many milliseconds, and says after the first whom it waits for.
-fn connect_in_turns<D: Dialer, P: Print>(
+// Connects for a second, and then for the rest of so many milliseconds. It answers how long each read of the link waits.
+fn connect_in_turns<D: Dialer, C, P: Print>(
     dial: &mut D,
+    voice: &Voice<C, P>,
     peer: SocketAddr,
     bind: Option<SocketAddr>,
-    turn_ms: u64,
-    turns: u64,
-    printer: &P,
-) -> Result<D::Link, IoKind> {
-    for turn in 1..turns {
-        match dial.connect(peer, bind, turn_ms) {
-            Ok(link) => return Ok(link),
-            Err(IoKind::TimedOut) if turn == 1 => say_unconnected(printer, peer),
-            Err(IoKind::TimedOut) => (),
-            Err(kind) => return Err(kind),
+    wait_ms: u64,
+) -> Result<(D::Link, u64), IoKind> {
+    let first_ms = wait_ms.min(SPOKEN_OF_MS);
+    match dial.connect(peer, bind, first_ms) {
+        Ok(link) => Ok((link, first_ms)),
+        Err(IoKind::TimedOut) if first_ms < wait_ms => {
+            say_unconnected(voice, peer);
+            let rest_ms = wait_ms - first_ms;
+            let link = dial.connect(peer, bind, rest_ms)?;
+            Ok((link, rest_ms))
         }
+        Err(kind) => Err(kind),
     }
-    dial.connect(peer, bind, turn_ms)
 }
 
-// Makes a link, in turns where it speaks.
+// Makes a link, while there is time left.
 fn open_link<D: Dialer + Drop, C: time::Clock + Copy + Drop, P: Print + Copy + Drop>(
     dial: &mut D,
     voice: Voice<C, P>,
+    end: &mut End<C>,
     peer: SocketAddr,
     bind: Option<SocketAddr>,
     timeout_ms: u64,
 ) -> Result<WaitingLink<D::Link, C, P>, IoKind>
     ensures { IfOk result (λ link. link_counts link ≡ no_counts) }
 {
-    let turns = turns_of(voice.speaks, timeout_ms);
-    let turn_ms = if turns == 1 { timeout_ms } else { SPOKEN_OF_MS };
-    let link = connect_in_turns(dial, peer, bind, turn_ms, turns, &voice.printer)?;
-    Ok(WaitingLink::new(link, peer, turns, voice))
+    let wait_ms = timeout_ms.min(end.left_ms());
+    if wait_ms == 0 {
+        return Err(IoKind::TimedOut);
+    }
+    let (link, each_ms) = connect_in_turns(dial, &voice, peer, bind, wait_ms)?;
+    let count = (timeout_ms / each_ms.max(1)).max(1);
+    let turns = Turns { count, each_ms };
+    Ok(WaitingLink::new(link, peer, turns, voice, end.left_ms()))
 }
 
 // Makes a socket.
 fn open_datagrams<D: Dialer + Drop, C: time::Clock + Copy + Drop, P: Print + Copy + Drop>(
     dial: &mut D,
     voice: Voice<C, P>,
+    end: &mut End<C>,
     local: SocketAddr,
 ) -> Result<WaitingDatagrams<D::Datagrams, C, P>, IoKind>
     ensures { IfOk result (λ socket. datagrams_counts socket ≡ no_counts) }
 {
     let socket = dial.bind(local)?;
-    Ok(WaitingDatagrams::new(socket, voice))
+    Ok(WaitingDatagrams::new(socket, voice, end.left_ms()))
 }
 
 impl<D: Dialer + Drop, C: time::Clock + Copy + Drop, P: Print + Copy + Drop> Dialer
@@ -129,13 +142,20 @@ impl<D: Dialer + Drop, C: time::Clock + Copy + Drop, P: Print + Copy + Drop> Dia
         bind: Option<SocketAddr>,
         timeout_ms: u64,
     ) -> Result<WaitingLink<D::Link, C, P>, IoKind> {
-        let result = open_link(&mut self.dial, self.voice, peer, bind, timeout_ms);
+        let result = open_link(
+            &mut self.dial,
+            self.voice,
+            &mut self.end,
+            peer,
+            bind,
+            timeout_ms,
+        );
         self.counts.count_dial(&result);
         result
     }
 
     fn bind(&mut self, local: SocketAddr) -> Result<WaitingDatagrams<D::Datagrams, C, P>, IoKind> {
-        let result = open_datagrams(&mut self.dial, self.voice, local);
+        let result = open_datagrams(&mut self.dial, self.voice, &mut self.end, local);
         self.counts.count_dial(&result);
         result
     }

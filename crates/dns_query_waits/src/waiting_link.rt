@@ -3,6 +3,7 @@ ghost use Rattle.std.specs.Prelude.{◌≡◌};
 ghost use Rattle.std.specs.Io.{ReadsAtMost};
 ghost use Rattle.dns_link.specs.Counts.{no_counts};
 
+use crate::end::End;
 use crate::notice::{Notice, Voice};
 use dns_handle::IoKind;
 use dns_link::{Counts, Link};
@@ -13,26 +14,35 @@ use std::time;
 /// Behind so many bytes a message of a stream begins (RFC 1035, 4.2.2).
 const LENGTH_BYTES: usize = 2;
 
-/// A link over another that carries one request. It reads in so many turns at most, of which each may time out but the last. It tells
-/// nothing of the bytes.
+/// How often a read is tried, at least once, and for how many milliseconds each time.
+#[derive(Clone, Copy)]
+pub(crate) struct Turns {
+    pub(crate) count: u64,
+    pub(crate) each_ms: u64,
+}
+
+/// A link over another that carries one request. It reads in so many turns at most, of which each may time out but the last, and begins none
+/// that might end later than the time. It tells nothing of the bytes.
 #[derive(Drop)]
 pub struct WaitingLink<L: Drop, C: Drop, P: Drop> {
     link: L,
     peer: SocketAddr,
-    turns: u64,
+    turns: Turns,
     notice: Notice<C, P>,
+    end: End<C>,
     counts: Counts,
 }
 
 impl<L: Link + Drop, C: time::Clock + Copy + Drop, P: Print + Copy + Drop> WaitingLink<L, C, P> {
     ghost use Rattle.dns_query_waits.specs.WaitCounts.{link_counts};
 
-    /// A link over one that is connected to a peer.
+    /// A link over one that is connected to a peer, for so many milliseconds.
     pub(crate) fn new(
         link: L,
         peer: SocketAddr,
-        turns: u64,
+        turns: Turns,
         voice: Voice<C, P>,
+        left_ms: u64,
     ) -> WaitingLink<L, C, P>
         ensures { link_counts result ≡ no_counts }
     {
@@ -41,6 +51,7 @@ impl<L: Link + Drop, C: time::Clock + Copy + Drop, P: Print + Copy + Drop> Waiti
             peer,
             turns,
             notice: Notice::new(voice),
+            end: End::after(voice.clock, left_ms),
             counts: Counts::new(),
         }
     }
@@ -58,23 +69,39 @@ impl<L: Link + Drop, C: time::Clock + Copy + Drop, P: Print + Copy + Drop> Waiti
     }
 }
 
-// Reads once in so many turns, and says between them whom it waits for.
-fn read_in_turns<L: Link, C: time::Clock + Copy + Drop, P: Print + Copy + Drop>(
+// Reads once, unless that might end later than the time.
+fn read_in_time<L: Link, C: time::Clock + Drop>(
     link: &mut L,
-    notice: &mut Notice<C, P>,
-    turns: u64,
+    end: &mut End<C>,
+    turn_ms: u64,
     buf: &mut [u8],
 ) -> Result<usize, IoKind>
     ensures { ReadsAtMost result buf.new }
 {
-    for _ in 1..turns {
-        match link.read(buf) {
+    if end.left_ms() < turn_ms {
+        return Err(IoKind::TimedOut);
+    }
+    link.read(buf)
+}
+
+// Reads once in so many turns, and says between them whom it waits for.
+fn read_in_turns<L: Link, C: time::Clock + Copy + Drop, P: Print + Copy + Drop>(
+    link: &mut L,
+    notice: &mut Notice<C, P>,
+    end: &mut End<C>,
+    turns: Turns,
+    buf: &mut [u8],
+) -> Result<usize, IoKind>
+    ensures { ReadsAtMost result buf.new }
+{
+    for _ in 1..turns.count {
+        match read_in_time(link, end, turns.each_ms, buf) {
             Ok(count) => return Ok(count),
             Err(IoKind::TimedOut) => notice.look(LENGTH_BYTES),
             Err(kind) => return Err(kind),
         }
     }
-    link.read(buf)
+    read_in_time(link, end, turns.each_ms, buf)
 }
 
 impl<L: Link + Drop, C: time::Clock + Copy + Drop, P: Print + Copy + Drop> Link
@@ -91,7 +118,13 @@ impl<L: Link + Drop, C: time::Clock + Copy + Drop, P: Print + Copy + Drop> Link
     ghost taken = { λ _. None };
 
     fn read(&mut self, buf: &mut [u8]) -> Result<usize, IoKind> {
-        let result = read_in_turns(&mut self.link, &mut self.notice, self.turns, buf);
+        let result = read_in_turns(
+            &mut self.link,
+            &mut self.notice,
+            &mut self.end,
+            self.turns,
+            buf,
+        );
         self.counts.count_read(buf.len(), &result);
         result
     }
