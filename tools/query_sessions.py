@@ -119,9 +119,11 @@ def written(out):
 
 
 def is_as_asked(asked, ended):
-    """Whether the program ended so: the records with their marks, the status, and a sentence where that isn't 0."""
-    status, out, _ = ended
+    """Whether the program ended so: the records with their marks, the status, and a sentence where that isn't 0; where there is no answer it is an error."""
+    status, out, err = ended
     records, sentences = written(out)
     same = len(records) == len(asked.records) and all(text == wanted and (mark == told or told is None)
                                                       for (mark, text), (told, wanted) in zip(records, asked.records))
-    return status == asked.status and same and (status == SECURE or bool(sentences))
+    if asked.status == NO_ANSWER:
+        return status == NO_ANSWER and out == "" and err.startswith("dns_query: no answer: ")
+    return status == asked.status and same and err == "" and (status == SECURE or bool(sentences))

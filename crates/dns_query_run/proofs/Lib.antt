@@ -2,4 +2,4 @@ pub mod TextLemmas
 pub mod SavingLemmas
 pub mod ShownLemmas
 pub mod SessionLemmas
-pub mod ProgramLemmas
+pub mod SinkLemmas

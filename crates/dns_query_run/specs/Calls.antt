@@ -1,13 +1,12 @@
--- What a call of the program comes to: by its words, then by its files, then by what the network answers (RFC 4035, 4.3 and 5).
+-- What a call of the program comes to: by its arguments, then by its files, then by what the network answers (RFC 4035, 4.3 and 5).
 use Rattle.std.specs.Prelude.{ℕ, ◌≡◌, ◌*◌, [], not, is_some, unwrap_or, Bool, List, Option, Result, Ok, Err}
-use Rattle.std.specs.Io.KnownBytes.{Appends}
 use Rattle.std.specs.declared.net.socket_addr.SocketAddr.{SocketAddr}
 use Rattle.dns_handle.specs.Requests.{plain_options}
 use Rattle.dns_master_file.specs.Reading.{LineValue}
 use Rattle.dns_anchor_keys.specs.declared.fault.AnchorsFault.{AnchorsFault}
 use Rattle.dns_query_files.specs.AnchorFiles.{anchors_in}
 use Rattle.dns_query_words.specs.Arguments.{ArgumentsValue}
-use Rattle.dns_model.specs.Counts.{Rose}
+use Rattle.dns_query_words.specs.Reading.{form_in}
 use Rattle.dns_query_words.specs.declared.options.Switches.{Switches}
 use Rattle.dns_query_words.specs.declared.arguments.Form.{Form}
 use Rattle.dns_query_words.specs.declared.arguments.Form.TheVariants as form
@@ -17,17 +16,19 @@ use Rattle.dns_query_lookup.specs.CallValues.{CallValue}
 use Rattle.dns_query_lookup.specs.LookedValues.{LookedValue}
 use Rattle.dns_query_lookup.specs.Servers.{AsksServer, Meanings}
 use Rattle.dns_query_lookup.specs.declared.servers.Outside.{Outside}
-use Rattle.dns_query_run.specs.Answers.{IsSilent, IsTold}
+use Rattle.dns_query_run.specs.Answers.{IsTold}
+use Rattle.dns_query_run.specs.Complaints.{arguments_complaint, complaint, server_words}
 use Rattle.dns_query_run.specs.Files.{HasNoAnchors, HasNoServer, IsServerFor, IsUnread, anchors_text, status_without}
 use Rattle.dns_query_run.specs.FixedTexts.{help_text, version_text}
+use Rattle.dns_query_run.specs.Told.{IsSilent, ToldValue}
 use Rattle.dns_query_run.specs.declared.files.AnchorsStop.{AnchorsStop}
 use Rattle.dns_query_run.specs.declared.files.ServerStop.{ServerStop}
 
--- how deep a lookup may ask, where no word says it
+-- how deep a lookup may ask, where no argument says it
 abbrev pub depth_of : Option ℕ → ℕ
 depth_of depth = unwrap_or depth plain_options.max_request_depth
 
--- the question of some words, with these trust anchors, at a moment
+-- the question of some arguments, with these trust anchors, at a moment
 abbrev pub call_of : ArgumentsValue → List LineValue → ℕ → CallValue
 call_of arguments lines moment = record {
   query = arguments.query;
@@ -40,59 +41,54 @@ call_of arguments lines moment = record {
 
 -- a server is asked, and what that came to is told, and saved where a file is named
 pub record TellsCall {D E T : Type 0} (meanings : Meanings D E T) (switches : Switches) (keeps : Bool) (call : CallValue)
-    (outside : Outside D E T) (server : SocketAddr) (seed status : ℕ) (text saved : List ℕ) : Type 0 where
+    (outside : Outside D E T) (server : SocketAddr) (seed : ℕ) (told : ToldValue) : Type 0 where
   pub ended : Result LookedValue AnchorsFault
   pub asks : AsksServer meanings call outside server seed ended switches.tcp
-  pub told : IsTold switches keeps call ended status text saved
+  pub is_told : IsTold switches keeps call ended told
 
--- the server that the words or the system name is asked, with the trust anchors that the file says, or the root's. Ids and ports are
+-- the server that the arguments or the system name is asked, with the trust anchors that the file says, or the root's. Ids and ports are
 -- drawn from the seed, or from the moment where there is none
 pub record TellsServer {D E T : Type 0} (meanings : Meanings D E T) (arguments : ArgumentsValue) (anchors resolver : Option (List ℕ))
-    (outside : Outside D E T) (seed : Option ℕ) (status : ℕ) (text saved : List ℕ) : Type 0 where
+    (outside : Outside D E T) (seed : Option ℕ) (told : ToldValue) : Type 0 where
   pub server : SocketAddr
   pub is_server : IsServerFor arguments.server resolver server
   pub lines : List LineValue
   pub trusts : anchors_in (anchors_text anchors) ≡ Ok lines
   pub moment : ℕ
   pub tells : TellsCall meanings arguments.switches (is_some arguments.save) (call_of arguments lines moment) outside server
-      (unwrap_or seed moment) status text saved
+      (unwrap_or seed moment) told
 
--- what a question comes to: nothing is asked, for one of these causes; or a server is asked
+-- what a question comes to: nothing is asked, for one of these causes, which is said; or a server is asked
 pub data TellsQuestion {D E T : Type 0} (meanings : Meanings D E T) (arguments : ArgumentsValue) (anchors resolver : Option (List ℕ))
-    (outside : Outside D E T) (seed : Option ℕ) (status : ℕ) (text saved : List ℕ) : Type 0 where
-  Unnamed : (stop : ServerStop) → HasNoServer stop arguments.server resolver → IsSilent (status_without stop) status text saved
-      → TellsQuestion meanings arguments anchors resolver outside seed status text saved
-  Untrusting : (stop : AnchorsStop) → HasNoAnchors stop (anchors_text anchors) → IsUnread stop status text saved
-      → TellsQuestion meanings arguments anchors resolver outside seed status text saved
-  Asked : TellsServer meanings arguments anchors resolver outside seed status text saved
-      → TellsQuestion meanings arguments anchors resolver outside seed status text saved
+    (outside : Outside D E T) (seed : Option ℕ) (told : ToldValue) : Type 0 where
+  Unnamed : (stop : ServerStop) → HasNoServer stop arguments.server resolver
+      → IsSilent (status_without stop) (complaint (server_words stop)) told
+      → TellsQuestion meanings arguments anchors resolver outside seed told
+  Untrusting : (stop : AnchorsStop) → HasNoAnchors stop (anchors_text anchors) → IsUnread stop told
+      → TellsQuestion meanings arguments anchors resolver outside seed told
+  Asked : TellsServer meanings arguments anchors resolver outside seed told
+      → TellsQuestion meanings arguments anchors resolver outside seed told
 
 -- a fixed text with status 0
-pub record IsFixed (expected : List ℕ) (status : ℕ) (text saved : List ℕ) : Type 0 where
-  pub ends : status ≡ 0
-  pub tells : text ≡ expected
-  pub unsaved : saved ≡ []
+pub record IsFixed (expected : List ℕ) (told : ToldValue) : Type 0 where
+  pub ends : told.status ≡ 0
+  pub tells : told.text ≡ expected
+  pub unsaved : told.saved ≡ []
+  pub quiet : told.complaint ≡ []
 
--- what words come to
-abbrev pub TellsWords : {D E T : Type 0} → Meanings D E T → Result Form WordsError → Option (List ℕ) → Option (List ℕ) → Outside D E T
-    → Option ℕ → ℕ → List ℕ → List ℕ → Type 0
-TellsWords meanings (Ok (form.Ask arguments)) anchors resolver outside seed status text saved =
-    TellsQuestion meanings arguments anchors resolver outside seed status text saved
-TellsWords meanings (Ok form.Help) anchors resolver outside seed status text saved = IsFixed help_text status text saved
-TellsWords meanings (Ok form.Version) anchors resolver outside seed status text saved = IsFixed version_text status text saved
-TellsWords meanings (Err (words.Refused reason place)) anchors resolver outside seed status text saved = IsSilent 2 status text saved
-TellsWords meanings (Err words.NoMemory) anchors resolver outside seed status text saved = ⊥
+-- what arguments come to that ask for this
+abbrev pub TellsForm : {D E T : Type 0} → Meanings D E T → List (List ℕ) → Result Form WordsError → Option (List ℕ) → Option (List ℕ)
+    → Outside D E T → Option ℕ → ToldValue → Type 0
+TellsForm meanings given (Ok (form.Ask arguments)) anchors resolver outside seed told =
+    TellsQuestion meanings arguments anchors resolver outside seed told
+TellsForm meanings given (Ok form.Help) anchors resolver outside seed told = IsFixed help_text told
+TellsForm meanings given (Ok form.Version) anchors resolver outside seed told = IsFixed version_text told
+TellsForm meanings given (Err (words.Refused reason place)) anchors resolver outside seed told =
+    IsSilent 2 (arguments_complaint given reason place) told
+TellsForm meanings given (Err words.NoMemory) anchors resolver outside seed told = ⊥
 
--- a text and what is saved, of which a fact holds, were written, each to its own place
-pub record WroteBoth (before now saved_before saved_now : Option (List ℕ)) (Fact : List ℕ → List ℕ → Type 0) : Type 0 where
-  pub text : List ℕ
-  pub saved : List ℕ
-  pub fact : Fact text saved
-  pub written : Appends before now text
-  pub kept : Appends saved_before saved_now saved
-
--- why a run ends with 5: a write of one of both failed, or the words come to that status, since there is no session
-pub data Failed (faults risen saved_faults saved_risen : ℕ) (Fact : List ℕ → List ℕ → Type 0) : Type 0 where
-  Unwritten : Rose faults risen → Failed faults risen saved_faults saved_risen Fact
-  Unsaved : Rose saved_faults saved_risen → Failed faults risen saved_faults saved_risen Fact
-  Lost : (text saved : List ℕ) → Fact text saved → Failed faults risen saved_faults saved_risen Fact
+-- what arguments come to
+abbrev pub TellsArguments : {D E T : Type 0} → Meanings D E T → List (List ℕ) → Option (List ℕ) → Option (List ℕ) → Outside D E T
+    → Option ℕ → ToldValue → Type 0
+TellsArguments meanings given anchors resolver outside seed told =
+    TellsForm meanings given (form_in given) anchors resolver outside seed told

@@ -8,7 +8,8 @@ use Rattle.dns_query_files.specs.ResolverFiles.{IsFirstServer}
 use Rattle.dns_query_files.specs.RootKeys.{root_keys_text}
 use Rattle.dns_query_files.specs.TextLines.{lines_of}
 use Rattle.dns_query_words.specs.Servers.{IsServer}
-use Rattle.dns_query_run.specs.Answers.{IsSilent}
+use Rattle.dns_query_run.specs.Complaints.{anchors_words, complaint}
+use Rattle.dns_query_run.specs.Told.{IsSilent, ToldValue}
 use Rattle.dns_query_run.specs.declared.files.AnchorsStop.{AnchorsStop}
 use Rattle.dns_query_run.specs.declared.files.AnchorsStop.TheVariants.{TooLong, Bad}
 use Rattle.dns_query_run.specs.declared.files.ServerStop.{ServerStop}
@@ -28,7 +29,7 @@ HasNoServer NoServer (Some text) resolver = ⊥
 HasNoServer NoServer None (Some lines) = IsFirstServer (lines_of lines) None
 HasNoServer NoServer None None = Unit {0}
 
--- the words are to blame, or the system
+-- the arguments are to blame, or the system
 abbrev pub status_without : ServerStop → ℕ
 status_without NoAddress = 2
 status_without NoServer = 4
@@ -38,11 +39,10 @@ abbrev pub HasNoAnchors : AnchorsStop → List ℕ → Type 0
 HasNoAnchors TooLong text = input_limit < length text
 HasNoAnchors (Bad error) text = (error ≡ NoMemory) ⊎ (anchors_in text ≡ Err error)
 
--- nothing is told then, unless memory ran out
-abbrev pub IsUnread : AnchorsStop → ℕ → List ℕ → List ℕ → Type 0
-IsUnread TooLong status text saved = IsSilent 4 status text saved
-IsUnread (Bad NoMemory) status text saved = ⊥
-IsUnread (Bad error) status text saved = IsSilent 4 status text saved
+-- that is said then, unless memory ran out
+abbrev pub IsUnread : AnchorsStop → ToldValue → Type 0
+IsUnread (Bad NoMemory) told = ⊥
+IsUnread stop told = IsSilent 4 (complaint (anchors_words stop)) told
 
 -- trust anchors from a text, or the root's that stand in the program
 abbrev pub anchors_text : Option (List ℕ) → List ℕ

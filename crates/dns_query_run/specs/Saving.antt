@@ -13,6 +13,7 @@ use Rattle.dns_saved_lookup.specs.declared.save_error.SaveError.{SaveError}
 use Rattle.dns_query_handle.specs.Notes.{NoteValue}
 use Rattle.dns_query_lookup.specs.CallValues.{CallValue}
 use Rattle.dns_query_lookup.specs.LookedValues.{LookedValue}
+use Rattle.dns_query_run.specs.Complaints.{unsaved_complaint}
 
 -- the algorithms whose signatures the program computes, by their numbers in the registry
 abbrev pub computed_algorithms : List ℕ
@@ -61,10 +62,11 @@ pub data HasNoSession (call : CallValue) (looked : LookedValue) (why : SaveError
   Refused : (replies : List SavedReplyValue) → AreSavedOf looked.notes replies
       → IsUnsaved (arithmetic_answers all_used) (lookup_of call looked replies) why → HasNoSession call looked why
 
--- what a call leaves behind that would end with a status: nothing, where no file is named; the session; or nothing and the status 5
--- where there is none
-pub data Keeps (keeps : Bool) (call : CallValue) (looked : LookedValue) (expected status : ℕ) (saved : List ℕ) : Type 0 where
-  Unasked : keeps ≡ false → status ≡ expected → saved ≡ [] → Keeps keeps call looked expected status saved
-  Kept : keeps ≡ true → status ≡ expected → IsSessionOf call looked saved → Keeps keeps call looked expected status saved
-  Lost : (why : SaveError) → keeps ≡ true → HasNoSession call looked why → status ≡ 5 → saved ≡ []
-      → Keeps keeps call looked expected status saved
+-- what a call leaves behind that would end with a status, and what is said of that: nothing, where no file is named; the session; or where
+-- there is none nothing, the status 5, and why
+pub data Keeps (keeps : Bool) (call : CallValue) (looked : LookedValue) (expected status : ℕ) (saved lost : List ℕ) : Type 0 where
+  Unasked : keeps ≡ false → status ≡ expected → saved ≡ [] → lost ≡ [] → Keeps keeps call looked expected status saved lost
+  Kept : keeps ≡ true → status ≡ expected → IsSessionOf call looked saved → lost ≡ []
+      → Keeps keeps call looked expected status saved lost
+  Lost : (why : SaveError) → keeps ≡ true → HasNoSession call looked why → status ≡ 5 → saved ≡ [] → lost ≡ unsaved_complaint why
+      → Keeps keeps call looked expected status saved lost

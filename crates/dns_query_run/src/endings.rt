@@ -1,15 +1,16 @@
-//! What words come to.
-ghost use Rattle.std.specs.Prelude.{◌≡◌, is_some, map, IfOk};
+//! What arguments come to.
+ghost use Rattle.std.specs.Prelude.{◌≡◌, ◌≤◌, is_some, map, IfOk};
 ghost use Rattle.std.specs.Option.{option_copied};
 ghost use Rattle.dns_query_lookup.specs.Servers.{meanings_over};
-ghost use Rattle.dns_query_words.specs.Reading.{form_in};
-ghost use Rattle.dns_query_run.specs.Calls.{IsFixed, TellsCall, TellsQuestion, TellsWords, call_of, depth_of};
+ghost use Rattle.dns_query_run.specs.Calls.{IsFixed, TellsArguments, TellsCall, TellsQuestion, call_of, depth_of};
+ghost use Rattle.dns_query_run.specs.Complaints.{complaint, server_words};
 ghost use Rattle.dns_query_run.specs.Files.{IsUnread, status_without};
-ghost use Rattle.dns_query_run.specs.Answers.{IsSilent};
+ghost use Rattle.dns_query_run.specs.Told.{IsSilent, told_of};
 
-use crate::complaints::{BAD_WORDS, NO_ANSWER, anchors_told, complaint_of, words_told};
+use crate::complaints::{BAD_ARGUMENTS, NO_ANSWER, anchors_told, complaint_of};
 use crate::files::{AnchorsStop, FileTexts, ServerStop, anchor_lines, server_for};
 use crate::fixed_texts::{help_text, version_text};
+use crate::refused::arguments_told;
 use crate::telling::ended_told;
 use crate::told::Told;
 use dns_handle::{DnsHandle, DnsRequestOptions};
@@ -29,7 +30,8 @@ use std::net::SocketAddr;
 
 // A fixed text, with status 0.
 fn fixed_told(alloc: Global, text: &[u8]) -> Result<Told, NoMemory>
-    ensures { IfOk result (λ told. IsFixed text.now told.status told.text.items told.saved.items) }
+    ensures tells { IfOk result (λ told. IsFixed text.now (told_of told)) }
+    ensures most { IfOk result (λ told. told.status ≤ 5) }
 {
     let mut copy = Vec::new(alloc);
     copy.extend_from_slice(text)?;
@@ -41,7 +43,7 @@ fn fixed_told(alloc: Global, text: &[u8]) -> Result<Told, NoMemory>
     })
 }
 
-// Whether words name a file for the session.
+// Whether the arguments name a file for the session.
 fn names_file(arguments: &Arguments<'_>) -> bool
     ensures { result ≡ is_some arguments.now.save }
 {
@@ -50,31 +52,33 @@ fn names_file(arguments: &Arguments<'_>) -> bool
 
 // Nobody is asked: nothing says whom.
 fn server_told(alloc: Global, stop: ServerStop) -> Result<Told, NoMemory>
-    ensures { IfOk result (λ told. IsSilent (status_without stop) told.status told.text.items told.saved.items) }
+    ensures tells { IfOk result (λ told. IsSilent (status_without stop) (complaint (server_words stop)) (told_of told)) }
+    ensures most { IfOk result (λ told. told.status ≤ 5) }
 {
     match stop {
         ServerStop::NoAddress => complaint_of(
             alloc,
-            BAD_WORDS,
-            "no address of a server stands behind @",
+            BAD_ARGUMENTS,
+            b"the server behind @ must be an IP address, or an address and a port",
         ),
         ServerStop::NoServer => complaint_of(
             alloc,
             NO_ANSWER,
-            "no server is named, and /etc/resolv.conf names none",
+            b"no server is given, and /etc/resolv.conf names none",
         ),
     }
 }
 
 // Nobody is asked: the trust anchors can't be used.
 fn lines_told(alloc: Global, stop: AnchorsStop) -> Result<Told, NoMemory>
-    ensures { IfOk result (λ told. IsUnread stop told.status told.text.items told.saved.items) }
+    ensures tells { IfOk result (λ told. IsUnread stop (told_of told)) }
+    ensures most { IfOk result (λ told. told.status ≤ 5) }
 {
     match stop {
         AnchorsStop::TooLong => complaint_of(
             alloc,
             NO_ANSWER,
-            "the file of trust anchors has more than 16777216 bytes",
+            b"the file of trust anchors has more than 16777216 bytes",
         ),
         AnchorsStop::Bad(error) => anchors_told(alloc, error),
     }
@@ -90,7 +94,7 @@ fn depth_of(depth: Option<u8>) -> u16
     }
 }
 
-// The question of some words, with these trust anchors, at a moment.
+// The question of some arguments, with these trust anchors, at a moment.
 fn call_of<'a>(arguments: &'a Arguments<'_>, lines: &'a [RecordLine], moment: u64) -> Call<'a>
     ensures { result ≡ call_of arguments.now lines.now moment }
 {
@@ -114,11 +118,12 @@ fn call_told<D: Dialer + Drop, E: Dialer + Drop, T: Stopwatch + Drop>(
     keeps: bool,
     seed: u64,
 ) -> Result<Told, NoMemory>
-    ensures { IfOk result (λ told. TellsCall
+    ensures tells { IfOk result (λ told. TellsCall
         (meanings_over
         ⟦<NotingHandle<DeadlineHandle<CheckingHandle<FallbackHandle<UdpExchange<D, RandDraws>, ConnectingHandle<E, RandDraws>>>, T>, T> as DnsHandle>⟧
         ⟦<NotingHandle<DeadlineHandle<CheckingHandle<ConnectingHandle<E, RandDraws>>, T>, T> as DnsHandle>⟧)
-        switches keeps call.now outside server seed told.status told.text.items told.saved.items) }
+        switches keeps call.now outside server seed (told_of told)) }
+    ensures most { IfOk result (λ told. told.status ≤ 5) }
 {
     let ended = ask_server(alloc, outside, server, switches.tcp, seed, call);
     ended_told(alloc, switches, keeps, call, ended)
@@ -133,11 +138,12 @@ fn question_told<D: Dialer + Drop, E: Dialer + Drop, T: Stopwatch + Drop, K: Clo
     seed: Option<u64>,
     clock: &mut K,
 ) -> Result<Told, NoMemory>
-    ensures { IfOk result (λ told. TellsQuestion
+    ensures tells { IfOk result (λ told. TellsQuestion
         (meanings_over
         ⟦<NotingHandle<DeadlineHandle<CheckingHandle<FallbackHandle<UdpExchange<D, RandDraws>, ConnectingHandle<E, RandDraws>>>, T>, T> as DnsHandle>⟧
         ⟦<NotingHandle<DeadlineHandle<CheckingHandle<ConnectingHandle<E, RandDraws>>, T>, T> as DnsHandle>⟧)
-        arguments.now (option_copied files.entry.anchors) (option_copied files.entry.resolver) outside seed told.status told.text.items told.saved.items) }
+        arguments.now (option_copied files.entry.anchors) (option_copied files.entry.resolver) outside seed (told_of told)) }
+    ensures most { IfOk result (λ told. told.status ≤ 5) }
 {
     let server = match server_for(arguments.server, files.resolver) {
         Ok(server) => server,
@@ -161,27 +167,28 @@ fn question_told<D: Dialer + Drop, E: Dialer + Drop, T: Stopwatch + Drop, K: Clo
     )
 }
 
-/// What words come to, before anything is written.
-pub(crate) fn words_ending<D: Dialer + Drop, E: Dialer + Drop, T: Stopwatch + Drop, K: Clock>(
+/// What arguments come to, before anything is written.
+pub(crate) fn arguments_ending<D: Dialer + Drop, E: Dialer + Drop, T: Stopwatch + Drop, K: Clock>(
     alloc: Global,
-    words: &[Vec<u8>],
+    given: &[Vec<u8>],
     files: FileTexts<'_>,
     outside: Outside<D, E, T>,
     seed: Option<u64>,
     clock: &mut K,
 ) -> Result<Told, NoMemory>
-    ensures { IfOk result (λ told. TellsWords
+    ensures tells { IfOk result (λ told. TellsArguments
         (meanings_over
         ⟦<NotingHandle<DeadlineHandle<CheckingHandle<FallbackHandle<UdpExchange<D, RandDraws>, ConnectingHandle<E, RandDraws>>>, T>, T> as DnsHandle>⟧
         ⟦<NotingHandle<DeadlineHandle<CheckingHandle<ConnectingHandle<E, RandDraws>>, T>, T> as DnsHandle>⟧)
-        (form_in (map (λ w. w.items) words.now)) (option_copied files.entry.anchors) (option_copied files.entry.resolver) outside seed
-        told.status told.text.items told.saved.items) }
+        (map (λ w. w.items) given.now) (option_copied files.entry.anchors) (option_copied files.entry.resolver) outside seed
+        (told_of told)) }
+    ensures most { IfOk result (λ told. told.status ≤ 5) }
 {
-    match read_words(alloc, words) {
+    match read_words(alloc, given) {
         Ok(Form::Ask(arguments)) => question_told(alloc, &arguments, files, outside, seed, clock),
         Ok(Form::Help) => fixed_told(alloc, help_text()),
         Ok(Form::Version) => fixed_told(alloc, version_text()),
-        Err(WordsError::Refused(refusal, place)) => words_told(alloc, refusal, place),
+        Err(WordsError::Refused(refusal, place)) => arguments_told(alloc, given, refusal, place),
         Err(WordsError::NoMemory) => Err(NoMemory),
     }
 }

@@ -1,11 +1,12 @@
 //! What is told of a lookup.
-ghost use Rattle.std.specs.Prelude.{◌≡◌, ◌++◌, IfOk, OnOk};
+ghost use Rattle.std.specs.Prelude.{◌≡◌, ◌≤◌, ◌++◌, IfOk, OnOk};
 ghost use Rattle.dns_handle.specs.Replies.{reply_of};
-ghost use Rattle.dns_query_run.specs.Answers.{IsTold, TellsLookup, answer_value, call_limits, chain_part, shown_text, told_text, trail_part, written_text};
+ghost use Rattle.dns_query_run.specs.Answers.{IsTold, TellsLookup, answer_part, answer_value, call_limits, chain_part, error_part, is_unanswered, lookup_complaint, shown_text, told_text, trail_part, written_text};
 ghost use Rattle.dns_query_json.specs.AnswerJson.{answer_json};
 ghost use Rattle.dns_query_run.specs.Saving.{Keeps};
+ghost use Rattle.dns_query_run.specs.Told.{told_of};
 
-use crate::complaints::{NO_ANSWER, fault_told, trusted_lines, unsaved_line};
+use crate::complaints::{NO_ANSWER, fault_told, push_keys, unsaved_line};
 use crate::saving::saved_session;
 use crate::told::Told;
 use dns_anchor_keys::AnchorsFault;
@@ -50,7 +51,57 @@ fn told_text(alloc: Global, call: &Call<'_>, looked: &Looked) -> Result<Vec<u8>,
     write_answer(alloc, call.query, call.moment, &causes, &looked.reply)
 }
 
-// Appends the chains of an answer as trees, where words ask for them.
+// Whether an error stands in place of an answer.
+fn is_unanswered(call: &Call<'_>, looked: &Looked) -> bool
+    ensures { result ≡ is_unanswered call.now looked.now }
+{
+    answer_status(call.query, &looked.reply) == NO_ANSWER
+}
+
+// What is written of an answer to the standard output.
+#[tactic(auto, unfolding(crate::specs::Answers::answer_part))]
+fn answer_part(alloc: Global, call: &Call<'_>, looked: &Looked) -> Result<Vec<u8>, NoMemory>
+    ensures { IfOk result (λ v. v.items ≡ answer_part call.now looked.now) }
+{
+    if is_unanswered(call, looked) {
+        Ok(Vec::new(alloc))
+    } else {
+        told_text(alloc, call, looked)
+    }
+}
+
+// Appends a text and another behind it.
+fn push_two(into: &mut Vec<u8>, first: &[u8], second: &[u8]) -> Result<(), NoMemory>
+    ensures { OnOk result (into.new.items ≡ into.old.items ++ (first.now ++ second.now)) }
+{
+    into.extend_from_slice(first)?;
+    into.extend_from_slice(second)?;
+    Ok(())
+}
+
+// Appends why there is no answer, where there is none.
+#[tactic(auto, unfolding(crate::specs::Answers::error_part))]
+fn push_error_part(into: &mut Vec<u8>, call: &Call<'_>, looked: &Looked) -> Result<(), NoMemory>
+    ensures { OnOk result (into.new.items ≡ into.old.items ++ error_part call.now looked.now) }
+{
+    if !is_unanswered(call, looked) {
+        return Ok(());
+    }
+    let text = told_text(*into.allocator(), call, looked)?;
+    push_two(into, b"dns_query: ", &text)
+}
+
+// What is said of what a lookup came to.
+fn lookup_complaint(alloc: Global, call: &Call<'_>, looked: &Looked) -> Result<Vec<u8>, NoMemory>
+    ensures { IfOk result (λ v. v.items ≡ lookup_complaint call.now looked.now) }
+{
+    let mut lines = Vec::new(alloc);
+    push_keys(&mut lines, &looked.anchors, &looked.trusted.keys)?;
+    push_error_part(&mut lines, call, looked)?;
+    Ok(lines)
+}
+
+// Appends the chains of an answer as trees, where the arguments ask for them.
 #[tactic(auto, unfolding(crate::specs::Answers::chain_part))]
 fn push_chain_part(
     into: &mut Vec<u8>,
@@ -68,7 +119,7 @@ fn push_chain_part(
     }
 }
 
-// Appends the queries of a lookup, where words ask for them.
+// Appends the queries of a lookup, where the arguments ask for them.
 #[tactic(auto, unfolding(crate::specs::Answers::trail_part))]
 fn push_trail_part(into: &mut Vec<u8>, shows: bool, notes: &[Note]) -> Result<(), NoMemory>
     ensures { OnOk result (into.new.items ≡ into.old.items ++ trail_part shows notes.now) }
@@ -79,7 +130,7 @@ fn push_trail_part(into: &mut Vec<u8>, shows: bool, notes: &[Note]) -> Result<()
     push_asks(into, notes)
 }
 
-// What is written of what a lookup came to, and behind that what else words ask for.
+// What is written of an answer, and behind that what else the arguments ask for.
 #[tactic(auto, unfolding(crate::specs::Answers::shown_text))]
 fn shown_text(
     alloc: Global,
@@ -89,7 +140,7 @@ fn shown_text(
 ) -> Result<Vec<u8>, NoMemory>
     ensures { IfOk result (λ v. v.items ≡ shown_text switches call.now looked.now) }
 {
-    let mut text = told_text(alloc, call, looked)?;
+    let mut text = answer_part(alloc, call, looked)?;
     push_chain_part(&mut text, switches.chain, &looked.reply)?;
     push_trail_part(&mut text, switches.trail, &looked.notes)?;
     Ok(text)
@@ -153,7 +204,8 @@ fn kept_of(
     looked: &Looked,
     expected: u8,
 ) -> Result<Kept, NoMemory>
-    ensures { IfOk result (λ kept. Keeps keeps call.now looked.now expected kept.status kept.saved.items) }
+    ensures keeps { IfOk result (λ kept. Keeps keeps call.now looked.now expected kept.status kept.saved.items kept.complaint.items) }
+    ensures most { expected ≤ 4 → IfOk result (λ kept. kept.status ≤ 5) }
 {
     if !keeps {
         return Ok(Kept {
@@ -177,7 +229,7 @@ fn kept_of(
     }
 }
 
-// What is told of what a lookup came to, and what is kept of it. Its status is above 4 only where memory ran out.
+// What is told of what a lookup came to, and what is kept of it. The answer's status is above 4 only where memory ran out.
 fn looked_told(
     alloc: Global,
     switches: Switches,
@@ -185,20 +237,21 @@ fn looked_told(
     call: &Call<'_>,
     looked: &Looked,
 ) -> Result<Told, NoMemory>
-    ensures { IfOk result (λ told. TellsLookup switches keeps call.now looked.now told.status told.text.items told.saved.items) }
+    ensures tells { IfOk result (λ told. TellsLookup switches keeps call.now looked.now (told_of told)) }
+    ensures most { IfOk result (λ told. told.status ≤ 5) }
 {
     let status = answer_status(call.query, &looked.reply);
     if status > NO_ANSWER {
         return Err(NoMemory);
     }
     let text = written_text(alloc, switches, call, looked)?;
-    let mut complaint = trusted_lines(alloc, looked)?;
+    let mut complaint = lookup_complaint(alloc, call, looked)?;
     let Kept {
         status,
         saved,
-        complaint: more,
+        complaint: lost,
     } = kept_of(alloc, keeps, call, looked, status)?;
-    complaint.extend_from_slice(&more)?;
+    complaint.extend_from_slice(&lost)?;
     Ok(Told {
         status,
         text,
@@ -215,7 +268,8 @@ pub(crate) fn ended_told(
     call: &Call<'_>,
     ended: Result<Looked, AnchorsFault>,
 ) -> Result<Told, NoMemory>
-    ensures { IfOk result (λ told. IsTold switches keeps call.now ended told.status told.text.items told.saved.items) }
+    ensures tells { IfOk result (λ told. IsTold switches keeps call.now ended (told_of told)) }
+    ensures most { IfOk result (λ told. told.status ≤ 5) }
 {
     match ended {
         Ok(looked) => looked_told(alloc, switches, keeps, call, &looked),

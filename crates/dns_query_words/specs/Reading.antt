@@ -16,7 +16,8 @@ use Rattle.dns_query_words.specs.declared.arguments.Form.{Form}
 use Rattle.dns_query_words.specs.declared.arguments.Form.TheVariants as form
 use Rattle.dns_query_words.specs.declared.options.Setting.{Setting}
 use Rattle.dns_query_words.specs.declared.options.Setting.TheVariants.{Anchors, Depth, Save, Timeout}
-use Rattle.dns_query_words.specs.declared.stop.Refusal.TheVariants.{UnknownOption, Repeated, MissingValue, BadNumber, BadName, BadType, ExtraWord, MissingName}
+use Rattle.dns_query_words.specs.declared.stop.Refusal.{Refusal}
+use Rattle.dns_query_words.specs.declared.stop.Refusal.TheVariants.{UnknownOption, Repeated, SecondServer, MissingValue, BadDepth, BadSeconds, BadName, BadType, ExtraWord, MissingName}
 use Rattle.dns_query_words.specs.declared.stop.Stop.{Stop}
 use Rattle.dns_query_words.specs.declared.stop.Stop.TheVariants.{Refused, NoMemory}
 use Rattle.dns_query_words.specs.declared.stop.WordsError.{WordsError}
@@ -59,7 +60,7 @@ blank = record {
 
 -- one server is named at most
 abbrev pub with_server : DraftValue → List ℕ → Result DraftValue Stop
-with_server draft text = if is_some draft.server then Err (Refused Repeated) else Ok (record draft { server = Some text })
+with_server draft text = if is_some draft.server then Err (Refused SecondServer) else Ok (record draft { server = Some text })
 
 abbrev pub is_set : DraftValue → Setting → Bool
 is_set draft Anchors = is_some draft.anchors
@@ -78,10 +79,10 @@ with_plain draft word =
     then (if is_some draft.rtype then Err (Refused ExtraWord) else (type_of_word word >>= λ rtype. Ok (record draft { rtype = Some rtype })))
     else (name_of_word word >>= λ name. Ok (record draft { name = Some name }))
 
--- a number that is none is refused
-abbrev pub with_number : (ℕ → DraftValue) → Option ℕ → Result DraftValue Stop
-with_number set None = Err (Refused BadNumber)
-with_number set (Some number) = Ok (set number)
+-- a value that is no number is refused
+abbrev pub with_number : Refusal → (ℕ → DraftValue) → Option ℕ → Result DraftValue Stop
+with_number reason set None = Err (Refused reason)
+with_number reason set (Some number) = Ok (set number)
 
 abbrev pub deepened : DraftValue → ℕ → DraftValue
 deepened draft depth = record draft { depth = Some depth; awaits = None }
@@ -93,8 +94,8 @@ timed draft seconds = record draft { timeout = Some seconds; awaits = None }
 abbrev pub with_value : DraftValue → Setting → List ℕ → Result DraftValue Stop
 with_value draft Anchors word = Ok (record draft { anchors = Some word; awaits = None })
 with_value draft Save word = Ok (record draft { save = Some word; awaits = None })
-with_value draft Depth word = with_number (deepened draft) (decimal_in 255 word)
-with_value draft Timeout word = with_number (timed draft) (seconds_in word)
+with_value draft Depth word = with_number BadDepth (deepened draft) (decimal_in 255 word)
+with_value draft Timeout word = with_number BadSeconds (timed draft) (seconds_in word)
 
 -- a word that is no option's value: a server behind `@`, an option, or a name or type
 unfoldable pub with_word : DraftValue → List ℕ → Result DraftValue Stop

@@ -5,6 +5,7 @@ ghost use Rattle.dns_model.specs.Gives.{Gives};
 ghost use Rattle.dns_text.specs.Codes.{after_prefix};
 ghost use Rattle.dns_text.specs.Words.{decimal_in};
 ghost use Rattle.dns_query_words.specs.Reading.{after_word, asked, begins, blank, deepened, finished, name_of_word, seconds_in as seconds_meant, timed, type_of_word as type_meant, with_number, with_plain, with_server, with_setting, with_value, with_word};
+ghost use Rattle.dns_query_words.specs.declared.stop.Refusal.TheVariants.{BadDepth, BadSeconds};
 ghost use Rattle.dns_query_words.specs.declared.stop.Stop.TheVariants.{NoMemory as no_memory};
 ghost use Rattle.dns_query_words.specs.declared.stop.WordsError.TheVariants.{NoMemory as without_memory};
 
@@ -106,7 +107,7 @@ impl<'a> Draft<'a> {
         ensures { Gives (λ d. d) no_memory result (with_server self.entry text.now) }
     {
         if self.server.is_some() {
-            return Err(Stop::Refused(Refusal::Repeated));
+            return Err(Stop::Refused(Refusal::SecondServer));
         }
         self.server = Some(text);
         Ok(self)
@@ -148,10 +149,10 @@ impl<'a> Draft<'a> {
 
     // With the depth that a word says.
     fn with_depth(mut self, word: &[u8]) -> Result<Draft<'a>, Stop>
-        ensures { Gives (λ d. d) no_memory result (with_number (deepened self.entry) (decimal_in 255 word.now)) }
+        ensures { Gives (λ d. d) no_memory result (with_number BadDepth (deepened self.entry) (decimal_in 255 word.now)) }
     {
         let Some(depth) = u8_in(word) else {
-            return Err(Stop::Refused(Refusal::BadNumber));
+            return Err(Stop::Refused(Refusal::BadDepth));
         };
         self.depth = Some(depth);
         self.awaits = None;
@@ -160,10 +161,10 @@ impl<'a> Draft<'a> {
 
     // With the seconds that a word says.
     fn with_timeout(mut self, word: &[u8]) -> Result<Draft<'a>, Stop>
-        ensures { Gives (λ d. d) no_memory result (with_number (timed self.entry) (seconds_meant word.now)) }
+        ensures { Gives (λ d. d) no_memory result (with_number BadSeconds (timed self.entry) (seconds_meant word.now)) }
     {
         let Some(seconds) = seconds_in(word) else {
-            return Err(Stop::Refused(Refusal::BadNumber));
+            return Err(Stop::Refused(Refusal::BadSeconds));
         };
         self.timeout = Some(seconds);
         self.awaits = None;

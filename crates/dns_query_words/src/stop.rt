@@ -11,12 +11,16 @@ use std::alloc::{AllocError, AllocFailed};
 pub enum Refusal {
     /// It begins with `-`, and is no option.
     UnknownOption,
-    /// An option that takes a value stands twice, or a second server is named.
+    /// An option that takes a value is given twice.
     Repeated,
+    /// A second server is named.
+    SecondServer,
     /// The value of the last option is missing.
     MissingValue,
-    /// No number in decimal digits, or one that the option doesn't take.
-    BadNumber,
+    /// The value of `--depth` isn't a number from 0 to 255 in decimal digits.
+    BadDepth,
+    /// The value of `--timeout` isn't a number from 1 to 65,535 in decimal digits.
+    BadSeconds,
     /// No name (RFC 1035, 5.1).
     BadName,
     /// No type.

@@ -1,11 +1,10 @@
-use Rattle.dns_query_run.proofs.ProgramLemmas.{failed_so, wrote_both}
+use Rattle.std.proofs.Common.{refl}
+use Rattle.dns_query_run.specs.Endings.{Came, OutOfMemory}
+use Rattle.dns_query_run.specs.Told.{told_of}
 use Rattle.dns_query_run.proofs.program.run_query.Goals as goal
 
 pub returns-in-Ok-clause-ends : goal.returns-in-Ok-clause-ends
-returns-in-Ok-clause-ends g c = λ below.
-    wrote_both _ _ _ _ _ _ _ _ _ _ _ _ _ _ c.in-Ok.ensures (c.write_told.ensures.kept below)
-    (c.write_told.ensures.written below) (c.write_told.ensures.saved below)
+returns-in-Ok-clause-ends g c = Came (told_of c.in-Ok.told) c.in-Ok.ensures.tells c.write_told.ensures.ends
 
-pub returns-in-Ok-clause-failed : goal.returns-in-Ok-clause-failed
-returns-in-Ok-clause-failed g c = λ five.
-    failed_so _ _ _ _ _ _ _ _ _ _ _ _ _ c.in-Ok.ensures (c.write_told.ensures.failed five)
+pub returns-in-Err-clause-ends : goal.returns-in-Err-clause-ends
+returns-in-Err-clause-ends g c = OutOfMemory refl refl refl c.say.ensures.says

@@ -1,4 +1,3 @@
-use Rattle.std.proofs.Common.{◌∙◌, ap}
 use Rattle.dns_query_run.proofs.ShownLemmas.{shown_is}
 use Rattle.dns_query_run.proofs.telling.shown_text.Goals as goal
 
