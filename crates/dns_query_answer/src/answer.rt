@@ -12,13 +12,13 @@ use crate::errors::push_error;
 use crate::places::Context;
 use crate::record_lines::push_records;
 use crate::sentences::{push_denial, push_denial_sentence, push_signatures, push_top_sentences};
-use crate::words::push_text;
 use dns_cache::ProofErrorKind;
 use dns_causes::trail_causes;
 use dns_evidence::{Limits, Verifier};
 use dns_handle::{DnsError, DnsResponse, NetError};
 use dns_model::Proof;
 use dns_record::{NoMemory, Query, Record, ResponseCode};
+use dns_text::push_text;
 use dns_trust::Judge;
 use std::alloc::Global;
 

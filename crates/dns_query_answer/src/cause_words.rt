@@ -6,10 +6,11 @@ ghost use Rattle.dns_query_answer.specs.CauseWords.{cause_words, follows as is_f
 ghost use Rattle.dns_query_answer.specs.PlaceValues.{place_of};
 
 use crate::places::Place;
-use crate::words::{push_name, push_text};
+use crate::words::push_name;
 use dns_cache::ProofErrorKind;
 use dns_model::MarkOrigin;
 use dns_record::{Name, NoMemory};
+use dns_text::push_text;
 
 // Appends that no DS record of a zone is shown.
 #[tactic(auto, unfolding(crate::specs::CauseWords::neither_words))]

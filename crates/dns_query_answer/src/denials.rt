@@ -17,12 +17,12 @@ use crate::nsec3_faults::push_nsec3_fault;
 use crate::places::{Context, Place, place_at, section_of};
 use crate::reasons::{push_next, push_reason};
 use crate::wildcards::has_answer;
-use crate::words::{push_code, push_name, push_text};
+use crate::words::{push_code, push_name};
 use dns_evidence::{Asked, JudgedSet, Reply, Told};
 use dns_model::{AskRef, Proof, Section};
 use dns_rdata::Nsec3;
 use dns_record::{Name, NoMemory, Query, Record, RecordType, ResponseCode};
-use dns_text::{push_decimal, push_type};
+use dns_text::{push_decimal, push_text, push_type};
 
 /// Names that are hashed more often prove less (RFC 9276, 3.2).
 const SOFT_LIMIT: u16 = 100;

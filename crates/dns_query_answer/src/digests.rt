@@ -7,10 +7,11 @@ ghost use Rattle.dns_query_answer.specs.PlaceValues.{explained_by, place_of};
 
 use crate::following::blamed_ask;
 use crate::places::{Context, Place, records_beside, section_of};
-use crate::words::{push_numbered, push_text};
+use crate::words::push_numbered;
 use dns_model::{AskRef, Section};
 use dns_rdata::{DigestType, Dnskey, Ds, key_tag};
 use dns_record::{Name, NoMemory, Record};
+use dns_text::push_text;
 
 // Whether the rdata of a key has this tag.
 fn has_tag(rdata: &[u8], tag: u16) -> bool

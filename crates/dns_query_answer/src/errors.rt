@@ -4,10 +4,11 @@ ghost use Rattle.dns_handle.specs.Errors as seen;
 ghost use Rattle.dns_handle.specs.Replies.{error_of};
 ghost use Rattle.dns_query_answer.specs.AnswerText.{error_line, fault_line};
 
-use crate::words::{push_code, push_text};
+use crate::words::push_code;
 use dns_handle::{DnsError, NetError};
 use dns_record::{NoMemory, ResponseCode};
 use dns_report::write_fault;
+use dns_text::push_text;
 
 // Appends that the server answered with a code.
 fn push_answered(into: &mut Vec<u8>, code: ResponseCode) -> Result<(), NoMemory>

@@ -9,10 +9,11 @@ ghost use Rattle.dns_query_answer.specs.PlaceValues.{explained_by, place_of};
 
 use crate::cause_words::follows;
 use crate::places::{Context, Place, place_at};
-use crate::words::{push_code, push_set, push_text, title};
+use crate::words::{push_code, push_set, title};
 use dns_evidence::{Asked, Ending, JudgedSet, Reply};
 use dns_model::{AskRef, Proof, Section};
 use dns_record::{NoMemory, Query, RecordType, ResponseCode};
+use dns_text::push_text;
 
 // Whether a step ends with an answer.
 fn is_answered(ending: &Ending) -> bool

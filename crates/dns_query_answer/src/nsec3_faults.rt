@@ -9,11 +9,12 @@ ghost use Rattle.dns_query_answer.specs.Nsec3Faults.{matched_ancestor as ancesto
 ghost use Rattle.dns_query_answer.specs.Wildcards.{wildcard_below as wildcard_in};
 
 use crate::wildcards::{expanded_labels, is_plain_answer, wildcard_below};
-use crate::words::{push_named, push_text};
+use crate::words::push_named;
 use dns_denial::{Nsec3Parameters, Nsec3Records};
 use dns_evidence::Told;
 use dns_rdata::Nsec3Record;
 use dns_record::{NameRef, NoMemory, Query, Record, ResponseCode};
+use dns_text::push_text;
 use std::alloc::Global;
 
 // Adds what a record says, if it can be read as an NSEC3 record.

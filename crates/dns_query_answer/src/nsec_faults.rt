@@ -7,11 +7,12 @@ ghost use Rattle.dns_rules.specs.NsecVerdict.{closest_encloser as encloser_of, i
 ghost use Rattle.dns_query_answer.specs.NsecFaults.{nsec_below, nsec_contradicts, nsec_covered_fault, nsec_fault, nsec_name_fault, nsec_shows_at, nsec_uncovered, nsec_undenied, nsec_unshown, nsec_wildcard_fault, nsecs_in as nsecs_of};
 
 use crate::wildcards::{has_answer, is_plain_answer, wildcard_below};
-use crate::words::{push_named, push_text};
+use crate::words::push_named;
 use dns_denial::{NsecFind, NsecRecords};
 use dns_evidence::Told;
 use dns_rdata::NsecRecord;
 use dns_record::{Name, NameRef, NoMemory, Query, Record, ResponseCode};
+use dns_text::push_text;
 use std::alloc::Global;
 
 // Adds what a record says, if it can be read as an NSEC record.

@@ -10,10 +10,11 @@ use crate::digests::push_digest;
 use crate::following::{ask_to_follow, blamed_place, push_ask_fault};
 use crate::places::{Context, Place, origin_place};
 use crate::signatures::{named_signature, push_signature, untimely_signature};
-use crate::words::{push_set, push_text, title};
+use crate::words::{push_set, title};
 use dns_evidence::Asked;
 use dns_rdata::Rrsig;
 use dns_record::NoMemory;
+use dns_text::push_text;
 
 // The signature that isn't of its time, where signatures were tried.
 fn ended_signature<'a>(moment: u64, place: &Place<'a>) -> Option<Rrsig<'a>>

@@ -2,10 +2,10 @@
 ghost use Rattle.std.specs.Prelude.{◌≡◌, ◌++◌, OnOk};
 ghost use Rattle.dns_query_answer.specs.AnswerText.{mark_column as column_of, record_line, record_lines};
 
-use crate::words::push_text;
 use dns_model::Proof;
 use dns_presentation::presentation;
 use dns_record::{NoMemory, Record};
+use dns_text::push_text;
 
 // A mark, and spaces up to the column where the record begins.
 fn mark_column(mark: Proof) -> &'static [u8]

@@ -10,11 +10,12 @@ ghost use Rattle.dns_query_answer.specs.PlaceValues.{explained_by, place_of};
 use crate::denials::{push_absent, push_denial_reason};
 use crate::places::{Context, Place, cause_at};
 use crate::reasons::push_reason;
-use crate::words::{push_set, push_text, title};
+use crate::words::{push_set, title};
 use dns_cache::ProofErrorKind;
 use dns_evidence::{Asked, JudgedSet};
 use dns_model::{Denial, Proof, Section};
 use dns_record::{NoMemory, Query, Record, RecordType, ResponseCode};
+use dns_text::push_text;
 
 // Appends a set with its mark.
 fn push_title(into: &mut Vec<u8>, set: &JudgedSet) -> Result<(), NoMemory>

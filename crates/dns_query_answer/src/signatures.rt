@@ -6,11 +6,11 @@ ghost use Rattle.dns_query_answer.specs.PlaceValues.{place_of};
 ghost use Rattle.dns_query_answer.specs.SignatureWords.{covers_set, covers_timely, named_record as record_named, key_words, named_signature as signature_named, signature_words, signer_words, untimely_signature as untimely, validity_words};
 
 use crate::places::{Place, records_beside};
-use crate::words::{push_name_ref, push_span, push_text};
+use crate::words::{push_name_ref, push_span};
 use dns_evidence::JudgedSet;
 use dns_rdata::{Rrsig, SerialNumber};
 use dns_record::{NoMemory, Record};
-use dns_text::push_decimal;
+use dns_text::{push_decimal, push_text};
 use dns_trust::is_timely;
 
 // Whether a record is a signature of a set.

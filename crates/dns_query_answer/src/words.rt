@@ -7,19 +7,11 @@ ghost use Rattle.dns_query_answer.specs.SentenceWords.{code_words, counted, set_
 
 use dns_model::Proof;
 use dns_record::{Name, NameRef, NoMemory, RecordType, ResponseCode};
-use dns_text::{push_decimal, push_type};
+use dns_text::{push_decimal, push_text, push_type};
 
 const HOUR: u32 = 3_600;
 
 const DAY: u32 = 86_400;
-
-/// Appends bytes as they are.
-pub(crate) fn push_text(into: &mut Vec<u8>, text: &[u8]) -> Result<(), NoMemory>
-    ensures { OnOk result (into.new.items ≡ into.old.items ++ text.now) }
-{
-    into.extend_from_slice(text)?;
-    Ok(())
-}
 
 /// A mark as a sentence begins with it.
 pub(crate) fn title(mark: Proof) -> &'static [u8]

@@ -8,11 +8,12 @@ use crate::chains::push_chains;
 use crate::denials::push_denial_field;
 use crate::notes::{push_code, push_trail};
 use crate::records::push_sections;
-use crate::strings::{push_number_field, push_question, push_sign, push_string_field, push_text};
+use crate::strings::{push_number_field, push_question, push_sign, push_string_field};
 use dns_handle::{DnsResponse, NetError};
 use dns_query_answer::told_answer;
 use dns_query_handle::Note;
 use dns_record::{NoMemory, Query};
+use dns_text::push_text;
 use std::marker::Model;
 
 /// What a question came to.

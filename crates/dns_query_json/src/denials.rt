@@ -4,10 +4,11 @@ ghost use Rattle.dns_handle.specs.Replies.{error_of, reply_of};
 ghost use Rattle.dns_query_json.specs.AnswerJson.{denial_field, denial_object, denial_value, denied_value, refused_value};
 
 use crate::records::push_mark;
-use crate::strings::{push_named, push_sign, push_string_field, push_text};
+use crate::strings::{push_named, push_sign, push_string_field};
 use dns_handle::{DnsError, DnsResponse, NetError};
 use dns_model::{Denial, Proof};
 use dns_record::NoMemory;
+use dns_text::push_text;
 
 // Appends a kind of denial, and its mark.
 #[tactic(auto, unfolding(crate::specs::AnswerJson::denial_object))]

@@ -9,15 +9,7 @@ ghost use Rattle.dns_query_json.specs.Json.{is_escaped, is_plain, named, number_
 
 use crate::lists::JsonValue;
 use dns_record::{Name, NoMemory, RecordType};
-use dns_text::{push_decimal, push_octets, push_type};
-
-/// Appends bytes as they are.
-pub(crate) fn push_text(into: &mut Vec<u8>, text: &[u8]) -> Result<(), NoMemory>
-    ensures { OnOk result (into.new.items ≡ into.old.items ++ text.now) }
-{
-    into.extend_from_slice(text)?;
-    Ok(())
-}
+use dns_text::{push_decimal, push_octets, push_text, push_type};
 
 /// Appends one byte.
 pub(crate) fn push_sign(into: &mut Vec<u8>, sign: u8) -> Result<(), NoMemory>

@@ -33,7 +33,8 @@ unanswered_is call seen looked heard status call_is looked_is is =
     ∙ ap (λ h. answer_status call.query h.reply) looked_is)
 
 -- lines of keys, and behind them why there is no answer
-pub complaint_is : (call : CallValue) (looked heard : LookedValue) (trusted : TrustedValue) (keys : List Rr) (lines all : List ℕ)
+pub complaint_is : (call : CallValue) (looked heard : LookedValue) (trusted : TrustedValue) (keys : List Rr)
+    (lines all : List ℕ)
     → heard ≡ looked → trusted ≡ heard.trusted → keys ≡ trusted.keys → lines ≡ trusted_lines heard.anchors keys
     → all ≡ lines ++ error_part call looked → all ≡ lookup_complaint call looked
 complaint_is call looked heard trusted keys lines all seen trusted_is keys_are first second =

@@ -15,6 +15,7 @@ module _ {W X : Type 0} (met : SinkMet W) (text : List ℕ) where
   cut_short (Err Failed) failed memory part = record { cause = failed refl; part = part }
   cut_short (Err NoMemory) failed memory part = record { cause = memory refl; part = part }
 
-  pub says_so : (r : Result X SinkFault) → OnOk r (Took met text) → IfErr r (λ fault. IsCutShort fault met text) → Says met text
+  pub says_so : (r : Result X SinkFault) → OnOk r (Took met text) → IfErr r (λ fault. IsCutShort fault met text)
+      → Says met text
   says_so (Ok x) whole cut = Said whole
   says_so (Err fault) whole cut = CutShort fault cut

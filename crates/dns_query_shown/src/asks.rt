@@ -4,13 +4,14 @@ ghost use Rattle.std.specs.Fmt.{decimal};
 ghost use Rattle.dns_handle.specs.Replies.{reply_of};
 ghost use Rattle.dns_query_shown.specs.Asks.{ask_line, asks_text, counted, heard_text, message_words};
 
-use crate::words::{push_number, push_set, push_text, section_word};
+use crate::words::push_set;
 use dns_handle::{DnsResponse, NetError};
 use dns_message::Message;
 use dns_model::Section;
 use dns_query_handle::Note;
 use dns_record::NoMemory;
-use dns_report::write_fault;
+use dns_report::{section_word, write_fault};
+use dns_text::{push_decimal, push_text};
 
 // Appends how many records a section has.
 #[tactic(auto, unfolding(crate::specs::Asks::counted))]
@@ -20,7 +21,7 @@ fn push_count(into: &mut Vec<u8>, section: Section, count: usize) -> Result<(), 
     push_text(into, b", ")?;
     push_text(into, section_word(section))?;
     into.push(b' ')?;
-    push_number(into, count as u64)
+    push_decimal(into, count as u64)
 }
 
 // Appends what a message is.
@@ -29,7 +30,7 @@ fn push_message(into: &mut Vec<u8>, message: &Message) -> Result<(), NoMemory>
     ensures { OnOk result (into.new.items ≡ into.old.items ++ message_words message.now) }
 {
     push_text(into, b"code ")?;
-    push_number(into, u64::from(message.response_code.0))?;
+    push_decimal(into, u64::from(message.response_code.0))?;
     push_count(into, Section::Answer, message.answers.len())?;
     push_count(into, Section::Authority, message.authorities.len())?;
     push_count(into, Section::Additional, message.additionals.len())
@@ -61,7 +62,7 @@ fn push_ask(into: &mut Vec<u8>, note: &Note) -> Result<(), NoMemory>
     let query = &note.query;
     push_set(into, &query.name, query.query_type)?;
     push_text(into, b", ")?;
-    push_number(into, note.elapsed_ms)?;
+    push_decimal(into, note.elapsed_ms)?;
     push_text(into, b" ms: ")?;
     push_heard(into, &note.reply)
 }

@@ -4,9 +4,10 @@ ghost use Rattle.dns_evidence.specs.Link.{link_value};
 ghost use Rattle.dns_query_shown.specs.ChainTrees.{below, chain_text, chains_text, first_indent, indent_of, tree_lines};
 
 use crate::link_words::push_link;
-use crate::words::{push_text, section_word};
 use dns_evidence::{Chain, Link};
 use dns_record::{NoMemory, Octets};
+use dns_report::section_word;
+use dns_text::push_text;
 use std::alloc::Global;
 
 /// How far a line is moved to the right that stands below nothing.

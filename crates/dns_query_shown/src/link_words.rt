@@ -5,9 +5,10 @@ ghost use Rattle.dns_evidence.specs.Link.{link_value};
 ghost use Rattle.dns_model.specs.NameText.{printed};
 ghost use Rattle.dns_query_shown.specs.ChainTrees.{key_words, link_line, link_words, listed_key, set_words, signed_by};
 
-use crate::words::{push_key, push_name, push_set, push_text};
+use crate::words::{push_key, push_name, push_set};
 use dns_evidence::Link;
 use dns_record::{Name, NoMemory, Rdata, RecordType};
+use dns_text::push_text;
 
 // Appends the words of keys, each behind a comma.
 fn push_keys(into: &mut Vec<u8>, keys: &[Rdata]) -> Result<(), NoMemory>

@@ -1,30 +1,12 @@
 //! Pieces of lines.
-ghost use Rattle.std.specs.Prelude.{◌≡◌, ◌++◌, ◌∷◌, codes, OnOk};
-ghost use Rattle.std.specs.Fmt.{decimal};
+ghost use Rattle.std.specs.Prelude.{◌≡◌, ◌++◌, codes, OnOk};
 ghost use Rattle.dns_model.specs.NameText.{printed};
 ghost use Rattle.dns_record.specs.Words.{type_word};
-ghost use Rattle.dns_report.specs.LineWords.{section_word};
 ghost use Rattle.dns_query_shown.specs.ChainTrees.{key_words, set_words};
 
-use dns_model::Section;
 use dns_rdata::key_tag;
 use dns_record::{Name, NoMemory, RecordType};
-use dns_text::{push_decimal, push_type};
-
-/// Appends bytes as they are.
-pub(crate) fn push_text(into: &mut Vec<u8>, text: &[u8]) -> Result<(), NoMemory>
-    ensures { OnOk result (into.new.items ≡ into.old.items ++ text.now) }
-{
-    into.extend_from_slice(text)?;
-    Ok(())
-}
-
-/// Appends a number.
-pub(crate) fn push_number(into: &mut Vec<u8>, number: u64) -> Result<(), NoMemory>
-    ensures { OnOk result (into.new.items ≡ into.old.items ++ decimal number) }
-{
-    push_decimal(into, number)
-}
+use dns_text::{push_decimal, push_text, push_type};
 
 /// Appends a name.
 pub(crate) fn push_name(into: &mut Vec<u8>, name: &Name) -> Result<(), NoMemory>
@@ -56,19 +38,8 @@ pub(crate) fn push_key(into: &mut Vec<u8>, key: &[u8]) -> Result<(), NoMemory>
     match key_tag(key) {
         Some(tag) => {
             push_text(into, b"key ")?;
-            push_number(into, u64::from(tag))
+            push_decimal(into, u64::from(tag))
         }
         None => push_text(into, b"key"),
-    }
-}
-
-/// The word of a section.
-pub(crate) fn section_word(section: Section) -> &'static [u8]
-    ensures { result.now ≡ section_word section }
-{
-    match section {
-        Section::Answer => b"answer",
-        Section::Authority => b"authority",
-        Section::Additional => b"additional",
     }
 }

@@ -8,4 +8,4 @@ pub returns : goal.returns
 unfolding neither_words
 returns c =
     pushed c.push_name.result c.args.into.now.items c.push_text.new.into.items c.push_name.new.into.items
-    (codes "neither a DS record of ") (printed c.args.zone.now) c.in_ok-push_text.ensures c.push_name.ensures
+    (codes "neither a DS record of ") (printed c.args.zone.now) c.in_ok-push_text.ensures.ok c.push_name.ensures

@@ -8,4 +8,4 @@ pub returns : goal.returns
 unfolding no_type_words
 returns c =
     pushed c.push_type.result c.args.into.now.items c.push_text.new.into.items c.push_type.new.text.items
-    (codes "there is no ") (type_word c.args.record_type.0) c.in_ok-push_text.ensures c.push_type.ensures.ok
+    (codes "there is no ") (type_word c.args.record_type.0) c.in_ok-push_text.ensures.ok c.push_type.ensures.ok

@@ -8,4 +8,4 @@ pub returns : goal.returns
 unfolding refused_words
 returns c =
     pushed c.push_code.result c.args.into.now.items c.push_text.new.into.items c.push_code.new.into.items
-    (codes ": the server answered with ") (code_words c.args.code.0) c.in_ok-push_text.ensures c.push_code.ensures
+    (codes ": the server answered with ") (code_words c.args.code.0) c.in_ok-push_text.ensures.ok c.push_code.ensures

@@ -10,6 +10,6 @@ pub returns : goal.returns
 unfolding denial_mark_words
 returns c =
     pushed c.push_text-2.result c.args.into.now.items c.push_text.new.into.items c.push_text-2.new.into.items
-    (codes " has no answer, and its denial is ") (title c.args.proof) c.in_ok-push_text.ensures
+    (codes " has no answer, and its denial is ") (title c.args.proof) c.in_ok-push_text.ensures.ok
     (on_ok_weaker c.push_text-2.result (λ told. told ∙ ap (λ l. c.push_text.new.into.items ++ l) c.title.ensures)
-    c.push_text-2.ensures)
+    c.push_text-2.ensures.ok)

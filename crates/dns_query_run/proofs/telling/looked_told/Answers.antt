@@ -11,5 +11,10 @@ returns-clause-tells c = record {
       c.looked.view_is c.answer_status-status.ensures.proved c.in_ok-status.ensures.keeps zero;
   tells = c.in_ok-text.ensures;
   complains =
-      cc (c.in_ok-extend_from_slice.ensures.items, c.deref.ensures.value, c.in_ok-status.lost-is, c.in_ok-complaint.ensures);
+      cc (
+        c.in_ok-extend_from_slice.ensures.items,
+        c.deref.ensures.value,
+        c.in_ok-status.lost-is,
+        c.in_ok-complaint.ensures,
+      );
 }
