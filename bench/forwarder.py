@@ -8,7 +8,8 @@ a request for it, with DO, is answered over UDP: cold, from an empty cache, and 
 processor: the best of nine runs of some passes is taken off the best of nine of twice as many.
 
 Then one, two and four seats over one shared cache answer requests for the stored session's name servers, a thousand each in a round, by ports
-in memory: answers a second by the clock, all seats together, the best of nine runs by turns. The status is 1 where an answer takes more than 1.3
+in memory: answers a second by the clock, all seats together, the best of nine runs by turns. dns_trial takes the time of the call of `serve`
+alone: seats and requests are made before it, and exchanges freed behind it. The status is 1 where an answer takes more than 1.3
 times its lookup, or four seats give fewer than 2.5 times the answers of one."""
 import argparse
 import os
@@ -55,10 +56,10 @@ def say_seats(program):
     best = {}
     for _ in range(TURNS):
         for seats in SEATS:
-            taken, counts = counts_of([program, "serve", str(ROUNDS), str(seats)], b"", ("done",))
-            if counts != (ROUNDS * ROUND * seats,):
-                sys.exit(f"serve: {counts[0]} of {ROUNDS * ROUND * seats} requests were answered")
-            best[seats] = max(best.get(seats, 0), counts[0] / taken)
+            nanoseconds, answers = counts_of([program, "serve", str(ROUNDS), str(seats)], b"", ("nanoseconds", "done"))[1]
+            if answers != ROUNDS * ROUND * seats:
+                sys.exit(f"serve: {answers} of {ROUNDS * ROUND * seats} requests were answered")
+            best[seats] = max(best.get(seats, 0), answers / nanoseconds * 1e9)
     for seats, rate in best.items():
         print(f"{seats} seats: {rate:.0f} answers a second, {rate / best[1]:.2f} times one seat's")
     return best[max(SEATS)] < LEAST_TOGETHER * best[1]

@@ -61,7 +61,7 @@ fn done<T: Threads + Wait + Copy + Send + Sync>(
             *threads, alloc, form,
         ),
         Work::SharedLookups => shared_lookups(*threads, alloc, form.first, form.second),
-        Work::Serve => served(*threads, alloc, form.first, form.second),
+        Work::Serve => served(rt, *threads, alloc, form.first, form.second, text),
         Work::Cut => cut(alloc, form.first),
         Work::Roll => followed(alloc, form.first),
         Work::Transfer => transferred(rt, alloc, form.first, form.second, text),
@@ -113,7 +113,8 @@ fn answer<T: Threads + Wait + Copy + Send + Sync, W: Sink>(
 /// chain of six links. `shelf-insert ENTRIES PASSES BYTES` puts such entries into a shelf, whose verifier hashes so many bytes for each of four
 /// signatures, and `shelf-test` makes and drops them and tests their chains. `shelf-for ENTRIES PASSES SIGNATURES` gets entries for a list of so many
 /// signatures, which is compared with the shelf's each time. `shared-lookups COUNT THREADS` makes so many lookups by each of so many threads over one shared
-/// cache. `serve ROUNDS SEATS` has so many seats of a forwarder over one cache answer a thousand requests each, in so many rounds.
+/// cache. `serve ROUNDS SEATS` has so many seats of a forwarder over one cache answer a thousand requests each, in so many rounds behind one that
+/// fills the cache, and writes `nanoseconds` with the time that the call of `serve` took in these.
 ///
 /// `made COUNT` makes so many links in memory, each with a hundred messages of 510 bytes behind their lengths; `read COUNT` makes them and
 /// reads the messages, and `copied COUNT` reads their bytes plainly, a frame a read, and copies each frame. `written COUNT` writes as many

@@ -1,6 +1,7 @@
 //! Requests that seats of a forwarder answer side by side, with a validator each over one shared cache.
 
 use crate::shared_lookups::validator;
+use crate::texts::push_line;
 use dns_cache::DefaultHasher;
 use dns_evidence::Verifier;
 use dns_handle::{NetError, Protocol};
@@ -13,6 +14,7 @@ use dns_shared_cache::{DefaultSharedCache, SharedCache};
 use std::alloc::Global;
 use std::sync::Wait;
 use std::thread::Threads;
+use std::time::{Clock, Duration, Instant};
 
 /// A verifier that accepts everything: threads share it.
 #[derive(Drop)]
@@ -81,43 +83,90 @@ fn seats<T: Wait + Copy>(
     Ok(all)
 }
 
-// How many replies so many seats send in a round.
-fn replies_in_round<T: Threads + Wait + Copy + Send + Sync>(
+/// What seats did.
+#[derive(Clone, Copy)]
+struct Done {
+    /// How many replies they sent.
+    replies: u64,
+    /// How long `serve` took. Making seats and requests, and freeing exchanges, aren't part of it.
+    nanoseconds: u64,
+}
+
+impl Done {
+    // This and what was done in a further round.
+    fn and(self, next: Done) -> Done {
+        Done {
+            replies: self.replies.saturating_add(next.replies),
+            nanoseconds: self.nanoseconds.saturating_add(next.nanoseconds),
+        }
+    }
+}
+
+const NOTHING: Done = Done {
+    replies: 0,
+    nanoseconds: 0,
+};
+
+// Nanoseconds since a moment; 0 where the clock fails.
+fn nanoseconds_since(start: Option<Instant>, clock: &impl Clock) -> u64 {
+    let Some(start) = start else {
+        return 0;
+    };
+    let taken = start.elapsed(clock).unwrap_or(Duration::ZERO);
+    u64::try_from(taken.as_nanos()).unwrap_or(u64::MAX)
+}
+
+// What so many seats do in a round.
+fn serve_round<T: Threads + Wait + Copy + Send + Sync>(
+    clock: &impl Clock,
     rt: T,
     alloc: Global,
     cache: &DefaultSharedCache<Accepting, T>,
     number: u32,
-) -> Result<u64, NetError> {
-    let served = serve(&rt, alloc, seats(alloc, cache, number)?, ROUND, &OpenGate)?;
+) -> Result<Done, NetError> {
+    let seats = seats(alloc, cache, number)?;
+    let start = Instant::now(clock).ok();
+    let served = serve(&rt, alloc, seats, ROUND, &OpenGate)?;
+    let nanoseconds = nanoseconds_since(start, clock);
     let mut replies: u64 = 0;
     for one in &served {
         let told = one.seat.port.replies().map_or(0, |replies| replies.len());
         replies = replies.saturating_add(told as u64);
     }
-    Ok(replies)
+    Ok(Done {
+        replies,
+        nanoseconds,
+    })
 }
 
-// The same in so many rounds.
-fn replies<T: Threads + Wait + Copy + Send + Sync>(
+// The same in so many rounds, behind one that fills the cache.
+fn serve_rounds<T: Threads + Wait + Copy + Send + Sync>(
+    clock: &impl Clock,
     rt: T,
     alloc: Global,
     rounds: u32,
     number: u32,
-) -> Result<u64, NetError> {
+) -> Result<Done, NetError> {
     let cache = SharedCache::new(rt, alloc, 1_000, Accepting)?;
-    let mut replies: u64 = 0;
+    serve_round(clock, rt, alloc, &cache, number)?;
+    let mut done = NOTHING;
     for _ in 0..rounds {
-        replies = replies.saturating_add(replies_in_round(rt, alloc, &cache, number)?);
+        done = done.and(serve_round(clock, rt, alloc, &cache, number)?);
     }
-    Ok(replies)
+    Ok(done)
 }
 
-/// How many replies so many seats over one cache send in so many rounds, in each of which a thousand requests come to each.
+/// How many replies so many seats over one cache send in so many rounds, in each of which a thousand requests come to each. Behind the text
+/// it puts a line with the nanoseconds that `serve` took in these rounds.
 pub(crate) fn served<T: Threads + Wait + Copy + Send + Sync>(
+    clock: &impl Clock,
     rt: T,
     alloc: Global,
     rounds: u32,
     number: u32,
+    text: &mut Vec<u8>,
 ) -> Result<u64, NoMemory> {
-    Ok(replies(rt, alloc, rounds, number).unwrap_or(0))
+    let done = serve_rounds(clock, rt, alloc, rounds, number).unwrap_or(NOTHING);
+    push_line(text, b"nanoseconds ", done.nanoseconds)?;
+    Ok(done.replies)
 }
