@@ -3,3 +3,4 @@ pub mod LineLemmas
 pub mod SeatLemmas
 pub mod ForwardLemmas
 pub mod ServingLemmas
+pub mod JudgedLemmas

@@ -38,7 +38,7 @@ pub seated_many : {X P : Type 0} (port_of : X → P) (seats : List X) (all : Lis
     → length seats ≡ length all
 seated_many port_of seats all same = sym (length-map seats port_of) ∙ ap length same
 
-met_seats : {X P : Type 0} (port_of : X → P) (met : P → PortCountsValue) (seats : List X)
+pub met_seats : {X P Y : Type 0} (port_of : X → P) (met : P → Y) (seats : List X)
     → map met (map port_of seats) ≡ map (λ s. met (port_of s)) seats
 met_seats port_of met [] = refl
 met_seats port_of met (s ∷ seats) = ap (λ l. met (port_of s) ∷ l) (met_seats port_of met seats)

@@ -10,13 +10,14 @@ use Rattle.dns_io.specs.Writing.{bad_words_text, WritesText}
 use Rattle.dns_io.specs.Leaving.{Leaves, WrotePrefix}
 use Rattle.dns_link.specs.Calls.{NetCalls}
 use Rattle.dns_link.specs.Counts.{CountsValue, with_fault}
-use Rattle.dns_listener.specs.Listening.{ListenerCounts}
+use Rattle.dns_listener.specs.Listening.{ListenerCounts, TrafficValue}
 use Rattle.dns_model.specs.Counts.{Rose}
 use Rattle.dns_session.specs.SessionValue.{SessionValue}
 use Rattle.dns_session.specs.Grammar.{session_of}
 use Rattle.dns_session.specs.Stops.{NamesLine}
 use Rattle.dns_tcp.specs.Dialing.{IsAskedFor, dial_to}
 use Rattle.dns_forward_run.specs.Forms.{help_text, seats_of, version_text}
+use Rattle.dns_forward_run.specs.Judging.{TellsAnswered, judging_by}
 use Rattle.dns_forward_run.specs.Lines.{lines_from, lines_status}
 use Rattle.dns_forward_run.specs.Retired.{AreBack, IsRefused}
 use Rattle.dns_forward_run.specs.declared.form.Carried.{Carried}
@@ -31,9 +32,11 @@ pub record NetView (D N : Type 0) : Type 0 where
   pub dialed : D → CountsValue
   pub calls : D → Option NetCalls
   pub listened : N → ListenerCounts
+  pub heard : N → Option (List TrafficValue)
 
-abbrev pub net_view : {D N : Type 0} → (D → CountsValue) → (D → Option NetCalls) → (N → ListenerCounts) → NetView D N
-net_view dialed calls listened = record { dialed = dialed; calls = calls; listened = listened }
+abbrev pub net_view : {D N : Type 0} → (D → CountsValue) → (D → Option NetCalls) → (N → ListenerCounts)
+    → (N → Option (List TrafficValue)) → NetView D N
+net_view dialed calls listened heard = record { dialed = dialed; calls = calls; listened = listened; heard = heard }
 
 -- what a run has of the outside: the dialer that was given, the one that is given back, if any, and the listener before and after
 pub record Met (D N : Type 0) : Type 0 where
@@ -111,9 +114,15 @@ pub data IsUnserved {D N : Type 0} (seen : NetView D N) (service : Service) (met
 
 -- ---- how a run ends
 
+-- seats were served for a session, and by what it trusts
+pub record ForwardsBy {D N : Type 0} (s : SessionValue) (seen : NetView D N) (service : Service) (met : Met D N) (status : ℕ)
+    (text : List ℕ) : Type 0 where
+  pub forwards : Forwards seen service met status text
+  pub answered : TellsAnswered (judging_by s service.carried) (seen.heard met.old) (seen.heard met.new)
+
 -- what an input comes to: a session, for which seats were served; and where it is none, nothing was touched
 abbrev pub ForwardEnds : {D N : Type 0} → NetView D N → Service → Met D N → Result SessionValue ℕ → ℕ → List ℕ → Type 0
-ForwardEnds seen service met (Ok s) status text = Forwards seen service met status text
+ForwardEnds seen service met (Ok s) status text = ForwardsBy s seen service met status text
 ForwardEnds seen service met (Err number) status text = NamesLine number status text × IsUntouched met
 
 -- what may be written of bytes: the text of a status to which they come; what is said of an input that is too long; or nothing

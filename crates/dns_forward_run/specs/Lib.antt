@@ -2,6 +2,7 @@
 pub mod Forms
 pub mod Lines
 pub mod Retired
+pub mod Judging
 pub mod Forwards
 pub mod Keeping
 pub mod Openings

@@ -7,13 +7,15 @@ use Rattle.dns_evidence.specs.declared.verifier.Verifier as verifier
 use Rattle.dns_model.specs.Counts.{Rose}
 use Rattle.dns_ports.specs.declared.port.Port as port
 use Rattle.dns_io.specs.Writing.{TakesPrefix}
-use Rattle.dns_listener.specs.Listening.{ListenerCounts, PortCountsValue}
+use Rattle.dns_listener.specs.Listening.{ListenerCounts, PortCountsValue, TrafficValue}
 use Rattle.dns_seats.specs.declared.seat.Served.{Served}
 use Rattle.dns_session.specs.SessionValue.{SessionValue}
 use Rattle.dns_session.specs.Stops.{NamesLine}
 use Rattle.dns_forward_run.specs.Forwards.{ForwardEnds, Forwards, IsUnserved, Met, NetView}
 use Rattle.dns_forward_run.specs.Lines.{line_of, lines_from, lines_status}
+use Rattle.dns_forward_run.specs.Judging.{IsAnswered, Judging}
 use Rattle.dns_forward_run.specs.Retired.{AreBack, IsLineOf, IsRefused, met_by}
+use Rattle.dns_forward_run.specs.Settings.{carried_by}
 use Rattle.dns_forward_run.specs.declared.ending.Ending.{Ending}
 use Rattle.dns_forward_run.specs.declared.ending.Ending.TheVariants.{Told, Failed, NoMemory}
 use Rattle.dns_forward_run.specs.declared.form.Service.{Service}
@@ -30,6 +32,14 @@ module _ {P H V K S T B : Type 0} {tests : verifier.Ghosts V} {builds : build_ha
   -- what the ports of such seats met
   abbrev pub served_met : port.Ghosts P → List (Served P H V K S T B tests builds hashes) → List PortCountsValue
   served_met ports all = map (λ s. met_by ports s.seat.port) all
+
+  -- what came and went at them
+  abbrev pub served_carried : port.Ghosts P → List (Served P H V K S T B tests builds hashes) → List TrafficValue
+  served_carried ports all = map (λ s. carried_by ports s.seat.port) all
+
+  -- the requests of a seat were answered, as it was judged so
+  abbrev pub WasAnswered : port.Ghosts P → Judging → Served P H V K S T B tests builds hashes → Type 0
+  WasAnswered ports by served = IsAnswered by (carried_by ports served.seat.port)
 
   -- a seat that was new has its line, if any
   abbrev pub HasLine : port.Ghosts P → ℕ → Served P H V K S T B tests builds hashes → Type 0
@@ -76,6 +86,11 @@ abbrev pub Refuses : ℕ → Ending → Type 0
 Refuses number (Told status text) = NamesLine number status text.items
 Refuses number Failed = ⊥
 Refuses number NoMemory = Unit {0}
+
+-- a fact of endings that are lines
+abbrev pub WhenTold : Ending → Type 0 → Type 0
+WhenTold (Told status text) Fact = Fact
+WhenTold _ Fact = Unit {0}
 
 -- lines of seats as a status with its text
 abbrev pub TellsLines : {Z E : Type 0} → Result (Vec SeatLine Z) E → Ending → Type 0

@@ -4,8 +4,9 @@ ghost use Rattle.dns_shared_upstream.specs.Upstreams.{parts_of};
 ghost use Rattle.dns_forward_run.specs.declared.form.Carried.TheVariants.{Connections};
 ghost use Rattle.dns_forward_run.specs.Forwards.{met_of, net_view};
 ghost use Rattle.dns_forward_run.specs.Retired.{AreBack, AreNew, met_by};
-ghost use Rattle.dns_forward_run.specs.Settings.{list_in, seats_met};
-ghost use Rattle.dns_forward_run.specs.Steps.{IsLow, KeepsDialer, ServesAs, ServesClients};
+ghost use Rattle.dns_forward_run.specs.Judging.{TellsAnswered};
+ghost use Rattle.dns_forward_run.specs.Settings.{AreSilent, JudgeAlike, carried_by, judging_in, list_in, seats_judging, seats_met};
+ghost use Rattle.dns_forward_run.specs.Steps.{IsLow, KeepsDialer, ServesAs, ServesClients, WhenTold};
 
 use crate::connection::{Connection, connect};
 use crate::ending::{Ending, ForwardEnding, ending_of};
@@ -106,7 +107,8 @@ where
     C: Picked,
     requires listed { list_in setting.now.trust ≡ C.listed }
     requires number { vec_len holders ≡ vec_len ports }
-    ensures { IfOk result (λ seats. map (λ s. s.port) seats.items ≡ ports.items) }
+    ensures ports { IfOk result (λ seats. map (λ s. s.port) seats.items ≡ ports.items) }
+    ensures judging { IfOk result (λ seats. JudgeAlike (judging_in setting.now.trust Protocol.Tcp) (seats_judging seats.items)) }
 {
     let cache = cache_over(setting)?;
     let mut holders = holders;
@@ -141,6 +143,7 @@ where
     requires bound { setting.now.service.count ≤ 1000 }
     requires listed { list_in setting.now.trust ≡ C.listed }
     requires unused { AreNew (map (λ p. met_by N.Port.Port p) ports.items) }
+    requires silent { AreSilent (map (λ p. carried_by N.Port.Port p) ports.items) }
     requires some { 0 < length ports.items }
     requires name { blank.name ≡ G.name }
     requires parts { blank.parts ≡ G.parts }
@@ -148,6 +151,8 @@ where
     ensures len { IfOk result (λ lines. length lines.items ≡ length ports.items) }
     ensures back { IfOk result (λ lines. AreBack setting.now.service.count lines.items
         (N.counts listen.old) (N.counts listen.new)) }
+    ensures answered { IfOk result (λ lines. TellsAnswered (judging_in setting.now.trust Protocol.Tcp)
+        (N.told listen.old) (N.told listen.new)) }
 {
     let (rt, alloc) = (setting.rt, setting.alloc);
     let Connection { stream, handle } = connection;
@@ -178,11 +183,14 @@ where
     T: Threads + Wait + RandomSource + Copy + Send + Sync,
     requires bound { setting.now.service.count ≤ 1000 }
     requires unused { AreNew (map (λ p. met_by N.Port.Port p) ports.items) }
+    requires silent { AreSilent (map (λ p. carried_by N.Port.Port p) ports.items) }
     requires some { 0 < length ports.items }
     requires parts { blank.parts ≡ vec_len ports }
     ensures len { IfOk result (λ lines. length lines.items ≡ length ports.items) }
     ensures back { IfOk result (λ lines. AreBack setting.now.service.count lines.items
         (N.counts listen.old) (N.counts listen.new)) }
+    ensures answered { IfOk result (λ lines. TellsAnswered (judging_in setting.now.trust Protocol.Tcp)
+        (N.told listen.old) (N.told listen.new)) }
 {
     serve_ports::<N, L, K, T, Brand, Brand>(setting, draws, connection, ports, listen, blank)
 }
@@ -204,6 +212,8 @@ where
     requires bound { setting.now.service.count ≤ 1000 }
     requires some { 0 < connections }
     ensures served { ServesClients connections setting.now.service.count (N.counts listen.old) (N.counts listen.new) result }
+    ensures answered { WhenTold result (TellsAnswered (judging_in setting.now.trust Protocol.Tcp)
+        (N.told listen.old) (N.told listen.new)) }
     ensures low { IsLow result }
 {
     let alloc = setting.alloc;
@@ -237,8 +247,10 @@ where
     requires bound { setting.now.service.count ≤ 1000 }
     requires some { 0 < connections }
     requires carried { setting.now.service.carried ≡ Connections connections }
-    ensures served { ServesAs (net_view D.counts D.calls N.counts) setting.now.service
+    ensures served { ServesAs (net_view D.counts D.calls N.counts N.told) setting.now.service
         (met_of dial result.dial listen.old listen.new) result.ending }
+    ensures answered { WhenTold result.ending (TellsAnswered (judging_in setting.now.trust Protocol.Tcp)
+        (N.told listen.old) (N.told listen.new)) }
     ensures low { IsLow result.ending }
     ensures kept { KeepsDialer result.dial result.ending }
 {

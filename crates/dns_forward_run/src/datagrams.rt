@@ -3,9 +3,10 @@ ghost use Rattle.std.specs.Prelude.{◌≡◌, ◌≤◌, IfOk, IsSome};
 ghost use Rattle.dns_forward_run.specs.declared.form.Carried.TheVariants.{Datagrams};
 ghost use Rattle.dns_forward_run.specs.Forwards.{met_of, net_view};
 ghost use Rattle.dns_forward_run.specs.Retired.{AreBack, met_by};
-ghost use Rattle.dns_forward_run.specs.Settings.{list_in};
-ghost use Rattle.dns_forward_run.specs.Steps.{HasLine, IsLow, IsOneBack, KeepsDialer, ServesAs};
-ghost use Rattle.dns_listener.specs.Listening.{nothing_met};
+ghost use Rattle.dns_forward_run.specs.Judging.{TellsAnswered};
+ghost use Rattle.dns_forward_run.specs.Settings.{carried_by, judging_in, list_in};
+ghost use Rattle.dns_forward_run.specs.Steps.{HasLine, IsLow, IsOneBack, KeepsDialer, ServesAs, WasAnswered, WhenTold};
+ghost use Rattle.dns_listener.specs.Listening.{IsSilent, nothing_met};
 
 use crate::ending::{Ending, ForwardEnding, ending_of};
 use crate::lines::{SeatLine, with_line};
@@ -51,7 +52,9 @@ where
     requires bound { setting.now.service.count ≤ 1000 }
     requires listed { list_in setting.now.trust ≡ C.listed }
     requires unused { met_by P.Port port ≡ nothing_met }
-    ensures { IfOk result (HasLine P.Port setting.now.service.count) }
+    requires silent { IsSilent (carried_by P.Port port) }
+    ensures line { IfOk result (HasLine P.Port setting.now.service.count) }
+    ensures answered { IfOk result (WasAnswered P.Port (judging_in setting.now.trust Protocol.Udp)) }
 {
     let cache = cache_over(setting)?;
     let upstream = setting.service.upstream.socket_addr();
@@ -86,8 +89,11 @@ where
     requires bound { setting.now.service.count ≤ 1000 }
     requires listed { list_in setting.now.trust ≡ C.listed }
     requires unused { met_by N.Port.Port port ≡ nothing_met }
+    requires silent { IsSilent (carried_by N.Port.Port port) }
     ensures back { IfOk result.lines (λ lines. IsOneBack setting.now.service.count lines.items
         (N.counts listen.old) (N.counts listen.new)) }
+    ensures answered { IfOk result.lines (λ lines. TellsAnswered (judging_in setting.now.trust Protocol.Udp)
+        (N.told listen.old) (N.told listen.new)) }
     ensures dial { IfOk result.lines (λ lines. IsSome result.dial) }
 {
     match served_port::<N::Port, D, K, T, C>(setting, draws, dial, port) {
@@ -123,8 +129,11 @@ where
     T: Threads + Wait + RandomSource + Copy + Send + Sync,
     requires bound { setting.now.service.count ≤ 1000 }
     requires unused { met_by N.Port.Port port ≡ nothing_met }
+    requires silent { IsSilent (carried_by N.Port.Port port) }
     ensures back { IfOk result.lines (λ lines. IsOneBack setting.now.service.count lines.items
         (N.counts listen.old) (N.counts listen.new)) }
+    ensures answered { IfOk result.lines (λ lines. TellsAnswered (judging_in setting.now.trust Protocol.Udp)
+        (N.told listen.old) (N.told listen.new)) }
     ensures dial { IfOk result.lines (λ lines. IsSome result.dial) }
 {
     serve_port::<N, D, K, T, Brand>(setting, draws, dial, port, listen)
@@ -147,8 +156,10 @@ where
     T: Threads + Wait + RandomSource + Copy + Send + Sync,
     requires bound { setting.now.service.count ≤ 1000 }
     requires carried { setting.now.service.carried ≡ Datagrams }
-    ensures served { ServesAs (net_view D.counts D.calls N.counts) setting.now.service
+    ensures served { ServesAs (net_view D.counts D.calls N.counts N.told) setting.now.service
         (met_of dial result.dial listen.old listen.new) result.ending }
+    ensures answered { WhenTold result.ending (TellsAnswered (judging_in setting.now.trust Protocol.Udp)
+        (N.told listen.old) (N.told listen.new)) }
     ensures low { IsLow result.ending }
     ensures kept { KeepsDialer result.dial result.ending }
 {

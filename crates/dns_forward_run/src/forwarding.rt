@@ -4,8 +4,9 @@ ghost use Rattle.dns_io.specs.Reading.{input_limit};
 ghost use Rattle.dns_io.specs.Leaving.{Wrote, WrotePrefix};
 ghost use Rattle.dns_session.specs.Grammar.{session_of};
 ghost use Rattle.dns_forward_run.specs.Forms.{AreFew};
+ghost use Rattle.dns_forward_run.specs.Judging.{TellsAnswered, judging_by};
 ghost use Rattle.dns_forward_run.specs.Forwards.{ForwardEnds, ForwardTells, IsUnserved, met_of, net_view};
-ghost use Rattle.dns_forward_run.specs.Steps.{ComesTo, IsLow, KeepsDialer, KeepsWriting, Refuses, ServesAs};
+ghost use Rattle.dns_forward_run.specs.Steps.{ComesTo, IsLow, KeepsDialer, KeepsWriting, Refuses, ServesAs, WhenTold};
 
 use crate::connections::over_connections;
 use crate::datagrams::over_datagrams;
@@ -52,8 +53,10 @@ where
     T: Threads + Wait + RandomSource + Copy + Send + Sync,
     requires few { AreFew given.service.carried }
     requires bound { given.service.count ≤ 1000 }
-    ensures served { ServesAs (net_view D.counts D.calls N.counts) given.service
+    ensures served { ServesAs (net_view D.counts D.calls N.counts N.told) given.service
         (met_of given.dial result.dial listen.old listen.new) result.ending }
+    ensures answered { WhenTold result.ending (TellsAnswered (judging_by session given.service.carried)
+        (N.told listen.old) (N.told listen.new)) }
     ensures low { IsLow result.ending }
     ensures kept { KeepsDialer result.dial result.ending }
 {
@@ -117,7 +120,7 @@ where
     requires few { AreFew given.service.carried }
     requires bound { given.service.count ≤ 1000 }
     requires length { length bytes.now < 2 ^ 32 }
-    ensures comes { ComesTo (net_view D.counts D.calls N.counts) given.service
+    ensures comes { ComesTo (net_view D.counts D.calls N.counts N.told) given.service
         (met_of given.dial result.dial listen.old listen.new) (session_of bytes.now) result.ending }
     ensures low { IsLow result.ending }
     ensures kept { KeepsDialer result.dial result.ending }
@@ -157,12 +160,12 @@ where
     requires bound { given.service.count ≤ 1000 }
     requires length { length bytes.now ≤ input_limit }
     ensures wrote { result.status < 4 → Wrote (W.taken output.old) (W.taken output.new)
-        (ForwardEnds (net_view D.counts D.calls N.counts) given.service
+        (ForwardEnds (net_view D.counts D.calls N.counts N.told) given.service
         (met_of given.dial result.dial listen.old listen.new) (session_of bytes.now) result.status) }
     ensures form { result.status ≢ 2 }
-    ensures prefix { WrotePrefix (W.taken output.old) (W.taken output.new) (ForwardTells (net_view D.counts D.calls N.counts) given.service
+    ensures prefix { WrotePrefix (W.taken output.old) (W.taken output.new) (ForwardTells (net_view D.counts D.calls N.counts N.told) given.service
         (met_of given.dial result.dial listen.old listen.new) bytes.now) }
-    ensures failed { result.status ≡ 4 → IsUnserved (net_view D.counts D.calls N.counts) given.service
+    ensures failed { result.status ≡ 4 → IsUnserved (net_view D.counts D.calls N.counts N.told) given.service
         (met_of given.dial result.dial listen.old listen.new) }
     ensures kept { result.dial ≡ None → result.status ≡ 6 }
     ensures keeps { KeepsWriting W.faults result.status output.old output.new }

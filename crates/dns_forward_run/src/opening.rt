@@ -2,6 +2,7 @@
 ghost use Rattle.std.specs.Prelude.{◌≡◌, map, IfOk, OnOk, vec_len};
 ghost use Rattle.dns_forward_run.specs.Retired.{AreNew, IsRefused, met_by, with_ports};
 ghost use Rattle.dns_forward_run.specs.Openings.{OpensAll};
+ghost use Rattle.dns_forward_run.specs.Settings.{AreSilent, carried_by};
 
 use crate::stop::Stop;
 use dns_listener::Listener;
@@ -25,7 +26,9 @@ pub(crate) fn accept_ports<N: Listener>(
     local: SocketAddr,
     most: usize,
 ) -> Result<Vec<N::Port>, Stop>
-    ensures { OpensAll N.Port.Port most (N.counts listen.old) (N.counts listen.new) result }
+    ensures opens { OpensAll N.Port.Port most (N.counts listen.old) (N.counts listen.new) result }
+    ensures silent { IfOk result (λ ports. AreSilent (map (λ p. carried_by N.Port.Port p) ports.items)) }
+    ensures told { OnOk result (N.told listen.new ≡ N.told listen.old) }
 {
     let mut ports = Vec::new(alloc);
     'ports: while ports.len() < most {

@@ -50,11 +50,11 @@ where
     K: Clock + Clone + Drop + Send,
     Rt: Threads + Wait + RandomSource + Copy + Send + Sync,
     // How the run ends by its words, its input and what its seats did.
-    ensures ends { EndsByWords (net_view D.counts D.calls N.counts) (asked_form words.now)
+    ensures ends { EndsByWords (net_view D.counts D.calls N.counts N.told) (asked_form words.now)
         (met_of dial result.dial listen.old listen.new) result.status (S.left input.old) (W.taken output.old) (W.taken output.new) }
 
     // 4 has its cause outside.
-    ensures stopped { result.status ≡ 4 → StopsByWords (net_view D.counts D.calls N.counts) (asked_form words.now)
+    ensures stopped { result.status ≡ 4 → StopsByWords (net_view D.counts D.calls N.counts N.told) (asked_form words.now)
         (met_of dial result.dial listen.old listen.new) (S.faults input.old) (S.faults input.new) }
 
     // The dialer is lost only where memory ran out.
@@ -89,9 +89,9 @@ where
     Rt: Threads + Wait + RandomSource + Copy + Send + Sync,
     requires few { AreFew given.service.carried }
     requires bound { given.service.count ≤ 1000 }
-    ensures ends { EndsForward (net_view D.counts D.calls N.counts) given.service
+    ensures ends { EndsForward (net_view D.counts D.calls N.counts N.told) given.service
         (met_of given.dial result.dial listen.old listen.new) result.status (S.left input.old) (W.taken output.old) (W.taken output.new) }
-    ensures stopped { result.status ≡ 4 → IsStopped (net_view D.counts D.calls N.counts) given.service
+    ensures stopped { result.status ≡ 4 → IsStopped (net_view D.counts D.calls N.counts N.told) given.service
         (met_of given.dial result.dial listen.old listen.new) (S.faults input.old) (S.faults input.new) }
     ensures dialer { result.dial ≡ None → result.status ≡ 6 }
     ensures outside { KeepsForward (outside S.left S.faults W.taken W.faults W.takes_memory) AnInput
@@ -134,11 +134,11 @@ where
     K: Clock + Clone + Drop + Send,
     Rt: Threads + Wait + RandomSource + Copy + Send + Sync,
     // How the run ends by its words, its input and what its seats did.
-    ensures ends { EndsByWords (net_view D.counts D.calls N.counts) (asked_form words.now)
+    ensures ends { EndsByWords (net_view D.counts D.calls N.counts N.told) (asked_form words.now)
         (met_of dial result.dial listen.old listen.new) result.status (S.left input.old) (W.taken output.old) (W.taken output.new) }
 
     // 4 has its cause outside.
-    ensures stopped { result.status ≡ 4 → StopsByWords (net_view D.counts D.calls N.counts) (asked_form words.now)
+    ensures stopped { result.status ≡ 4 → StopsByWords (net_view D.counts D.calls N.counts N.told) (asked_form words.now)
         (met_of dial result.dial listen.old listen.new) (S.faults input.old) (S.faults input.new) }
 
     // The dialer is lost only where memory ran out.

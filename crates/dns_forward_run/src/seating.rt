@@ -1,7 +1,7 @@
 //! Seats, and what all of them share.
 ghost use Rattle.std.specs.Prelude.{◌≡◌, IfOk};
 ghost use Rattle.dns_lookup.specs.Calls.{anchors_of, inner_of};
-ghost use Rattle.dns_forward_run.specs.Settings.{list_in};
+ghost use Rattle.dns_forward_run.specs.Settings.{judging_in, judging_of, list_in};
 
 use crate::form::Service;
 use crate::picked::{Picked, PickedList};
@@ -66,6 +66,7 @@ where
     ensures anchors { IfOk result (λ s. anchors_of s.validator ≡ setting.now.trust.anchors) }
     ensures protocol { IfOk result (λ s. s.protocol ≡ protocol) }
     ensures depth { IfOk result (λ s. s.depth ≡ setting.now.trust.depth) }
+    ensures judging { IfOk result (λ s. judging_of s ≡ judging_in setting.now.trust protocol) }
 {
     let anchors = setting.trust.anchors.try_clone()?;
     let verifier = PickedList::of(&setting.trust.list)?;

@@ -1,9 +1,10 @@
 //! Seats that are served, and what is told of them.
-ghost use Rattle.std.specs.Prelude.{◌≡◌, ◌≤◌, ◌<◌, All, map, IfOk, Some, length, vec_len};
+ghost use Rattle.std.specs.Prelude.{◌≡◌, ◌≤◌, ◌<◌, ◌∷◌, [], All, map, IfOk, Some, length, vec_len};
 ghost use Rattle.dns_forward_run.specs.Retired.{AreBack, AreNew, met_by, with_ports};
-ghost use Rattle.dns_forward_run.specs.Settings.{seats_met};
-ghost use Rattle.dns_forward_run.specs.Steps.{HasLine, line_by, lines_by, served_met};
-ghost use Rattle.dns_listener.specs.Listening.{with_port};
+ghost use Rattle.dns_forward_run.specs.Judging.{Judging, TellsAnswered};
+ghost use Rattle.dns_forward_run.specs.Settings.{AreSilent, JudgeAlike, carried_by, seats_carried, seats_judging, seats_met};
+ghost use Rattle.dns_forward_run.specs.Steps.{HasLine, WasAnswered, line_by, lines_by, served_carried, served_met};
+ghost use Rattle.dns_listener.specs.Listening.{TellsPorts, with_port};
 
 use crate::lines::{SeatLine, line_of, with_line};
 use dns_cache::AcceptedBy;
@@ -37,8 +38,11 @@ where
     R: Threads + Sync,
     requires bound { count ≤ 1000 }
     requires unused { AreNew (seats_met P.Port seats.items) }
+    requires silent { AreSilent (seats_carried P.Port seats.items) }
     ensures len { IfOk result (λ v. vec_len v ≡ vec_len seats) }
     ensures each { IfOk result (λ v. All (HasLine P.Port count) v.items) }
+    ensures answered { IfOk result (λ v. (by : Judging) → JudgeAlike by (seats_judging seats.items)
+        → All (WasAnswered P.Port by) v.items) }
 {
     let served = serve(rt, alloc, seats, count, &OpenGate)?;
     Ok(served)
@@ -58,6 +62,7 @@ where
     T: Wait + Copy,
     ensures line { result.0 ≡ line_by served }
     ensures back { N.counts listen.new ≡ with_port (N.counts listen.old) (met_by N.Port.Port served.seat.port) }
+    ensures told { TellsPorts (N.told listen.old) (carried_by N.Port.Port served.seat.port ∷ []) (N.told listen.new) }
 {
     let Served {
         seat,
@@ -76,6 +81,7 @@ where
 }
 
 /// Gives the ports of seats that were served back, in order. Their lines, unless one has none.
+#[tactic(auto, using(crate::proofs::JudgedLemmas::tells_none))]
 fn retire_seats<N, H, V, K, S, T>(
     alloc: Global,
     served: Vec<Served<N::Port, H, V, K, S, T>>,
@@ -90,6 +96,7 @@ where
     T: Wait + Copy,
     ensures lines { IfOk result (λ lines. map Some lines.items ≡ lines_by served.items) }
     ensures back { N.counts listen.new ≡ with_ports (N.counts listen.old) (served_met N.Port.Port served.items) }
+    ensures told { TellsPorts (N.told listen.old) (served_carried N.Port.Port served.items) (N.told listen.new) }
 {
     let mut lines = Ok(Vec::new(alloc));
     for one in served {
@@ -121,8 +128,11 @@ where
     requires bound { count ≤ 1000 }
     requires some { 0 < length seats.items }
     requires unused { AreNew (seats_met N.Port.Port seats.items) }
+    requires silent { AreSilent (seats_carried N.Port.Port seats.items) }
     ensures len { IfOk result (λ lines. length lines.items ≡ length seats.items) }
     ensures back { IfOk result (λ lines. AreBack count lines.items (N.counts listen.old) (N.counts listen.new)) }
+    ensures answered { IfOk result (λ lines. (by : Judging) → JudgeAlike by (seats_judging seats.items)
+        → TellsAnswered by (N.told listen.old) (N.told listen.new)) }
 {
     let served = serve_all(rt, alloc, seats, count)?;
     let lines = retire_seats(alloc, served, listen)?;

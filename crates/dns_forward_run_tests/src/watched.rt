@@ -37,11 +37,13 @@ impl<P: Port + Drop> Watched<P> {
 }
 
 impl<P: Port + Drop> Listener for Watched<P> {
-    ghost use Rattle.dns_listener.specs.Listeners.{listed_counts};
+    ghost use Rattle.dns_listener.specs.Listeners.{listed_counts, listed_told};
 
     type Port = CountedPort<P>;
 
     ghost counts = { λ w. listed_counts w.inner };
+
+    ghost told = { λ w. listed_told P.Port w.inner };
 
     fn udp(&mut self, local: SocketAddr) -> Result<CountedPort<P>, IoKind> {
         self.uses.opened = self.uses.opened.saturating_add(1);

@@ -1,5 +1,5 @@
 -- Where ports come from and go back to, and what is counted of them (RFC 1035, 4.2).
-use Rattle.std.specs.Prelude.{ℕ, List, Option, Result, Ok, Err}
+use Rattle.std.specs.Prelude.{ℕ, ◌≡◌, ⊤, List, [], ◌++◌, Option, None, Some, Result, Ok, Err, IfSome}
 use Rattle.dns_model.specs.Counts.{one_more}
 use Rattle.dns_handle.specs.declared.io_kind.IoKind.{IoKind}
 use Rattle.dns_link.specs.Counts.{sum_counted}
@@ -60,3 +60,24 @@ after_receiving given counts = record {
 abbrev pub after_replying : {X : Type 0} → Result X IoKind → PortCountsValue → PortCountsValue
 after_replying (Ok done) counts = counts
 after_replying (Err kind) counts = record counts { faults = one_more counts.faults }
+
+-- ---- what ports tell
+
+-- the requests that a port gave and the replies that it sent, where it tells them
+pub record TrafficValue : Type 0 where
+  pub received : Option (List (List ℕ))
+  pub replied : Option (List (List ℕ))
+
+abbrev pub traffic : Option (List (List ℕ)) → Option (List (List ℕ)) → TrafficValue
+traffic received replied = record { received = received; replied = replied }
+
+-- a port that was just made gave no request and sent no reply
+pub record IsSilent (port : TrafficValue) : Type 0 where
+  pub received : IfSome port.received (λ requests. requests ≡ [])
+  pub replied : IfSome port.replied (λ replies. replies ≡ [])
+
+-- behind the ports that were told before, these are told now; or nothing is told any more
+abbrev pub TellsPorts : Option (List TrafficValue) → List TrafficValue → Option (List TrafficValue) → Type 0
+TellsPorts before more None = ⊤
+TellsPorts None more (Some now) = ⊥
+TellsPorts (Some before) more (Some now) = now ≡ before ++ more

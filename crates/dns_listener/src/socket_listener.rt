@@ -162,11 +162,14 @@ fn open_stream<R: Net + Clock + Copy + Drop>(
 }
 
 impl<R: Net + Clock + Copy + Drop> Listener for SocketListener<R> {
+    ghost use Rattle.std.specs.Prelude.{None};
     ghost use Rattle.dns_listener.specs.Sockets.{sockets_counts};
 
     type Port = SocketPort<R>;
 
     ghost counts = { sockets_counts };
+
+    ghost told = { λ _. None };
 
     fn udp(&mut self, local: SocketAddr) -> Result<SocketPort<R>, IoKind> {
         let made = open_datagrams(self.net, self.alloc, local);

@@ -6,6 +6,6 @@ use Rattle.dns_forward_run.proofs.opening.retire_ports.Goals as goal
 
 pub loop-port-preserved : goal.loop-port-preserved
 loop-port-preserved g c =
-    c.retire.ensures
+    c.retire.ensures.counts
     ∙ (ap (λ counts. with_port counts (met_by g.N.Port.Port c.in-Some.port)) c.loop-port.invariant
     ∙ sym (back_more (λ p. met_by g.N.Port.Port p) _ c.loop-port.yielded c.in-Some.port))

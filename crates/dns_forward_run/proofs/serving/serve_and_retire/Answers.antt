@@ -1,4 +1,6 @@
 use Rattle.std.proofs.Common.{◌<◌, length, arith}
+use Rattle.dns_forward_run.specs.Settings.{carried_by}
+use Rattle.dns_forward_run.proofs.JudgedLemmas.{tells_answered}
 use Rattle.dns_forward_run.proofs.LineLemmas.{as_many, lines_of}
 use Rattle.dns_forward_run.proofs.RetiredLemmas.{are_back}
 use Rattle.dns_forward_run.proofs.serving.serve_and_retire.Goals as goal
@@ -27,3 +29,8 @@ returns-clause-back g c =
     are_back c.args.count c.in_ok-lines.lines.items _ _ _ some
     (lines_of c.args.count _ _ c.in_ok-served.served.items c.in_ok-lines.lines.items c.in_ok-lines.ensures.lines
     c.in_ok-served.ensures.each) c.in_ok-lines.ensures.back
+
+pub returns-clause-answered : goal.returns-clause-answered
+returns-clause-answered g c = λ by alike.
+    tells_answered by (λ s. carried_by g.N.Port.Port s.seat.port) c.in_ok-served.served.items _ _ c.in_ok-lines.ensures.told
+    (c.in_ok-served.ensures.answered by alike)
