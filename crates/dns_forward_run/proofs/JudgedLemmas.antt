@@ -177,7 +177,8 @@ module _ {P H V K S T B : Type 0} {builds : build_hasher.Ghosts S B} {hashes : h
       let silent : IsSilent (carried_by ports (slice_index_or seats k d.seat).port) =
       subst IsSilent
       (get_or-map (λ s. carried_by ports s.port) seats k d.seat (carried_by ports d.seat.port) within)
-      (quiet k (carried_by ports d.seat.port) (omega (arith, within, length-map seats (λ s. carried_by ports s.port)))) in
+      (quiet k (carried_by ports d.seat.port)
+      (omega (arith, within, length-map seats (λ s. carried_by ports s.port)))) in
       let is : judging_of (slice_index_or seats k d.seat) ≡ by =
       sym (get_or-map (λ s. judging_of s) seats k d.seat (judging_of d.seat) within)
       ∙ alike k (judging_of d.seat) (omega (arith, within, length-map seats (λ s. judging_of s))) in
@@ -217,7 +218,8 @@ one_answered by port (Ok all) before now tells answered =
     (All-cons (IsAnswered by) port [] answered (All-nil (IsAnswered by)))
 
 -- one more that judges alike
-pub alike_more : {X : Type 0} (by : Judging) (f : X → Judging) (xs : List X) (x : X) → JudgeAlike by (map f xs) → f x ≡ by
+pub alike_more : {X : Type 0} (by : Judging) (f : X → Judging) (xs : List X) (x : X) → JudgeAlike by (map f xs)
+    → f x ≡ by
     → JudgeAlike by (map f (xs ++ x ∷ []))
 alike_more by f xs x alike same =
     subst (λ l. JudgeAlike by l) (sym (map-append f xs (x ∷ []))) (All-push (λ j. j ≡ by) (map f xs) (f x) alike same)
@@ -249,7 +251,8 @@ pub session_judging : (s : SessionValue) (trust : Trust) (protocol : Protocol) (
 session_judging s trust protocol carried is same = cc
 
 -- what a session comes to
-pub comes_by : {D N : Type 0} (seen : NetView D N) (s : SessionValue) (service : Service) (met : Met D N) (ending : Ending)
+pub comes_by : {D N : Type 0} (seen : NetView D N) (s : SessionValue) (service : Service) (met : Met D N)
+    (ending : Ending)
     → ServesAs seen service met ending
     → WhenTold ending (TellsAnswered (judging_by s service.carried) (seen.heard met.old) (seen.heard met.new))
     → ComesTo seen service met (Ok s) ending

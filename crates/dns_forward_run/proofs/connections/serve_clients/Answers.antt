@@ -16,5 +16,6 @@ returns-in-Ok-clause-served g c =
 pub returns-in-Ok-clause-answered : goal.returns-in-Ok-clause-answered
 returns-in-Ok-clause-answered g c =
     when_told _ c.serve_by_list-lines.result c.ending_of.result c.ending_of.ensures.told
-    (subst (λ told. IfOk c.serve_by_list-lines.result (λ lines. TellsAnswered (judging_in c.args.setting.now.trust Tcp) told
+    (subst (λ told. IfOk c.serve_by_list-lines.result (λ lines.
+    TellsAnswered (judging_in c.args.setting.now.trust Tcp) told
     (g.N.Listener.told c.serve_by_list-lines.new.listen))) c.in-Ok.ensures.told c.serve_by_list-lines.ensures.answered)

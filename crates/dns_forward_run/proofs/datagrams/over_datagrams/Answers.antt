@@ -26,5 +26,6 @@ returns-in-Err-clause-served g c =
 pub returns-in-Ok-clause-answered : goal.returns-in-Ok-clause-answered
 returns-in-Ok-clause-answered g c =
     when_told _ c.serve_by_list-lines.result.lines c.ending_of.result c.ending_of.ensures.told
-    (subst (λ told. IfOk c.serve_by_list-lines.result.lines (λ lines. TellsAnswered (judging_in c.args.setting.now.trust Udp) told
+    (subst (λ told. IfOk c.serve_by_list-lines.result.lines (λ lines.
+    TellsAnswered (judging_in c.args.setting.now.trust Udp) told
     (g.N.Listener.told c.serve_by_list-lines.new.listen))) c.in-Ok.ensures.told c.serve_by_list-lines.ensures.answered)

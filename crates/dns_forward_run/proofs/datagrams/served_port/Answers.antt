@@ -20,4 +20,5 @@ returns-clause-answered g c =
     last_in (λ s. WasAnswered g.P.Port by s) c.pop.new.self.items c.in-Some.served
     (subst (λ all. All (λ s. WasAnswered g.P.Port by s) all) c.in-Some.ensures.items
     (c.in_ok-all.ensures.answered by
-    (alike_one by (λ s. judging_of s) _ _ _ c.new-seats.ensures.items c.in_ok-push.ensures.items c.in_ok-seat.ensures.judging)))
+    (alike_one by (λ s. judging_of s) _ _ _ c.new-seats.ensures.items c.in_ok-push.ensures.items
+    c.in_ok-seat.ensures.judging)))

@@ -32,5 +32,6 @@ returns-clause-back g c =
 
 pub returns-clause-answered : goal.returns-clause-answered
 returns-clause-answered g c = λ by alike.
-    tells_answered by (λ s. carried_by g.N.Port.Port s.seat.port) c.in_ok-served.served.items _ _ c.in_ok-lines.ensures.told
+    tells_answered by (λ s. carried_by g.N.Port.Port s.seat.port) c.in_ok-served.served.items _ _
+    c.in_ok-lines.ensures.told
     (c.in_ok-served.ensures.answered by alike)
